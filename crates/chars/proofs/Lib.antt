@@ -1,0 +1,3 @@
+pub mod Tests
+pub mod Widths
+pub mod Spaces

@@ -1,0 +1,313 @@
+// Characters of a byte string: UTF-8 (refusal 2, and the lent board name) and trimming.
+
+ghost use mathlib.Core.Path.{_≡_};
+ghost use Prim.Native.Nat.{_≤_, _<_};
+ghost use lib.ListN.{length, getD, take, drop};
+ghost use Rattle.meaning.specs.Base as base;
+ghost use Rattle.meaning.specs.Utf8 as utf8;
+ghost use Rattle.meaning.specs.Space as space;
+ghost use Rattle.laws.specs.Trim as bytes;
+ghost use Rattle.chars.specs.Rows as rows;
+ghost use Rattle.chars.specs.Trimmed.{Started, Ended, Trimmed};
+
+// A part of a byte string, by its first byte and the byte behind its last.
+pub struct Span {
+    pub from: usize,
+    pub end: usize,
+}
+
+fn between(low: u32, high: u32, n: u32) -> bool
+    ensures { λ r. ⌜ r ≡ base.between low high n ⌝ }
+{
+    if low <= n { n <= high } else { false }
+}
+
+fn wide(b: u8) -> u32
+    ensures { λ r. ⌜ (r ≡ b) × (r < 256) ⌝ }
+{
+    b as u32
+}
+
+// The byte at i as a wider number, or 0 from the end on.
+fn at(s: &[u8], i: usize) -> u32
+    ensures { λ r. ⌜ (r ≡ getD (now (s .entry)) i 0) × (r < 256) ⌝ }
+{
+    wide(slices::peek(s, i))
+}
+
+fn row2(low: u32, high: u32, b: u32, c: u32) -> bool
+    ensures { λ r. ⌜ r ≡ rows.row2 low high b c ⌝ }
+{
+    if between(low, high, b) {
+        return between(0x80, 0xbf, c);
+    }
+    false
+}
+
+fn row3(low: u32, high: u32, low2: u32, high2: u32, b: u32, c: u32, d: u32) -> bool
+    ensures { λ r. ⌜ r ≡ rows.row3 low high low2 high2 b c d ⌝ }
+{
+    if between(low, high, b) {
+        if between(low2, high2, c) {
+            return between(0x80, 0xbf, d);
+        }
+        return false;
+    }
+    false
+}
+
+fn row4(low: u32, high: u32, low2: u32, high2: u32, b: u32, c: u32, d: u32, e: u32) -> bool
+    ensures { λ r. ⌜ r ≡ rows.row4 low high low2 high2 b c d e ⌝ }
+{
+    if row3(low, high, low2, high2, b, c, d) {
+        return between(0x80, 0xbf, e);
+    }
+    false
+}
+
+fn three(b: u32, c: u32, d: u32) -> bool
+    ensures { λ r. ⌜ r ≡ rows.three b c d ⌝ }
+{
+    if row3(0xe0, 0xe0, 0xa0, 0xbf, b, c, d) {
+        return true;
+    }
+    if row3(0xe1, 0xec, 0x80, 0xbf, b, c, d) {
+        return true;
+    }
+    if row3(0xed, 0xed, 0x80, 0x9f, b, c, d) {
+        return true;
+    }
+    row3(0xee, 0xef, 0x80, 0xbf, b, c, d)
+}
+
+fn four(b: u32, c: u32, d: u32, e: u32) -> bool
+    ensures { λ r. ⌜ r ≡ rows.four b c d e ⌝ }
+{
+    if row4(0xf0, 0xf0, 0x90, 0xbf, b, c, d, e) {
+        return true;
+    }
+    if row4(0xf1, 0xf3, 0x80, 0xbf, b, c, d, e) {
+        return true;
+    }
+    row4(0xf4, 0xf4, 0x80, 0x8f, b, c, d, e)
+}
+
+// How many bytes the character at the head of s has, or 0.
+fn width(s: &[u8]) -> usize
+    ensures { λ r. ⌜ r ≡ utf8.char (now (s .entry)) ⌝ }
+{
+    if s.len() == 0 {
+        return 0;
+    }
+    let b = at(s, 0);
+    if between(0x00, 0x7f, b) {
+        return 1;
+    }
+    let c = at(s, 1);
+    if row2(0xc2, 0xdf, b, c) {
+        return 2;
+    }
+    let d = at(s, 2);
+    if three(b, c, d) {
+        return 3;
+    }
+    if four(b, c, d, at(s, 3)) {
+        return 4;
+    }
+    0
+}
+
+// The code point of the n bytes at the head of s.
+fn point(s: &[u8], n: usize) -> u32
+    requires { ⌜ (0 < n) × (n ≤ 4) × (n ≤ length (now s)) ⌝ }
+    ensures { λ r. ⌜ r ≡ utf8.point (take n (now (s .entry))) ⌝ }
+{
+    let b = at(s, 0);
+    if n == 1 {
+        return b;
+    }
+    let c = at(s, 1);
+    if n == 2 {
+        return b % 32 * 64 + c % 64;
+    }
+    let d = at(s, 2);
+    if n == 3 {
+        return b % 16 * 4096 + c % 64 * 64 + d % 64;
+    }
+    let e = at(s, 3);
+    b % 8 * 262144 + c % 64 * 4096 + d % 64 * 64 + e % 64
+}
+
+// The first four ranges of White_Space, the next four, and the last three.
+fn white_narrow(p: u32) -> bool
+    ensures { λ r. ⌜ r ≡ space.inside (take 4 space.spaces) p ⌝ }
+{
+    if between(0x0009, 0x000d, p) {
+        return true;
+    }
+    if between(0x0020, 0x0020, p) {
+        return true;
+    }
+    if between(0x0085, 0x0085, p) {
+        return true;
+    }
+    if between(0x00a0, 0x00a0, p) {
+        return true;
+    }
+    false
+}
+
+fn white_middle(p: u32) -> bool
+    ensures { λ r. ⌜ r ≡ space.inside (take 4 (drop 4 space.spaces)) p ⌝ }
+{
+    if between(0x1680, 0x1680, p) {
+        return true;
+    }
+    if between(0x2000, 0x200a, p) {
+        return true;
+    }
+    if between(0x2028, 0x2028, p) {
+        return true;
+    }
+    if between(0x2029, 0x2029, p) {
+        return true;
+    }
+    false
+}
+
+fn white_wide(p: u32) -> bool
+    ensures { λ r. ⌜ r ≡ space.inside (drop 8 space.spaces) p ⌝ }
+{
+    if between(0x202f, 0x202f, p) {
+        return true;
+    }
+    if between(0x205f, 0x205f, p) {
+        return true;
+    }
+    if between(0x3000, 0x3000, p) {
+        return true;
+    }
+    false
+}
+
+// Whether the code point has the property White_Space.
+fn white(p: u32) -> bool
+    ensures { λ r. ⌜ r ≡ space.white p ⌝ }
+{
+    if white_narrow(p) {
+        return true;
+    }
+    if white_middle(p) {
+        return true;
+    }
+    white_wide(p)
+}
+
+// How many bytes the white space at the head of s has, or 0.
+fn white_at(s: &[u8]) -> usize
+    ensures { λ r. ⌜ r ≡ bytes.whiteAt (now (s .entry)) ⌝ }
+{
+    let n = width(s);
+    if n == 0 {
+        return 0;
+    }
+    if white(point(s, n)) {
+        return n;
+    }
+    0
+}
+
+// Whether the last k bytes of s are one white character.
+fn ends_in(s: &[u8], k: usize) -> bool
+    ensures { λ r. ⌜ r ≡ bytes.endsIn k (now (s .entry)) ⌝ }
+{
+    let n = s.len();
+    if k <= n {
+        let from = n - k;
+        return white_at(&s[from..]) == k;
+    }
+    false
+}
+
+// How many bytes the white space at the end of s has, or 0.
+fn white_end(s: &[u8]) -> usize
+    ensures { λ r. ⌜ r ≡ bytes.whiteEnd (now (s .entry)) ⌝ }
+{
+    if ends_in(s, 1) {
+        return 1;
+    }
+    if ends_in(s, 2) {
+        return 2;
+    }
+    if ends_in(s, 3) {
+        return 3;
+    }
+    if ends_in(s, 4) {
+        return 4;
+    }
+    0
+}
+
+// Where the white space at the head of s ends.
+pub fn trim_start(s: &[u8]) -> usize
+    ensures { λ r. ⌜ Started (now (s .entry)) r ⌝ }
+{
+    let mut i = 0;
+    while i < s.len() {
+        let n = white_at(&s[i..]);
+        if n == 0 {
+            return i;
+        }
+        i += n;
+    }
+    i
+}
+
+// Where the white space at the end of s begins.
+pub fn trim_end(s: &[u8]) -> usize
+    ensures { λ r. ⌜ Ended (now (s .entry)) r ⌝ }
+{
+    let mut e = s.len();
+    while 0 < e {
+        let n = white_end(&s[..e]);
+        if n == 0 {
+            return e;
+        }
+        e -= n;
+    }
+    e
+}
+
+// Where s lies without white space at both ends.
+pub fn trim(s: &[u8]) -> Span
+    ensures { λ r. ⌜ Trimmed (now (s .entry)) r ⌝ }
+{
+    let from = trim_start(s);
+    let n = trim_end(&s[from..]);
+    Span {
+        from: from,
+        end: from + n,
+    }
+}
+
+// Whether s is nothing but white space.
+pub fn blank(s: &[u8]) -> bool
+    ensures { λ r. ⌜ r ≡ space.blank (now (s .entry)) ⌝ }
+{
+    trim_start(s) == s.len()
+}
+
+// Whether s is UTF-8.
+pub fn valid(s: &[u8]) -> bool
+    ensures { λ r. ⌜ r ≡ utf8.valid (now (s .entry)) ⌝ }
+{
+    let mut i = 0;
+    while i < s.len() {
+        let n = width(&s[i..]);
+        if n == 0 {
+            return false;
+        }
+        i += n;
+    }
+    true
+}

@@ -1,0 +1,9 @@
+pub mod Base
+pub mod Limits
+pub mod Refusal
+pub mod Utf8
+pub mod Space
+pub mod Quote
+pub mod Lines
+pub mod Table
+pub mod Corners

@@ -1,0 +1,45 @@
+// The types that definitions and code share. There is no code here but one function, since a crate has at least one.
+
+ghost use mathlib.Core.Path.{_≡_};
+ghost use Rattle.meaning.specs.Limits as limits;
+
+// 01, "Sizes".
+pub struct Limits {
+    pub text: usize,
+    pub values: usize,
+    pub arrays: usize,
+    pub segments: usize,
+    pub partitions: usize,
+    pub components: usize,
+    pub applications: usize,
+    pub features: usize,
+}
+
+// What is carried along a line: the string state, and the brackets `[` and `]` outside strings.
+pub struct Scan {
+    pub st: u8,
+    pub opens: usize,
+    pub closes: usize,
+}
+
+// What a line is, joined so far: more `]` than `[`, still open, or whole.
+pub enum Fate {
+    Over,
+    Unended,
+    Whole,
+}
+
+pub fn of01() -> Limits
+    ensures { λ r. ⌜ r ≡ limits.of01 ⌝ }
+{
+    Limits {
+        text: 32768,
+        values: 2048,
+        arrays: 16,
+        segments: 16,
+        partitions: 32,
+        components: 64,
+        applications: 64,
+        features: 32,
+    }
+}

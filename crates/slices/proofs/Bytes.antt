@@ -1,0 +1,161 @@
+-- What each loop keeps, and one law for each way on and out of it.
+use Prim.Native.Nat.{ℕ, zero, suc, _+_, _-_, _≤_, _<_}
+use mathlib.Core.Bool.{Bool, true, false}
+use mathlib.Core.List.{List, [], _∷_, _++_, append-assoc, append-nil}
+use mathlib.Core.Path.{_≡_, refl, sym, ap, _∙_}
+use native.Mathlib.Omega.{arith}
+use native.Mathlib.Numerals.{add-one}
+use borrow.Author.Tests.{eq-eqb, ne-eqb, lt-ltb, le-ltb, ltb-true, ltb-false}
+use lib.Dec.{eqb, ltb, leb·suc-suc}
+use lib.ListN.{length, getD, take, drop, set, length-set, length-drop, drop-of-length-le, List·getD-eq-default}
+use lib.Seq.{drop-cons, drop-length, take-suc, take-length, set-at, length-take-le}
+use Rattle.meaning.specs.Base.{pick, zeros, before, same, less}
+use Rattle.laws.specs.Cases.{on}
+
+pub past : (s : List ℕ) (i : ℕ) → length s ≤ i → 0 ≡ getD s i 0
+past s i h = sym (List·getD-eq-default s 0 h)
+
+-- ---- find
+pub record Finding (s : List ℕ) (c i : ℕ) : Type 0 where
+  pub high : i ≤ length s
+  pub left : i + before c (drop i s) ≡ before c s
+
+module _ (s : List ℕ) (c i : ℕ) where
+  pub find-on : Finding s c i → i < length s → (getD s i 0 ≡ c → ⊥) → Finding s c (i + 1)
+  find-on a h n =
+      let k : before c (drop i s) ≡ suc (before c (drop (i + 1) s)) = rw (drop-cons s i 0 h, ne-eqb (getD s i 0) c n, add-one) in
+      record { high = omega arith; left = omega arith }
+
+  pub find-hit : Finding s c i → i < length s → getD s i 0 ≡ c → i ≡ before c s
+  find-hit a h e =
+      let k : before c (drop i s) ≡ 0 = rw (drop-cons s i 0 h, eq-eqb (getD s i 0) c e) in
+      omega arith
+
+  pub find-end : Finding s c i → length s ≤ i → i ≡ before c s
+  find-end a h =
+      let k : before c (drop i s) ≡ 0 = rw (drop-of-length-le s h) in
+      omega arith
+
+-- ---- same
+pub same-lengths : (a b : List ℕ) → (length a ≡ length b → ⊥) → false ≡ same a b
+same-lengths [] [] h = absurd (h refl)
+same-lengths [] (y ∷ b) h = refl
+same-lengths (x ∷ a) [] h = refl
+same-lengths (x ∷ a) (y ∷ b) h = on (eqb x y) (λ t. rw t (same-lengths a b (λ e. h (omega arith)))) (λ t. rw t)
+
+pub record Alike (a b : List ℕ) (i : ℕ) : Type 0 where
+  pub high : i ≤ length a
+  pub long : length a ≡ length b
+  pub left : same (drop i a) (drop i b) ≡ same a b
+
+module _ (a b : List ℕ) (i : ℕ) where
+  pub same-on : Alike a b i → i < length a → getD a i 0 ≡ getD b i 0 → Alike a b (i + 1)
+  same-on k h e =
+      let l : i < length b = omega arith in
+      record {
+        high = omega arith;
+        long = k .long;
+        left = rw add-one (rw (drop-cons a i 0 h, drop-cons b i 0 l, eq-eqb (getD a i 0) (getD b i 0) e) at (k .left));
+      }
+
+  pub same-not : Alike a b i → i < length a → (getD a i 0 ≡ getD b i 0 → ⊥) → false ≡ same a b
+  same-not k h e =
+      let l : i < length b = omega arith in
+      rw (drop-cons a i 0 h, drop-cons b i 0 l, ne-eqb (getD a i 0) (getD b i 0) e) at (k .left)
+
+  pub same-end : Alike a b i → length a ≤ i → true ≡ same a b
+  same-end k h =
+      let l : length b ≤ i = omega arith in
+      rw (drop-of-length-le a h, drop-of-length-le b l) at (k .left)
+
+-- ---- less
+pub record Ranked (a b : List ℕ) (i : ℕ) : Type 0 where
+  pub high : i ≤ length a
+  pub low : i ≤ length b
+  pub left : less (drop i a) (drop i b) ≡ less a b
+
+module _ (a b : List ℕ) (i : ℕ) where
+  pub less-on : Ranked a b i → i < length a → i < length b → getD a i 0 ≡ getD b i 0 → Ranked a b (i + 1)
+  less-on k h l e =
+      record {
+        high = omega arith;
+        low = omega arith;
+        left = rw add-one (rw (drop-cons a i 0 h, drop-cons b i 0 l, eq-eqb (getD a i 0) (getD b i 0) e) at (k .left));
+      }
+
+  pub less-told : Ranked a b i → i < length a → i < length b → (getD a i 0 ≡ getD b i 0 → ⊥) → ltb (getD a i 0) (getD b i 0) ≡ less a b
+  less-told k h l e = rw (drop-cons a i 0 h, drop-cons b i 0 l, ne-eqb (getD a i 0) (getD b i 0) e) at (k .left)
+
+  pub less-short : Ranked a b i → i < length a → length b ≤ i → false ≡ less a b
+  less-short k h l = rw (drop-cons a i 0 h, drop-of-length-le b l) at (k .left)
+
+less-none : (b : List ℕ) → ltb 0 (length b) ≡ less [] b
+less-none [] = refl
+less-none (y ∷ b) = lt-ltb 0 (length (y ∷ b)) (omega arith)
+
+ltb-both : (n m : ℕ) → n ≤ m → ltb n m ≡ ltb 0 (m - n)
+ltb-both n m h = go (ltb n m) refl
+  where
+    go : (t : Bool) → ltb n m ≡ t → ltb n m ≡ ltb 0 (m - n)
+    go true e = e ∙ sym (lt-ltb 0 (m - n) (omega (arith, ltb-true n m e)))
+    go false e = e ∙ sym (le-ltb 0 (m - n) (omega (arith, ltb-false n m e)))
+
+pub less-end : (a b : List ℕ) (i : ℕ) → Ranked a b i → length a ≤ i → ltb (length a) (length b) ≡ less a b
+less-end a b i k h =
+    let e : length a ≡ i = omega arith in
+    let n : less [] (drop i b) ≡ less a b = rw (drop-of-length-le a h) at (k .left) in
+    rw e (ltb-both i (length b) (omega arith)) ∙ ap (λ (m : ℕ). ltb 0 m) (sym (length-drop i b)) ∙ less-none (drop i b) ∙ n
+
+-- ---- a list laid over another, byte by byte
+pub record Laid (src dst₀ dst : List ℕ) (i : ℕ) : Type 0 where
+  pub high : i ≤ length src
+  pub room : length src ≤ length dst₀
+  pub long : length dst ≡ length dst₀
+  pub left : dst ≡ take i src ++ drop i dst₀
+
+pub laid-start : (src dst : List ℕ) → length src ≤ length dst → Laid src dst dst 0
+laid-start src dst h = record { high = omega arith; room = h; long = refl; left = refl }
+
+pub laid-on : (src dst₀ dst : List ℕ) (i : ℕ) → Laid src dst₀ dst i → i < length src → Laid src dst₀ (set dst i (getD src i 0)) (i + 1)
+laid-on src dst₀ dst i k h =
+    let l : i < length dst₀ = omega arith in
+    let n : length (take i src) ≡ i = length-take-le i src (omega arith) in
+    record {
+      high = omega arith;
+      room = k .room;
+      long = length-set dst i (getD src i 0) ∙ k .long;
+      left =
+        ap (λ (d : List ℕ). set d i (getD src i 0)) (k .left ∙ ap (λ (d : List ℕ). take i src ++ d) (drop-cons dst₀ i 0 l))
+        ∙ set-at (take i src) (getD dst₀ i 0) (drop (suc i) dst₀) (getD src i 0) i n
+        ∙ rw (add-one, take-suc src i 0 h) (sym (append-assoc (take i src) (getD src i 0 ∷ []) (drop (suc i) dst₀)));
+    }
+
+pub laid-end : (src dst₀ dst : List ℕ) (i : ℕ) → Laid src dst₀ dst i → length src ≤ i → dst ≡ src ++ drop (length src) dst₀
+laid-end src dst₀ dst i k h =
+    let e : i ≡ length src = omega arith in
+    k .left ∙ rw (e, take-length src)
+
+-- ---- zeros
+length-zeros : (n : ℕ) → length (zeros n) ≡ n
+length-zeros zero = refl
+length-zeros (suc n) = ap suc (length-zeros n)
+
+getD-zeros : (n i : ℕ) → getD (zeros n) i 0 ≡ 0
+getD-zeros zero i = refl
+getD-zeros (suc n) zero = refl
+getD-zeros (suc n) (suc i) = getD-zeros n i
+
+pub zero-start : (s : List ℕ) → Laid (zeros (length s)) s s 0
+zero-start s = laid-start (zeros (length s)) s (omega (arith, length-zeros (length s)))
+
+pub zero-on : (s₀ s : List ℕ) (i : ℕ) → Laid (zeros (length s₀)) s₀ s i → i < length s → Laid (zeros (length s₀)) s₀ (set s i 0) (i + 1)
+zero-on s₀ s i k h =
+    let r : List ℕ = zeros (length s₀) in
+    let l : i < length r = omega (arith, length-zeros (length s₀), k .long) in
+    rw (getD-zeros (length s₀) i) at (laid-on r s₀ s i k l)
+
+pub zero-end : (s₀ s : List ℕ) (i : ℕ) → Laid (zeros (length s₀)) s₀ s i → length s ≤ i → s ≡ zeros (length s₀)
+zero-end s₀ s i k h =
+    let r : List ℕ = zeros (length s₀) in
+    let n : length r ≡ length s₀ = length-zeros (length s₀) in
+    laid-end r s₀ s i k (omega (arith, k .long)) ∙ rw (drop-of-length-le s₀ {i = length r} (omega arith)) (append-nil r)

@@ -1,0 +1,63 @@
+//! One text through both sides; and the shortest text that still tells them apart.
+use crate::original;
+use port::text;
+use replay::{answer::Answer, ask::ask};
+
+/// Every answer of the text layer on both sides, or the first difference.
+pub fn compare(text: &str) -> Result<(), String> {
+    against(text, &original::answer(text))
+}
+
+/// The same for long texts.
+pub fn compare_long(text: &str) -> Result<(), String> {
+    against(text, &original::answer_long(text))
+}
+
+fn against(text: &str, want: &Answer) -> Result<(), String> {
+    if !original::whole_agrees(text, want) {
+        return Err("the original's prefixes and its whole disagree".into());
+    }
+    let got = ask(text)?;
+    if let Some(difference) = got.difference(want) {
+        return Err(format!("port against original, {difference}"));
+    }
+    want.lines.iter().try_for_each(|(_, line)| trims(line))
+}
+
+// The reader of the next layer trims each joined line.
+fn trims(line: &str) -> Result<(), String> {
+    let (got, want) = (text::trim(line.as_bytes()), original::trim(line));
+    if (got.from, got.end) == want {
+        return Ok(());
+    }
+    Err(format!("trim of {line:?}: {got:?} against {want:?}"))
+}
+
+/// Takes out parts, ever smaller ones, as long as the text still fails.
+pub fn shortest(text: &str, fails: impl Fn(&str) -> bool) -> String {
+    let mut best: Vec<char> = text.chars().collect();
+    let mut size = best.len().div_ceil(2);
+    while size > 0 {
+        match without(&best, size, &fails) {
+            Some(shorter) => best = shorter,
+            None => size /= 2,
+        }
+    }
+    best.into_iter().collect()
+}
+
+fn without(text: &[char], size: usize, fails: &impl Fn(&str) -> bool) -> Option<Vec<char>> {
+    let mut tries = (0..text.len()).map(|at| {
+        let end = text.len().min(at + size);
+        [&text[..at], &text[end..]].concat()
+    });
+    tries.find(|shorter| fails(&shorter.iter().collect::<String>()))
+}
+
+/// Compares and, on a difference, panics with the shortest failing text.
+pub fn check(text: &str) {
+    if compare(text).is_err() {
+        let short = shortest(text, |t| compare(t).is_err());
+        panic!("{short:?}: {}", compare(&short).unwrap_err());
+    }
+}

@@ -1,0 +1,5 @@
+//! The original and the port side by side.
+pub mod compare;
+pub mod corners;
+pub mod original;
+pub mod record;

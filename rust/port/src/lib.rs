@@ -1,0 +1,2 @@
+//! What the proved library exports, and safe wrappers over it.
+pub mod text;

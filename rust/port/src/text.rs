@@ -1,0 +1,98 @@
+//! The text layer: trimming, UTF-8, comments, string and bracket state, joined lines.
+
+/// Text over this length is refused with 1.
+pub const TEXT_MAX: usize = 32_768;
+/// The least scratch that `lines` takes: the longest text and the line end it may lack.
+pub const SCRATCH_MIN: usize = 32_769;
+
+/// A part of the bytes asked about, from the first to before the last.
+#[repr(C)]
+#[derive(Clone, Copy, Debug, PartialEq, Eq)]
+pub struct Span {
+    pub from: usize,
+    pub end: usize,
+}
+
+/// The state after the last byte (0 outside a string, 1 inside, 2 inside behind a backslash)
+/// and the brackets outside strings.
+#[repr(C)]
+#[derive(Clone, Copy, Debug, PartialEq, Eq)]
+pub struct Scanned {
+    pub state: u8,
+    pub opens: usize,
+    pub closes: usize,
+}
+
+/// `number` 0: accepted, with `lines` joined lines and `used` bytes of scratch; else a refusal.
+#[repr(C)]
+#[derive(Clone, Copy, Debug, PartialEq, Eq)]
+pub struct Lines {
+    pub number: u32,
+    pub section: u32,
+    pub place: u32,
+    pub lines: u32,
+    pub used: usize,
+}
+
+/// `kind` 0: no line left; 1: a joined line; 3 or 4: that refusal at `line`.
+#[repr(C)]
+#[derive(Clone, Copy, Debug, PartialEq, Eq)]
+pub struct Line {
+    pub kind: u32,
+    pub line: usize,
+    pub from: usize,
+    pub end: usize,
+    pub next: usize,
+    pub next_line: usize,
+}
+
+mod sys {
+    use super::{Line, Lines, Scanned, Span};
+
+    unsafe extern "C" {
+        pub fn text_trim(s: *const u8, n: usize) -> Span;
+        pub fn text_valid(s: *const u8, n: usize) -> bool;
+        pub fn text_kept(s: *const u8, n: usize) -> usize;
+        pub fn text_scan(s: *const u8, n: usize) -> Scanned;
+        pub fn text_lines(s: *const u8, n: usize, scratch: *mut u8, room: usize) -> Lines;
+        pub fn text_next(laid: *const u8, n: usize, at: usize, line: usize) -> Line;
+    }
+}
+
+/// `s[from..end]` is `s` without White_Space at both ends.
+pub fn trim(s: &[u8]) -> Span {
+    // SAFETY: `s` is a live slice of that length, only read; text_trim has no precondition.
+    unsafe { sys::text_trim(s.as_ptr(), s.len()) }
+}
+
+/// Whether `s` is UTF-8.
+pub fn valid(s: &[u8]) -> bool {
+    // SAFETY: `s` is a live slice of that length, only read; text_valid has no precondition.
+    unsafe { sys::text_valid(s.as_ptr(), s.len()) }
+}
+
+/// The bytes of one physical line before its comment.
+pub fn kept(line: &[u8]) -> usize {
+    // SAFETY: `line` is a live slice of that length, only read; text_kept has no precondition.
+    unsafe { sys::text_kept(line.as_ptr(), line.len()) }
+}
+
+/// The string state behind `s` and its brackets outside strings.
+pub fn scan(s: &[u8]) -> Scanned {
+    // SAFETY: `s` is a live slice of that length, only read; text_scan has no precondition.
+    unsafe { sys::text_scan(s.as_ptr(), s.len()) }
+}
+
+/// Lays the kept bytes of every physical line into `scratch` and judges the joined lines.
+pub fn lines(text: &[u8], scratch: &mut [u8]) -> Lines {
+    let (to, room) = (scratch.as_mut_ptr(), scratch.len());
+    // SAFETY: both are live slices of their lengths and the borrow rules keep them apart;
+    // text_lines has no precondition.
+    unsafe { sys::text_lines(text.as_ptr(), text.len(), to, room) }
+}
+
+/// The joined line that starts at `at`, a place between joined lines; the first is 0, line 1.
+pub fn next(laid: &[u8], at: usize, line: usize) -> Line {
+    // SAFETY: `laid` is a live slice of that length, only read; text_next has no precondition.
+    unsafe { sys::text_next(laid.as_ptr(), laid.len(), at, line) }
+}

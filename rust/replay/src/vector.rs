@@ -1,0 +1,148 @@
+//! The form of the recorded answers: one text and its answer to a line.
+//!
+//! `TEXT trim FROM END kept N scan STATE OPENS CLOSES laid LAID ok` or `refused NUMBER PLACE`,
+//! then each joined line as its number and its text. Texts stand in quotes.
+use crate::answer::{Answer, Joined, Refusal};
+use std::{fmt::Write, path::Path, path::PathBuf, str::FromStr};
+
+/// The file of the recorded answers.
+pub fn file() -> PathBuf {
+    let here = Path::new(env!("CARGO_MANIFEST_DIR"));
+    let root = here
+        .ancestors()
+        .nth(2)
+        .expect("rust/replay has a root above");
+    root.join("vectors/text.txt")
+}
+
+/// Quotes a text in one line of printable ASCII.
+pub fn quote(s: &str) -> String {
+    let mut out = String::from("\"");
+    for c in s.chars() {
+        match c {
+            '"' | '\\' => out.extend(['\\', c]),
+            '\n' => out.push_str("\\n"),
+            '\r' => out.push_str("\\r"),
+            '\t' => out.push_str("\\t"),
+            ' '..='~' => out.push(c),
+            _ => write!(out, "\\u{{{:x}}}", c as u32).expect("a String takes all"),
+        }
+    }
+    out + "\""
+}
+
+/// One line of the file, without its end.
+pub fn write(text: &str, a: &Answer) -> String {
+    let (text, laid) = (quote(text), quote(&a.laid));
+    let ((from, end), kept, (state, opens, closes)) = (a.trim, a.kept, a.scan);
+    let mut out =
+        format!("{text} trim {from} {end} kept {kept} scan {state} {opens} {closes} laid {laid} ");
+    match a.refusal {
+        None => out.push_str("ok"),
+        Some((number, place)) => {
+            write!(out, "refused {number} {place}").expect("a String takes all")
+        }
+    }
+    for (line, joined) in &a.lines {
+        write!(out, " {line} {}", quote(joined)).expect("a String takes all");
+    }
+    out
+}
+
+/// The text and the answer of one line.
+pub fn read(line: &str) -> Result<(String, Answer), String> {
+    let mut r = Reader(line);
+    let text = r.quoted()?;
+    r.named("trim")?;
+    let trim = (r.number()?, r.number()?);
+    r.named("kept")?;
+    let kept = r.number()?;
+    r.named("scan")?;
+    let scan = (r.number()?, r.number()?, r.number()?);
+    r.named("laid")?;
+    let laid = r.quoted()?;
+    let refusal = r.refusal()?;
+    let lines = r.lines()?;
+    let answer = Answer {
+        trim,
+        kept,
+        scan,
+        laid,
+        lines,
+        refusal,
+    };
+    Ok((text, answer))
+}
+
+struct Reader<'a>(&'a str);
+
+impl<'a> Reader<'a> {
+    fn word(&mut self) -> &'a str {
+        let (word, rest) = self.0.split_once(' ').unwrap_or((self.0, ""));
+        self.0 = rest;
+        word
+    }
+
+    fn named(&mut self, name: &str) -> Result<(), String> {
+        match self.word() {
+            word if word == name => Ok(()),
+            word => Err(format!("{word:?} stands in place of {name}")),
+        }
+    }
+
+    fn number<T: FromStr>(&mut self) -> Result<T, String> {
+        let word = self.word();
+        word.parse().map_err(|_| format!("{word:?} is no number"))
+    }
+
+    fn refusal(&mut self) -> Result<Option<Refusal>, String> {
+        match self.word() {
+            "ok" => Ok(None),
+            "refused" => Ok(Some((self.number()?, self.number()?))),
+            word => Err(format!("{word:?} stands in place of ok or refused")),
+        }
+    }
+
+    fn lines(&mut self) -> Result<Vec<Joined>, String> {
+        let mut out = Vec::new();
+        while !self.0.is_empty() {
+            out.push((self.number()?, self.quoted()?));
+        }
+        Ok(out)
+    }
+
+    fn quoted(&mut self) -> Result<String, String> {
+        let mut rest = self.0.strip_prefix('"').ok_or("no quote")?;
+        let mut out = String::new();
+        loop {
+            let c = rest.chars().next().ok_or("a quoted text does not end")?;
+            rest = &rest[c.len_utf8()..];
+            match c {
+                '"' => break,
+                '\\' => out.push(escaped(&mut rest)?),
+                _ => out.push(c),
+            }
+        }
+        self.0 = rest.strip_prefix(' ').unwrap_or(rest);
+        Ok(out)
+    }
+}
+
+// The character that an escape names, without its backslash.
+fn escaped(rest: &mut &str) -> Result<char, String> {
+    let c = rest.chars().next().ok_or("a backslash ends the line")?;
+    *rest = &rest[c.len_utf8()..];
+    match c {
+        'n' => Ok('\n'),
+        'r' => Ok('\r'),
+        't' => Ok('\t'),
+        '"' | '\\' => Ok(c),
+        'u' => {
+            let (digits, after) = rest[1..].split_once('}').ok_or("no end of \\u")?;
+            *rest = after;
+            let code = u32::from_str_radix(digits, 16).map_err(|e| e.to_string())?;
+            char::from_u32(code).ok_or(format!("\\u{{{digits}}} is no character"))
+        }
+        _ => Err(format!("unknown escape {c:?}")),
+    }
+}
