@@ -1,3 +1,2 @@
-pub mod Tests
 pub mod Widths
 pub mod Spaces

@@ -1,4 +1,6 @@
 pub mod Cases
+pub mod Tests
 pub mod Parts
 pub mod Chars
 pub mod Trim
+pub mod Scans

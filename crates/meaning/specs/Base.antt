@@ -5,7 +5,7 @@ use Prim.Native.String.{String}
 use mathlib.Core.Bool.{Bool, true, false}
 use mathlib.Core.List.{List, [], _∷_, _++_}
 use lib.Dec.{eqb, ltb, leb}
-use lib.ListN.{length, getD, replicate}
+use lib.ListN.{length, getD, take, drop, replicate}
 
 -- x where the test holds, else y
 abbrev pub pick {ℓ} : {X : Type ℓ} → Bool → X → X → X
@@ -42,6 +42,10 @@ between low high n = pick (leb low n) (leb n high) false
 -- n zeros
 abbrev pub zeros : ℕ → List ℕ
 zeros n = replicate n 0
+
+-- the bytes of s from from to before end
+abbrev pub part : ℕ → ℕ → List ℕ → List ℕ
+part from end s = take (end - from) (drop from s)
 
 -- the last byte, 0 where there is none
 abbrev pub final : List ℕ → ℕ

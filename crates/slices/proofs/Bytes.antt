@@ -11,6 +11,7 @@ use lib.ListN.{length, getD, take, drop, set, length-set, length-drop, drop-of-l
 use lib.Seq.{drop-cons, drop-length, take-suc, take-length, set-at, length-take-le}
 use Rattle.meaning.specs.Base.{pick, zeros, before, same, less}
 use Rattle.laws.specs.Cases.{on}
+use Rattle.slices.specs.Found.{Found}
 
 pub past : (s : List ℕ) (i : ℕ) → length s ≤ i → 0 ≡ getD s i 0
 past s i h = sym (List·getD-eq-default s 0 h)
@@ -26,15 +27,15 @@ module _ (s : List ℕ) (c i : ℕ) where
       let k : before c (drop i s) ≡ suc (before c (drop (i + 1) s)) = rw (drop-cons s i 0 h, ne-eqb (getD s i 0) c n, add-one) in
       record { high = omega arith; left = omega arith }
 
-  pub find-hit : Finding s c i → i < length s → getD s i 0 ≡ c → i ≡ before c s
+  pub find-hit : Finding s c i → i < length s → getD s i 0 ≡ c → Found c s i
   find-hit a h e =
       let k : before c (drop i s) ≡ 0 = rw (drop-cons s i 0 h, eq-eqb (getD s i 0) c e) in
-      omega arith
+      record { is = omega arith; fits = a .high }
 
-  pub find-end : Finding s c i → length s ≤ i → i ≡ before c s
+  pub find-end : Finding s c i → length s ≤ i → Found c s i
   find-end a h =
       let k : before c (drop i s) ≡ 0 = rw (drop-of-length-le s h) in
-      omega arith
+      record { is = omega arith; fits = a .high }
 
 -- ---- same
 pub same-lengths : (a b : List ℕ) → (length a ≡ length b → ⊥) → false ≡ same a b

@@ -5,6 +5,7 @@ ghost use mathlib.Core.List.{_++_};
 ghost use Prim.Native.Nat.{_≤_};
 ghost use lib.ListN.{length, getD, drop};
 ghost use Rattle.meaning.specs.Base as base;
+ghost use Rattle.slices.specs.Found.{Found};
 
 // The byte at i, or 0 from the end on.
 pub fn peek(s: &[u8], i: usize) -> u8
@@ -15,7 +16,7 @@ pub fn peek(s: &[u8], i: usize) -> u8
 
 // How many bytes stand before the first c, or all of them.
 pub fn find(s: &[u8], c: u8) -> usize
-    ensures { λ r. ⌜ r ≡ base.before c (now (s .entry)) ⌝ }
+    ensures { λ r. ⌜ Found c (now (s .entry)) r ⌝ }
 {
     let mut i = 0;
     while i < s.len() {

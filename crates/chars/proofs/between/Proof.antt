@@ -1,5 +1,5 @@
 use Rattle.meaning.specs.Base.{between}
-use Rattle.chars.proofs.Tests.{tests}
+use Rattle.laws.specs.Tests.{tests}
 use Rattle.chars.proofs.between.Statement.{statement}
 use Rattle.chars.proofs.between.Tie as tie
 use Rattle.chars.proofs.between.Reads as reads

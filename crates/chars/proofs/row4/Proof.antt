@@ -1,5 +1,5 @@
 use Rattle.chars.specs.Rows.{row4}
-use Rattle.chars.proofs.Tests.{calls}
+use Rattle.laws.specs.Tests.{calls}
 use borrow.Author.Needs.{needs}
 use Rattle.chars.proofs.row4.Statement.{statement}
 use Rattle.chars.proofs.row4.Tie as tie

@@ -1,5 +1,5 @@
 use Rattle.chars.specs.Rows.{three}
-use Rattle.chars.proofs.Tests.{calls}
+use Rattle.laws.specs.Tests.{calls}
 use borrow.Author.Needs.{needs}
 use Rattle.chars.proofs.three.Statement.{statement}
 use Rattle.chars.proofs.three.Tie as tie

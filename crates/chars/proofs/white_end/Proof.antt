@@ -1,5 +1,5 @@
 use Rattle.laws.specs.Trim.{whiteEnd}
-use Rattle.chars.proofs.Tests.{calls}
+use Rattle.laws.specs.Tests.{calls}
 use borrow.Author.Needs.{needs}
 use Rattle.chars.proofs.white_end.Statement.{statement}
 use Rattle.chars.proofs.white_end.Tie as tie

@@ -1,4 +1,4 @@
-use Rattle.chars.proofs.Tests.{calls}
+use Rattle.laws.specs.Tests.{calls}
 use borrow.Author.Needs.{needs}
 use Rattle.chars.proofs.white_wide.Statement.{statement}
 use Rattle.chars.proofs.white_wide.Tie as tie

@@ -1,0 +1,74 @@
+-- Kept lines one behind the other: a joined line is a part of this text, and a line number is a count of LFs.
+use Prim.Native.Nat.{ℕ, _+_, _-_, _≤_, _<_}
+use mathlib.Core.Bool.{Bool}
+use mathlib.Core.List.{List, [], _∷_, _++_}
+use mathlib.Core.Path.{_≡_}
+use lib.Dec.{ltb}
+use lib.ListN.{length, take, drop}
+use Rattle.meaning.specs.Base.{pick, before, cut}
+use Rattle.meaning.specs.Lines.{dropCr, physical, kept, keptLines}
+use Rattle.text.specs.declared.Piece.{Piece}
+
+-- each line followed by LF
+abbrev pub flat : List (List ℕ) → List ℕ
+flat [] = []
+flat (l ∷ ls) = l ++ (10 ∷ flat ls)
+
+-- the kept bytes of every physical line
+unfoldable pub laid : List ℕ → List ℕ
+laid s = flat (keptLines (physical s))
+
+-- a room with the laid text at its head
+abbrev pub over : List ℕ → List ℕ → List ℕ
+over bytes room = bytes ++ drop (length bytes) room
+
+-- the lines of a laid text: what stands before each LF
+abbrev pub init : List (List ℕ) → List (List ℕ)
+init [] = []
+init (l ∷ []) = []
+init (l ∷ m ∷ ls) = l ∷ init (m ∷ ls)
+
+unfoldable pub linesOf : List ℕ → List (List ℕ)
+linesOf s = init (cut 10 s)
+
+-- the first physical line of s, whose n bytes end at an LF or at the end of s
+unfoldable pub firstLine : ℕ → List ℕ → List ℕ
+firstLine n s = pick (ltb n (length s)) (dropCr (take n s)) s
+
+-- a line with its LF
+abbrev pub ended : List ℕ → List ℕ
+ended l = l ++ (10 ∷ [])
+
+-- its first r bytes are that line without a CR before LF
+pub record Begins (n : ℕ) (s : List ℕ) (r : ℕ) : Type 0 where
+  pub fits : r ≤ n
+  pub is : take r s ≡ firstLine n s
+
+-- its first r bytes are kept
+pub record Keeps (n : ℕ) (s : List ℕ) (r : ℕ) : Type 0 where
+  pub fits : r ≤ n
+  pub is : take r s ≡ kept (firstLine n s)
+
+-- the first line of s as it is laid
+unfoldable pub laidLine : List ℕ → List ℕ
+laidLine s = ended (kept (firstLine (before 10 s) s))
+
+-- there is a line, and room for all of s
+pub record Fitting (s room : List ℕ) : Type 0 where
+  pub some : 0 < length s
+  pub wide : length (laid s) ≤ length room
+
+-- what `lay_line` leaves: the first line laid, and what is left of s
+pub record Lays1 (s room room' : List ℕ) (r : Piece) : Type 0 where
+  pub some : 0 < r .taken
+  pub fits : r .taken ≤ length s
+  pub wrote : r .written ≡ length (laidLine s)
+  pub goes : laid s ≡ laidLine s ++ laid (drop (r .taken) s)
+  pub left : room' ≡ over (laidLine s) room
+
+-- what `lay` leaves
+pub record Lays (s room room' : List ℕ) (r : ℕ) : Type 0 where
+  pub fits : r ≤ length room'
+  pub most : r ≤ length s + 1
+  pub used : r ≡ length (laid s)
+  pub left : room' ≡ over (laid s) room

@@ -1,0 +1,384 @@
+// From bytes to joined lines: comments cut, lines laid one behind the other, brackets and quotes, refusals 1 to 4.
+
+use meaning::Fate;
+use meaning::Limits;
+use meaning::Scan;
+ghost use mathlib.Core.Path.{_≡_};
+ghost use Prim.Native.Nat.{_+_, _≤_, _<_};
+ghost use lib.ListN.{length};
+ghost use Rattle.meaning.specs.Quote as quotes;
+ghost use Rattle.meaning.specs.Lines as meant;
+ghost use Rattle.text.specs.Laid.{Begins, Keeps, Fitting, Lays1, Lays, ended, over, linesOf};
+ghost use Rattle.text.specs.Walk as walk;
+ghost use Rattle.text.specs.Answers.{Roomy, Reads, checkedOf, counted};
+
+// A place between joined lines of a laid text: an offset, and the number of the line there.
+pub struct Place {
+    pub at: usize,
+    pub line: usize,
+}
+
+// A line that is laid: how many bytes it takes of the text, and how many it has in the scratch.
+pub struct Piece {
+    pub taken: usize,
+    pub written: usize,
+}
+
+// What the joined line at the head of a laid text comes to.
+pub enum Joint {
+    Over,
+    Open,
+    Whole { end: usize, lines: usize },
+}
+
+// The next joined line: none; refusal 3 or 4 at a line; or where it lies, its line and the place behind it.
+pub enum Next {
+    End,
+    Over(usize),
+    Open(usize),
+    Line {
+        from: usize,
+        end: usize,
+        line: usize,
+        next: Place,
+    },
+}
+
+// What the check of a laid text says: how many joined lines, or refusal 3 or 4 at a line.
+pub enum Checked {
+    Fine(usize),
+    Over(usize),
+    Open(usize),
+}
+
+// What a text comes to: how many joined lines in how many bytes, or refusal 1, 2, 3 or 4.
+pub enum Reading {
+    Fine { lines: usize, used: usize },
+    TooLong,
+    NotUtf8,
+    Over(usize),
+    Open(usize),
+}
+
+fn quote(st: u8, b: u8) -> u8
+    ensures { λ r. ⌜ r ≡ quotes.quote st b ⌝ }
+{
+    if st == 0 {
+        if b == 34 {
+            return 1;
+        }
+        return 0;
+    }
+    if st == 1 {
+        if b == 92 {
+            return 2;
+        }
+        if b == 34 {
+            return 0;
+        }
+        return 1;
+    }
+    1
+}
+
+fn hits(c: u8, st: u8, b: u8) -> bool
+    ensures { λ r. ⌜ r ≡ quotes.hits c st b ⌝ }
+{
+    if st == 0 { b == c } else { false }
+}
+
+fn tally(c: u8, st: u8, b: u8, n: usize) -> usize
+    requires { ⌜ n < 18446744073709551615 ⌝ }
+    ensures { λ r. ⌜ r ≡ quotes.tally c st b n ⌝ }
+{
+    if hits(c, st, b) {
+        return n + 1;
+    }
+    n
+}
+
+// The scan after one byte.
+fn step(c: Scan, b: u8) -> Scan
+    requires { ⌜ (c .opens < 18446744073709551615) × (c .closes < 18446744073709551615) ⌝ }
+    ensures { λ r. ⌜ r ≡ quotes.step c b ⌝ }
+{
+    let st = c.st;
+    let next = quote(st, b);
+    let opens = tally(91, st, b, c.opens);
+    let closes = tally(93, st, b, c.closes);
+    Scan {
+        st: next,
+        opens: opens,
+        closes: closes,
+    }
+}
+
+// The string state and the brackets outside strings of s.
+pub fn scan(s: &[u8]) -> Scan
+    ensures { λ r. ⌜ r ≡ quotes.scan quotes.fresh (now (s .entry)) ⌝ }
+{
+    let mut i = 0;
+    let mut c = Scan {
+        st: 0,
+        opens: 0,
+        closes: 0,
+    };
+    while i < s.len() {
+        let b = s[i];
+        c = step(c, b);
+        i += 1;
+    }
+    c
+}
+
+// How many bytes stand before the first c outside a string, or all of them.
+pub fn outside(s: &[u8], c: u8) -> usize
+    ensures { λ r. ⌜ r ≡ quotes.upTo c 0 (now (s .entry)) ⌝ }
+{
+    let mut i = 0;
+    let mut st: u8 = 0;
+    while i < s.len() {
+        let b = s[i];
+        if hits(c, st, b) {
+            return i;
+        }
+        st = quote(st, b);
+        i += 1;
+    }
+    i
+}
+
+// What a line is, joined so far.
+pub fn fate(c: Scan) -> Fate
+    ensures { λ r. ⌜ r ≡ meant.fate c ⌝ }
+{
+    if c.opens < c.closes {
+        return Fate::Over;
+    }
+    if c.closes < c.opens {
+        return Fate::Unended;
+    }
+    if c.st == 0 {
+        return Fate::Whole;
+    }
+    Fate::Unended
+}
+
+// How many bytes the first line of s has without the CR of a CRLF, where n bytes stand before its LF or its end.
+fn line_bytes(s: &[u8], n: usize) -> usize
+    requires { ⌜ n ≤ length (now s) ⌝ }
+    ensures { λ r. ⌜ Begins n (now (s .entry)) r ⌝ }
+{
+    if s.len() <= n {
+        return n;
+    }
+    if n == 0 {
+        return 0;
+    }
+    if s[n - 1] == 13 {
+        return n - 1;
+    }
+    n
+}
+
+// How many bytes of that line are kept: those before its comment.
+fn keep(s: &[u8], n: usize) -> usize
+    requires { ⌜ n ≤ length (now s) ⌝ }
+    ensures { λ r. ⌜ Keeps n (now (s .entry)) r ⌝ }
+{
+    let m = line_bytes(s, n);
+    outside(&s[..m], 35)
+}
+
+// Lays a line and an LF at the head of out.
+fn put_line(line: &[u8], out: &mut [u8])
+    requires { ⌜ length (now line) < length (now out) ⌝ }
+    ensures { λ _. ⌜ now (out .exit) ≡ over (ended (now (line .entry))) (now (out .entry)) ⌝ }
+{
+    slices::copy(line, out);
+    let n = line.len();
+    out[n] = 10;
+}
+
+// Lays the kept bytes of the first line of rest and an LF at the head of out.
+fn lay_line(rest: &[u8], out: &mut [u8]) -> Piece
+    requires { ⌜ Fitting (now rest) (now out) ⌝ }
+    ensures { λ r. ⌜ Lays1 (now (rest .entry)) (now (out .entry)) (now (out .exit)) r ⌝ }
+{
+    let n = slices::find(rest, 10);
+    let k = keep(rest, n);
+    put_line(&rest[..k], out);
+    if n < rest.len() {
+        return Piece {
+            taken: n + 1,
+            written: k + 1,
+        };
+    }
+    Piece {
+        taken: n,
+        written: k + 1,
+    }
+}
+
+// Lays the kept bytes of every physical line, each followed by one LF, at the head of the scratch; how many bytes these are.
+pub fn lay(text: &[u8], scratch: &mut [u8]) -> usize
+    requires { ⌜ length (now text) < length (now scratch) ⌝ }
+    ensures { λ r. ⌜ Lays (now (text .entry)) (now (scratch .entry)) (now (scratch .exit)) r ⌝ }
+{
+    let mut i = 0;
+    let mut j = 0;
+    while i < text.len() {
+        let p = lay_line(&text[i..], &mut scratch[j..]);
+        i += p.taken;
+        j += p.written;
+    }
+    j
+}
+
+// What the joined line at the head of a laid text comes to: the state is carried onward, so each byte is looked at once.
+fn join_line(s: &[u8]) -> Joint
+    ensures { λ r. ⌜ walk.Joined (now (s .entry)) r ⌝ }
+{
+    let mut i = 0;
+    let mut m = 1;
+    let mut c = Scan {
+        st: 0,
+        opens: 0,
+        closes: 0,
+    };
+    while i < s.len() {
+        let b = s[i];
+        if b == 10 {
+            let f = fate(c);
+            match f {
+                Fate::Over => {
+                    return Joint::Over;
+                }
+                Fate::Whole => {
+                    return Joint::Whole { end: i, lines: m };
+                }
+                Fate::Unended => {
+                    m += 1;
+                    c = step(c, b);
+                    i += 1;
+                }
+            }
+        } else {
+            c = step(c, b);
+            i += 1;
+        }
+    }
+    Joint::Open
+}
+
+// Passes blank lines; where no line is left, to the end.
+fn skip(s: &[u8], at: usize, line: usize) -> Place
+    requires { ⌜ line < 4294967296 ⌝ }
+    ensures { λ r. ⌜ walk.Skipped (now (s .entry)) at line r ⌝ }
+{
+    let mut i = at;
+    let mut n = line;
+    while i < s.len() {
+        let k = slices::find(&s[i..], 10);
+        let e = i + k;
+        if s.len() <= e {
+            return Place {
+                at: s.len(),
+                line: n,
+            };
+        }
+        if chars::blank(&s[i..e]) {
+            i = e + 1;
+            n += 1;
+        } else {
+            return Place { at: i, line: n };
+        }
+    }
+    Place { at: i, line: n }
+}
+
+// The next joined line of a laid text, from a place between joined lines on.
+pub fn next_line(s: &[u8], at: usize, line: usize) -> Next
+    requires { ⌜ line < 4294967296 ⌝ }
+    ensures { λ r. ⌜ walk.Follows (now (s .entry)) at line r ⌝ }
+{
+    let p = skip(s, at, line);
+    let from = p.at;
+    let n = p.line;
+    if s.len() <= from {
+        return Next::End;
+    }
+    let j = join_line(&s[from..]);
+    match j {
+        Joint::Over => Next::Over(n),
+        Joint::Open => Next::Open(n),
+        Joint::Whole { end, lines } => Next::Line {
+            from: from,
+            end: from + end,
+            line: n,
+            next: Place {
+                at: from + end + 1,
+                line: n + lines,
+            },
+        },
+    }
+}
+
+// 3 and 4 over a whole laid text: how many joined lines it has, or the first fault.
+pub fn check(s: &[u8]) -> Checked
+    requires { ⌜ length (now s) < 4294967295 ⌝ }
+    ensures { λ r. ⌜ checkedOf r ≡ counted (meant.join meant.closed 1 (linesOf (now (s .entry)))) ⌝ }
+{
+    let mut at = 0;
+    let mut line = 1;
+    let mut n = 0;
+    while at < s.len() {
+        let r = next_line(s, at, line);
+        match r {
+            Next::End => {
+                return Checked::Fine(n);
+            }
+            Next::Over(l) => {
+                return Checked::Over(l);
+            }
+            Next::Open(l) => {
+                return Checked::Open(l);
+            }
+            Next::Line {
+                from: _,
+                end: _,
+                line: _,
+                next: p,
+            } => {
+                at = p.at;
+                line = p.line;
+                n += 1;
+            }
+        }
+    }
+    Checked::Fine(n)
+}
+
+// Lays a text into the scratch and judges its joined lines: refusals 1 to 4 in their order.
+pub fn lines(text: &[u8], scratch: &mut [u8], limits: Limits) -> Reading
+    requires { ⌜ Roomy limits (now scratch) ⌝ }
+    ensures { λ r. ⌜ Reads limits (now (text .entry)) (now (scratch .entry)) (now (scratch .exit)) r ⌝ }
+{
+    if limits.text < text.len() {
+        return Reading::TooLong;
+    }
+    if chars::valid(text) {
+        let used = lay(text, scratch);
+        let c = check(&scratch[..used]);
+        match c {
+            Checked::Fine(n) => Reading::Fine {
+                lines: n,
+                used: used,
+            },
+            Checked::Over(l) => Reading::Over(l),
+            Checked::Open(l) => Reading::Open(l),
+        }
+    } else {
+        Reading::NotUtf8
+    }
+}
