@@ -21,7 +21,7 @@ use Rattle.text.specs.declared.Checked.{Checked}
 use Rattle.text.specs.declared.Checked.the-variants as checks
 use Rattle.text.specs.Laid.{linesOf, laid, over, Lays}
 use Rattle.text.specs.Walk.{next, Follows, Onward, Says}
-use Rattle.text.specs.Answers.{checkedOf, counted}
+use Rattle.text.specs.Answers.{checkedOf, counted, Checks}
 use Rattle.text.proofs.Saying.{says}
 
 -- n lines and those of j
@@ -48,26 +48,34 @@ pub check-start : (s : List ℕ) → Checking s 0 1 0
 check-start s = record { high = omega arith; number = omega arith; count = omega arith; left = count-none (join closed 1 (linesOf s)) }
 
 module _ (s : List ℕ) (at line n : ℕ) (k : Checking s at line n) where
-  pub check-end : length s ≤ at → checkedOf (checks.Fine n) ≡ counted (join closed 1 (linesOf s))
+  pub check-end : length s ≤ at → Checks s (checks.Fine n)
   unfolding countFrom linesOf
-  check-end h = rw (drop-of-length-le s h, add-zero) at (k .left)
+  check-end h = record { says = rw (drop-of-length-le s h, add-zero) at (k .left); most = omega (arith, k .count, k .high) }
 
   module _ (r : Next) (f : Follows s at line r) where
     told : Says s (join closed line (linesOf (drop at s))) r
     told = rw (f .is) (says s at line)
 
-    pub none-left : r ≡ nexts.End → checkedOf (checks.Fine n) ≡ counted (join closed 1 (linesOf s))
+    pub none-left : r ≡ nexts.End → Checks s (checks.Fine n)
     unfolding countFrom
-    none-left e = let j : join closed line (linesOf (drop at s)) ≡ accepted [] = rw e at told in rw (j, add-zero) at (k .left)
+    none-left e =
+        let j : join closed line (linesOf (drop at s)) ≡ accepted [] = rw e at told in
+        record { says = rw (j, add-zero) at (k .left); most = omega (arith, k .count, k .high) }
 
     module _ (l : ℕ) where
-      pub over-told : r ≡ nexts.Over l → checkedOf (checks.Over l) ≡ counted (join closed 1 (linesOf s))
+      pub over-told : r ≡ nexts.Over l → Checks s (checks.Over l)
       unfolding countFrom
-      over-told e = let j : join closed line (linesOf (drop at s)) ≡ atLine 3 l = rw e at told in rw j at (k .left)
+      over-told e =
+          let j : join closed line (linesOf (drop at s)) ≡ atLine 3 l = rw e at told in
+          let a : l + at ≤ line + length s = rw e at (f .advance) in
+          record { says = rw j at (k .left); most = omega (arith, k .number) }
 
-      pub open-told : r ≡ nexts.Open l → checkedOf (checks.Open l) ≡ counted (join closed 1 (linesOf s))
+      pub open-told : r ≡ nexts.Open l → Checks s (checks.Open l)
       unfolding countFrom
-      open-told e = let j : join closed line (linesOf (drop at s)) ≡ atLine 4 l = rw e at told in rw j at (k .left)
+      open-told e =
+          let j : join closed line (linesOf (drop at s)) ≡ atLine 4 l = rw e at told in
+          let a : l + at ≤ line + length s = rw e at (f .advance) in
+          record { says = rw j at (k .left); most = omega (arith, k .number) }
 
       module _ (from end : ℕ) (p : Place) (e : r ≡ nexts.Line from end l p) where
         pub onward : Onward s at line from end p

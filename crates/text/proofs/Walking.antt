@@ -101,10 +101,10 @@ module _ (s : List ℕ) (at n₀ : ℕ) (p : Place) (a : Skipped s at n₀ p) wh
     is-placed = rw (b .is, rest-of s (p .at)) (sym (a .is ∙ rw (lt-ltb (p .at) (length s) h)))
 
     pub over-there : j ≡ joints.Over → Follows s at n₀ (nexts.Over (p .line))
-    over-there e = record { is = ap (placed (p .at) (p .line)) (sym e) ∙ is-placed; advance = tt }
+    over-there e = record { is = ap (placed (p .at) (p .line)) (sym e) ∙ is-placed; advance = omega (arith, a .count) }
 
     pub open-there : j ≡ joints.Open → Follows s at n₀ (nexts.Open (p .line))
-    open-there e = record { is = ap (placed (p .at) (p .line)) (sym e) ∙ is-placed; advance = tt }
+    open-there e = record { is = ap (placed (p .at) (p .line)) (sym e) ∙ is-placed; advance = omega (arith, a .count) }
 
     module _ (e m : ℕ) (q : j ≡ joints.Whole e m) where
       within : Within (take (length s - p .at) (drop (p .at) s)) e m

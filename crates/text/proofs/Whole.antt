@@ -22,7 +22,7 @@ use Rattle.text.specs.declared.Checked.the-variants as checks
 use Rattle.text.specs.declared.Reading.{Reading}
 use Rattle.text.specs.declared.Reading.the-variants as readings
 use Rattle.text.specs.Laid.{linesOf, laid, over, firstLine, Begins, Keeps, Lays}
-use Rattle.text.specs.Answers.{answerOf, checkedOf, counted, measured, Roomy, Reads}
+use Rattle.text.specs.Answers.{answerOf, checkedOf, counted, measured, Most, Checks, Small, Roomy, Reads}
 use Rattle.text.proofs.Cuts.{before-fits, physical-there, physical-last, laid-there, laid-last, lines-there, lines-none}
 use Rattle.text.proofs.Laying.{whole-line, empty-line, cr-line, plain-line, keeps, laid-short}
 
@@ -113,12 +113,12 @@ checked-joined s = ap (join closed 1) (laid-lines (length s) s (omega arith))
 module _ (limits : Limits) (s room : List ℕ) where
   pub too-long : limits .text < length s → Reads limits s room room readings.TooLong
   unfolding meant.lines
-  too-long h = record { says = rw (lt-ltb (limits .text) (length s) h); left = rw (lt-ltb (limits .text) (length s) h) }
+  too-long h = record { says = rw (lt-ltb (limits .text) (length s) h); small = tt; left = rw (lt-ltb (limits .text) (length s) h) }
 
   module _ (h : length s ≤ limits .text) (v : Bool) (e : v ≡ valid s) where
     pub not-utf8 : v ≡ false → Reads limits s room room readings.NotUtf8
     unfolding meant.lines
-    not-utf8 f = record { says = rw (le-ltb (limits .text) (length s) h, ← e, f); left = rw (le-ltb (limits .text) (length s) h, ← e, f) }
+    not-utf8 f = record { says = rw (le-ltb (limits .text) (length s) h, ← e, f); small = tt; left = rw (le-ltb (limits .text) (length s) h, ← e, f) }
 
     module _ (t : v ≡ true) (room' : List ℕ) (used : ℕ) (y : Lays s room room' used) where
       pub small-enough : Roomy limits room → length (take used room') < 4294967295
@@ -137,18 +137,23 @@ module _ (limits : Limits) (s room : List ℕ) where
       left-is : room' ≡ pick (ltb (limits .text) (length s)) room (pick (valid s) (over (laid s) room) room)
       left-is = rw (le-ltb (limits .text) (length s) h, ← e, t) (y .left)
 
-      module _ (c : Checked) (k : checkedOf c ≡ counted (join closed 1 (linesOf (take used room')))) where
+      module _ (c : Checked) (k : Checks (take used room') c) where
         counts : checkedOf c ≡ counted (joined s)
-        counts = k ∙ ap (λ (x : List ℕ). counted (join closed 1 (linesOf x))) prefix-is ∙ ap counted (checked-joined s)
+        counts = k .says ∙ ap (λ (x : List ℕ). counted (join closed 1 (linesOf x))) prefix-is ∙ ap counted (checked-joined s)
 
-        reads : (r : Reading) → ((j : Answer (List Line)) → checkedOf c ≡ counted j → answerOf r ≡ measured used j) → Reads limits s room room' r
-        reads r f = record {
+        reads : (r : Reading) → ((j : Answer (List Line)) → checkedOf c ≡ counted j → answerOf r ≡ measured used j) → Small (limits .text + 2) r → Reads limits s room room' r
+        reads r f z = record {
           says = f (joined s) counts ∙ rw (y .used, read-is);
+          small = z;
           left = left-is;
         }
 
+        bound : length (take used room') + 1 ≤ limits .text + 2
+        bound = omega (arith, prefix-count, y .most)
+
         pub read-fine : (n : ℕ) → c ≡ checks.Fine n → Reads limits s room room' (readings.Fine n used)
         read-fine n q = reads (readings.Fine n used) (λ j i. fine j (ap checkedOf (sym q) ∙ i))
+            (let m : n ≤ length (take used room') + 1 = rw q at (k .most) in (omega (arith, bound), omega (arith, y .most)))
           where
             fine : (j : Answer (List Line)) → accepted n ≡ counted j → answerOf (readings.Fine n used) ≡ measured used j
             fine (accepted ls) i = let z : n ≡ length ls = cc in rw z
@@ -156,6 +161,7 @@ module _ (limits : Limits) (s room : List ℕ) where
 
         pub read-over : (l : ℕ) → c ≡ checks.Over l → Reads limits s room room' (readings.Over l)
         read-over l q = reads (readings.Over l) (λ j i. fault j (ap checkedOf (sym q) ∙ i))
+            (let m : l ≤ length (take used room') + 1 = rw q at (k .most) in omega (arith, bound))
           where
             fault : (j : Answer (List Line)) → atLine 3 l ≡ counted j → atLine 3 l ≡ measured used j
             fault (accepted ls) i = cc
@@ -163,6 +169,7 @@ module _ (limits : Limits) (s room : List ℕ) where
 
         pub read-open : (l : ℕ) → c ≡ checks.Open l → Reads limits s room room' (readings.Open l)
         read-open l q = reads (readings.Open l) (λ j i. fault j (ap checkedOf (sym q) ∙ i))
+            (let m : l ≤ length (take used room') + 1 = rw q at (k .most) in omega (arith, bound))
           where
             fault : (j : Answer (List Line)) → atLine 4 l ≡ counted j → atLine 4 l ≡ measured used j
             fault (accepted ls) i = cc

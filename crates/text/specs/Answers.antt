@@ -1,5 +1,5 @@
 -- What the answers of `text` say in 01's words.
-use Prim.Native.Nat.{ℕ, _<_}
+use Prim.Native.Nat.{ℕ, _+_, _≤_, _<_}
 use mathlib.Core.List.{List, []}
 use mathlib.Core.Path.{_≡_}
 use lib.Dec.{ltb}
@@ -13,7 +13,7 @@ use Rattle.text.specs.declared.Reading.{Reading}
 use Rattle.text.specs.declared.Reading.the-variants.{Fine, TooLong, NotUtf8, Over, Open}
 use Rattle.text.specs.declared.Checked.{Checked}
 use Rattle.text.specs.declared.Checked.the-variants as checks
-use Rattle.text.specs.Laid.{laid, over}
+use Rattle.text.specs.Laid.{laid, over, linesOf}
 
 -- how many joined lines there are, in how many bytes
 pub record Count : Type 0 where
@@ -42,6 +42,25 @@ counted j = after j (λ ls. accepted (length ls))
 abbrev pub measured : ℕ → Answer (List lines.Line) → Answer Count
 measured used j = after j (λ ls. accepted (record { lines = length ls; used = used }))
 
+-- no count and no line number is over k
+abbrev pub Most : ℕ → Checked → Type 0
+Most k (checks.Fine n) = n ≤ k
+Most k (checks.Over n) = n ≤ k
+Most k (checks.Open n) = n ≤ k
+
+-- what `check` leaves of a laid text
+pub record Checks (s : List ℕ) (r : Checked) : Type 0 where
+  pub says : checkedOf r ≡ counted (lines.join lines.closed 1 (linesOf s))
+  pub most : Most (length s + 1) r
+
+-- the same of a reading
+abbrev pub Small : ℕ → Reading → Type 0
+Small k (Fine n used) = (n ≤ k) × (used ≤ k)
+Small k TooLong = Unit
+Small k NotUtf8 = Unit
+Small k (Over n) = n ≤ k
+Small k (Open n) = n ≤ k
+
 -- the scratch takes the longest text and the LF that its last line may lack
 pub record Roomy (limits : Limits) (room : List ℕ) : Type 0 where
   pub fits : limits .text < length room
@@ -50,4 +69,5 @@ pub record Roomy (limits : Limits) (room : List ℕ) : Type 0 where
 -- what `lines` leaves: its answer, and the scratch, which 1 and 2 leave alone
 pub record Reads (limits : Limits) (s room room' : List ℕ) (r : Reading) : Type 0 where
   pub says : answerOf r ≡ measured (length (laid s)) (lines.lines limits s)
+  pub small : Small (limits .text + 2) r
   pub left : room' ≡ pick (ltb (limits .text) (length s)) room (pick (valid s) (over (laid s) room) room)

@@ -74,7 +74,7 @@ pub record Skipped (s : List ℕ) (at n : ℕ) (p : Place) : Type 0 where
   pub count : p .line + at ≤ n + p .at
   pub is : next s at n ≡ pick (ltb (p .at) (length s)) (placed (p .at) (p .line) (joint (drop (p .at) s))) nexts.End
 
--- a joined line lies behind at, and the place behind it in s
+-- a joined line lies behind at, and the place behind it in s; a line number grows by no more than the bytes passed
 pub record Onward (s : List ℕ) (at n from end : ℕ) (p : Place) : Type 0 where
   pub on : at ≤ from
   pub low : from ≤ end
@@ -84,8 +84,8 @@ pub record Onward (s : List ℕ) (at n from end : ℕ) (p : Place) : Type 0 wher
 
 abbrev pub Advance : List ℕ → ℕ → ℕ → Next → Type 0
 Advance s at n nexts.End = Unit
-Advance s at n (nexts.Over l) = Unit
-Advance s at n (nexts.Open l) = Unit
+Advance s at n (nexts.Over l) = l + at ≤ n + length s
+Advance s at n (nexts.Open l) = l + at ≤ n + length s
 Advance s at n (nexts.Line from end l p) = Onward s at n from end p
 
 -- what `next_line` leaves

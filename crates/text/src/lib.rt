@@ -8,9 +8,9 @@ ghost use Prim.Native.Nat.{_+_, _≤_, _<_};
 ghost use lib.ListN.{length};
 ghost use Rattle.meaning.specs.Quote as quotes;
 ghost use Rattle.meaning.specs.Lines as meant;
-ghost use Rattle.text.specs.Laid.{Begins, Keeps, Fitting, Lays1, Lays, ended, over, linesOf};
+ghost use Rattle.text.specs.Laid.{Begins, Keeps, Fitting, Lays1, Lays, ended, over};
 ghost use Rattle.text.specs.Walk as walk;
-ghost use Rattle.text.specs.Answers.{Roomy, Reads, checkedOf, counted};
+ghost use Rattle.text.specs.Answers.{Checks, Roomy, Reads};
 
 // A place between joined lines of a laid text: an offset, and the number of the line there.
 pub struct Place {
@@ -327,7 +327,7 @@ pub fn next_line(s: &[u8], at: usize, line: usize) -> Next
 // 3 and 4 over a whole laid text: how many joined lines it has, or the first fault.
 pub fn check(s: &[u8]) -> Checked
     requires { ⌜ length (now s) < 4294967295 ⌝ }
-    ensures { λ r. ⌜ checkedOf r ≡ counted (meant.join meant.closed 1 (linesOf (now (s .entry)))) ⌝ }
+    ensures { λ r. ⌜ Checks (now (s .entry)) r ⌝ }
 {
     let mut at = 0;
     let mut line = 1;
