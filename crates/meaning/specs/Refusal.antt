@@ -13,6 +13,15 @@ numberOf unknown = 0
 numberOf pathless = 0
 numberOf hollow = 0
 
+-- the answer of a reader that knows no place: a value or a number
+pub data R (X : Type 0) : Type 0 where
+  ok : X → R X
+  bad : ℕ → R X
+
+abbrev pub via : {X Y : Type 0} → R X → (X → R Y) → R Y
+via (ok x) f = f x
+via (bad n) f = bad n
+
 -- "A refusal returns its number, a section and a place"
 pub data Answer (X : Type 0) : Type 0 where
   accepted : X → Answer X
