@@ -249,7 +249,7 @@ fn white_end(s: &[u8]) -> usize
 }
 
 // Where the white space at the head of s ends.
-pub fn trim_start(s: &[u8]) -> usize
+fn trim_start(s: &[u8]) -> usize
     ensures { λ r. ⌜ Started (now (s .entry)) r ⌝ }
 {
     let mut i = 0;
@@ -264,7 +264,7 @@ pub fn trim_start(s: &[u8]) -> usize
 }
 
 // Where the white space at the end of s begins.
-pub fn trim_end(s: &[u8]) -> usize
+fn trim_end(s: &[u8]) -> usize
     ensures { λ r. ⌜ Ended (now (s .entry)) r ⌝ }
 {
     let mut e = s.len();

@@ -101,9 +101,9 @@ behind b s r d l = record {
   b = l .b;
   g = l .g;
   parts =
-    ap (λ (t : List ℕ). b ∷ t)
-    (sym (take-append-drop (char (b ∷ s) - 1) s) ∙ ap (λ (t : List ℕ). take (char (b ∷ s) - 1) s ++ t) (d ∙ l .parts)
-    ∙ sym (append-assoc (take (char (b ∷ s) - 1) s) (l .x) (l .b ∷ l .g)));
+      ap (λ (t : List ℕ). b ∷ t)
+      (sym (take-append-drop (char (b ∷ s) - 1) s) ∙ ap (λ (t : List ℕ). take (char (b ∷ s) - 1) s ++ t) (d ∙ l .parts)
+      ∙ sym (append-assoc (take (char (b ∷ s) - 1) s) (l .x) (l .b ∷ l .g)));
   listed = chars-step b s ∙ ap (λ (t : List ℕ). headOf (char (b ∷ s)) b s ∷ chars 0 t) d ∙ ap (λ (t : List Char). headOf (char (b ∷ s)) b s ∷ t) (l .listed);
   width = l .width;
 }

@@ -126,9 +126,9 @@ laid-on src dst₀ dst i k h =
       room = k .room;
       long = length-set dst i (getD src i 0) ∙ k .long;
       left =
-        ap (λ (d : List ℕ). set d i (getD src i 0)) (k .left ∙ ap (λ (d : List ℕ). take i src ++ d) (drop-cons dst₀ i 0 l))
-        ∙ set-at (take i src) (getD dst₀ i 0) (drop (suc i) dst₀) (getD src i 0) i n
-        ∙ rw (add-one, take-suc src i 0 h) (sym (append-assoc (take i src) (getD src i 0 ∷ []) (drop (suc i) dst₀)));
+          ap (λ (d : List ℕ). set d i (getD src i 0)) (k .left ∙ ap (λ (d : List ℕ). take i src ++ d) (drop-cons dst₀ i 0 l))
+          ∙ set-at (take i src) (getD dst₀ i 0) (drop (suc i) dst₀) (getD src i 0) i n
+          ∙ rw (add-one, take-suc src i 0 h) (sym (append-assoc (take i src) (getD src i 0 ∷ []) (drop (suc i) dst₀)));
     }
 
 pub laid-end : (src dst₀ dst : List ℕ) (i : ℕ) → Laid src dst₀ dst i → length src ≤ i → dst ≡ src ++ drop (length src) dst₀

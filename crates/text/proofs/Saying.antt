@@ -51,10 +51,10 @@ split-of f l ls e =
     record {
       rest = drop (n + 1) f;
       is =
-        sym (take-append-drop n f)
-        ∙ ap (λ (d : List ℕ). take n f ++ d)
-        (drop-cons f n 0 h ∙ ap (λ (b : ℕ). b ∷ drop (suc n) f) (before-is 10 f h) ∙ ap (λ (m : ℕ). 10 ∷ drop m f) (sym (add-one n)))
-        ∙ ap (λ (t : List ℕ). t ++ (10 ∷ drop (n + 1) f)) (sym (q .0));
+          sym (take-append-drop n f)
+          ∙ ap (λ (d : List ℕ). take n f ++ d)
+          (drop-cons f n 0 h ∙ ap (λ (b : ℕ). b ∷ drop (suc n) f) (before-is 10 f h) ∙ ap (λ (m : ℕ). 10 ∷ drop m f) (sym (add-one n)))
+          ∙ ap (λ (t : List ℕ). t ++ (10 ∷ drop (n + 1) f)) (sym (q .0));
       lines = q .1;
     })
     (λ p. let z : _≡_ {A = ℕ} 0 1 = cc (lines-none f n refl (ltb-false n (length f) p)) in absurd (omega arith))

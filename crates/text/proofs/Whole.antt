@@ -11,6 +11,7 @@ use lib.ListN.{length, getD, take, drop, length-drop, length-append, length-take
 use lib.Seq.{take-at, drop-at, length-take-le, take-append-le, take-take}
 use Rattle.meaning.specs.declared.Limits.{Limits}
 use Rattle.meaning.specs.Base.{pick, before, cut}
+use Rattle.meaning.specs.Limits.{of01}
 use Rattle.meaning.specs.Quote.{upTo}
 use Rattle.meaning.specs.Refusal.{Answer, accepted, refused, after, atLine, atNoLine}
 use Rattle.meaning.specs.Utf8.{valid}
@@ -174,3 +175,7 @@ module _ (limits : Limits) (s room : List ℕ) where
             fault : (j : Answer (List Line)) → atLine 4 l ≡ counted j → atLine 4 l ≡ measured used j
             fault (accepted ls) i = cc
             fault (refused f a p) i = cc
+
+-- 01's limits fit a scratch of 32,769 bytes
+pub roomy : (z : List ℕ) (lim : Limits) → 32769 ≤ length z → lim ≡ of01 → Roomy lim z
+roomy z lim h e = rw e (record { fits = omega arith; small = omega arith })

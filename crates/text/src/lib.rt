@@ -118,17 +118,17 @@ pub fn scan(s: &[u8]) -> Scan
     ensures { λ r. ⌜ r ≡ quotes.scan quotes.fresh (now (s .entry)) ⌝ }
 {
     let mut i = 0;
-    let mut c = Scan {
+    let mut x = Scan {
         st: 0,
         opens: 0,
         closes: 0,
     };
     while i < s.len() {
         let b = s[i];
-        c = step(c, b);
+        x = step(x, b);
         i += 1;
     }
-    c
+    x
 }
 
 // How many bytes stand before the first c outside a string, or all of them.
@@ -149,7 +149,7 @@ pub fn outside(s: &[u8], c: u8) -> usize
 }
 
 // What a line is, joined so far.
-pub fn fate(c: Scan) -> Fate
+fn fate(c: Scan) -> Fate
     ensures { λ r. ⌜ r ≡ meant.fate c ⌝ }
 {
     if c.opens < c.closes {
@@ -331,12 +331,12 @@ pub fn check(s: &[u8]) -> Checked
 {
     let mut at = 0;
     let mut line = 1;
-    let mut n = 0;
+    let mut found = 0;
     while at < s.len() {
         let r = next_line(s, at, line);
         match r {
             Next::End => {
-                return Checked::Fine(n);
+                return Checked::Fine(found);
             }
             Next::Over(l) => {
                 return Checked::Over(l);
@@ -352,11 +352,11 @@ pub fn check(s: &[u8]) -> Checked
             } => {
                 at = p.at;
                 line = p.line;
-                n += 1;
+                found += 1;
             }
         }
     }
-    Checked::Fine(n)
+    Checked::Fine(found)
 }
 
 // Lays a text into the scratch and judges its joined lines: refusals 1 to 4 in their order.

@@ -55,7 +55,7 @@ mod sys {
         pub fn text_kept(s: *const u8, n: usize) -> usize;
         pub fn text_scan(s: *const u8, n: usize) -> Scanned;
         pub fn text_lines(s: *const u8, n: usize, scratch: *mut u8, room: usize) -> Lines;
-        pub fn text_next(laid: *const u8, n: usize, at: usize, line: usize) -> Line;
+        pub fn text_next(laid: *const u8, n: usize, at: usize, line: u32) -> Line;
     }
 }
 
@@ -92,7 +92,7 @@ pub fn lines(text: &[u8], scratch: &mut [u8]) -> Lines {
 }
 
 /// The joined line that starts at `at`, a place between joined lines; the first is 0, line 1.
-pub fn next(laid: &[u8], at: usize, line: usize) -> Line {
+pub fn next(laid: &[u8], at: usize, line: u32) -> Line {
     // SAFETY: `laid` is a live slice of that length, only read; text_next has no precondition.
     unsafe { sys::text_next(laid.as_ptr(), laid.len(), at, line) }
 }

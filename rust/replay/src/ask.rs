@@ -36,7 +36,7 @@ pub fn walk(laid: &[u8]) -> Result<(Vec<Joined>, Option<Refusal>), String> {
     let (mut at, mut line) = (0, 1);
     let mut out = Vec::new();
     loop {
-        let l = text::next(laid, at, line);
+        let l = text::next(laid, at, line as u32);
         match l.kind {
             0 => return Ok((out, None)),
             3 | 4 => return Ok((out, Some((l.kind, l.line)))),

@@ -2,15 +2,11 @@ use Rattle.meaning.specs.Base.{between}
 use Rattle.laws.specs.Tests.{tests}
 use Rattle.chars.proofs.between.Statement.{statement}
 use Rattle.chars.proofs.between.Tie as tie
-use Rattle.chars.proofs.between.Reads as reads
-use Rattle.chars.proofs.between.Lts as lts
 
--- src/lib.rt:19:1
 returns : tie.Need-returns
 unfolding between
 returns c = search tests
 
--- src/lib.rt:19:1
 returns-2 : tie.Need-returns-2
 unfolding between
 returns-2 c = search tests

@@ -2,87 +2,64 @@ use Rattle.chars.proofs.Widths.{point-1, point-2, point-3, point-4}
 use borrow.Author.Needs.{needs}
 use Rattle.chars.proofs.point.Statement.{statement}
 use Rattle.chars.proofs.point.Tie as tie
-use Rattle.chars.proofs.point.Reads as reads
-use Rattle.chars.proofs.point.Lts as lts
-use Rattle.chars.proofs.at.Reads as at-reads
 
--- src/lib.rt:125:9
 at-requires : tie.Need-at-requires
 at-requires c κs = search needs
 
--- src/lib.rt:127:9
 returns : tie.Need-returns
 returns c = search (needs, point-1)
 
--- src/lib.rt:129:9
 at-requires-2 : tie.Need-at-requires-2
 at-requires-2 c κs = search needs
 
--- src/lib.rt:131:16
 mul-result : tie.Need-mul-result
 mul-result c = search needs
 
--- src/lib.rt:131:16
 add-result : tie.Need-add-result
 add-result c = search needs
 
--- src/lib.rt:131:9
 returns-2 : tie.Need-returns-2
 returns-2 c = search (needs, point-2)
 
--- src/lib.rt:133:9
 at-requires-3 : tie.Need-at-requires-3
 at-requires-3 c κs = search needs
 
--- src/lib.rt:135:16
 mul-result-2 : tie.Need-mul-result-2
 mul-result-2 c = search needs
 
--- src/lib.rt:135:32
 mul-result-3 : tie.Need-mul-result-3
 mul-result-3 c = search needs
 
--- src/lib.rt:135:16
 add-result-2 : tie.Need-add-result-2
 add-result-2 c = search needs
 
--- src/lib.rt:135:16
 add-result-3 : tie.Need-add-result-3
 add-result-3 c = search needs
 
--- src/lib.rt:135:9
 returns-3 : tie.Need-returns-3
 returns-3 c = search (needs, point-3)
 
--- src/lib.rt:137:9
 at-requires-4 : tie.Need-at-requires-4
 at-requires-4 c κs = search needs
 
--- src/lib.rt:138:5
 mul-result-4 : tie.Need-mul-result-4
 mul-result-4 c = search needs
 
--- src/lib.rt:138:22
 mul-result-5 : tie.Need-mul-result-5
 mul-result-5 c = search needs
 
--- src/lib.rt:138:5
 add-result-4 : tie.Need-add-result-4
 add-result-4 c = search needs
 
--- src/lib.rt:138:38
 mul-result-6 : tie.Need-mul-result-6
 mul-result-6 c = search needs
 
--- src/lib.rt:138:5
 add-result-5 : tie.Need-add-result-5
 add-result-5 c = search needs
 
--- src/lib.rt:138:5
 add-result-6 : tie.Need-add-result-6
 add-result-6 c = search needs
 
--- src/lib.rt:121:1
 returns-4 : tie.Need-returns-4
 returns-4 c = search (needs, point-4)
 

@@ -3,24 +3,17 @@ use Rattle.laws.specs.Tests.{calls}
 use borrow.Author.Needs.{needs}
 use Rattle.chars.proofs.row2.Statement.{statement}
 use Rattle.chars.proofs.row2.Tie as tie
-use Rattle.chars.proofs.row2.Reads as reads
-use Rattle.chars.proofs.row2.Lts as lts
-use Rattle.chars.proofs.between.Reads as between-reads
 
--- src/lib.rt:41:8
 between-requires : tie.Need-between-requires
 between-requires c κs = search needs
 
--- src/lib.rt:42:9
 between-requires-2 : tie.Need-between-requires-2
 between-requires-2 c κs = search needs
 
--- src/lib.rt:42:9
 returns : tie.Need-returns
 unfolding row2
 returns c = search calls
 
--- src/lib.rt:38:1
 returns-2 : tie.Need-returns-2
 unfolding row2
 returns-2 c = search calls

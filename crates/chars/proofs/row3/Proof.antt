@@ -3,33 +3,24 @@ use Rattle.laws.specs.Tests.{calls}
 use borrow.Author.Needs.{needs}
 use Rattle.chars.proofs.row3.Statement.{statement}
 use Rattle.chars.proofs.row3.Tie as tie
-use Rattle.chars.proofs.row3.Reads as reads
-use Rattle.chars.proofs.row3.Lts as lts
-use Rattle.chars.proofs.between.Reads as between-reads
 
--- src/lib.rt:50:8
 between-requires : tie.Need-between-requires
 between-requires c κs = search needs
 
--- src/lib.rt:51:12
 between-requires-2 : tie.Need-between-requires-2
 between-requires-2 c κs = search needs
 
--- src/lib.rt:52:13
 between-requires-3 : tie.Need-between-requires-3
 between-requires-3 c κs = search needs
 
--- src/lib.rt:52:13
 returns : tie.Need-returns
 unfolding row3
 returns c = search calls
 
--- src/lib.rt:54:9
 returns-2 : tie.Need-returns-2
 unfolding row3
 returns-2 c = search calls
 
--- src/lib.rt:47:1
 returns-3 : tie.Need-returns-3
 unfolding row3
 returns-3 c = search calls

@@ -3,42 +3,31 @@ use Rattle.laws.specs.Tests.{calls}
 use borrow.Author.Needs.{needs}
 use Rattle.chars.proofs.three.Statement.{statement}
 use Rattle.chars.proofs.three.Tie as tie
-use Rattle.chars.proofs.three.Reads as reads
-use Rattle.chars.proofs.three.Lts as lts
-use Rattle.chars.proofs.row3.Reads as row3-reads
 
--- src/lib.rt:71:8
 row3-requires : tie.Need-row3-requires
 row3-requires c κs = search needs
 
--- src/lib.rt:72:9
 returns : tie.Need-returns
 unfolding three
 returns c = search calls
 
--- src/lib.rt:74:8
 row3-requires-2 : tie.Need-row3-requires-2
 row3-requires-2 c κs = search needs
 
--- src/lib.rt:75:9
 returns-2 : tie.Need-returns-2
 unfolding three
 returns-2 c = search calls
 
--- src/lib.rt:77:8
 row3-requires-3 : tie.Need-row3-requires-3
 row3-requires-3 c κs = search needs
 
--- src/lib.rt:78:9
 returns-3 : tie.Need-returns-3
 unfolding three
 returns-3 c = search calls
 
--- src/lib.rt:80:5
 row3-requires-4 : tie.Need-row3-requires-4
 row3-requires-4 c κs = search needs
 
--- src/lib.rt:68:1
 returns-4 : tie.Need-returns-4
 unfolding three
 returns-4 c = search calls

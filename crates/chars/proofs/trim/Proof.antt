@@ -2,36 +2,25 @@ use borrow.Author.Needs.{needs}
 use Rattle.chars.proofs.Spaces.{both}
 use Rattle.chars.proofs.trim.Statement.{statement}
 use Rattle.chars.proofs.trim.Tie as tie
-use Rattle.chars.proofs.trim.Reads as reads
-use Rattle.chars.proofs.trim.Lts as lts
-use Rattle.chars.proofs.trim_end.Reads as trim-end-reads
-use Rattle.chars.proofs.trim_start.Reads as trim-start-reads
 
--- src/lib.rt:285:9
 trim-start-requires : tie.Need-trim-start-requires
 trim-start-requires c κs = search needs
 
--- src/lib.rt:286:22
 sub-trim-end : tie.Need-sub-trim-end
 sub-trim-end c = search needs
 
--- src/lib.rt:286:22
 part-trim-end-start : tie.Need-part-trim-end-start
 part-trim-end-start c = search needs
 
--- src/lib.rt:286:22
 part-trim-end-end : tie.Need-part-trim-end-end
 part-trim-end-end c = search needs
 
--- src/lib.rt:286:9
 trim-end-requires : tie.Need-trim-end-requires
 trim-end-requires c κs = search needs
 
--- src/lib.rt:289:14
 add-t5 : tie.Need-add-t5
 add-t5 c = search needs
 
--- src/lib.rt:282:1
 returns : tie.Need-returns
 returns c = search (needs, both)
 

@@ -5,9 +5,6 @@ use lib.ListN.{length}
 use Prim.Native.Nat.{_-_}
 use Rattle.chars.proofs.trim_start.Statement.{statement}
 use Rattle.chars.proofs.trim_start.Tie as tie
-use Rattle.chars.proofs.trim_start.Reads as reads
-use Rattle.chars.proofs.trim_start.Lts as lts
-use Rattle.chars.proofs.white_at.Reads as white-at-reads
 
 abbrev Inv-loop : tie.InvT-loop
 Inv-loop s i₀ i = Starting s i
@@ -15,43 +12,33 @@ Inv-loop s i₀ i = Starting s i
 abbrev μ-loop : tie.MeasureT-loop
 μ-loop s i₀ i = length s - i
 
--- src/lib.rt:256:5
 loop-holds : tie.Need-loop-holds Inv-loop μ-loop
 loop-holds c = search needs
 
--- src/lib.rt:257:26
 sub-white-at : tie.Need-sub-white-at Inv-loop μ-loop
 sub-white-at c = search needs
 
--- src/lib.rt:257:26
 part-white-at-start : tie.Need-part-white-at-start Inv-loop μ-loop
 part-white-at-start c = search needs
 
--- src/lib.rt:257:26
 part-white-at-end : tie.Need-part-white-at-end Inv-loop μ-loop
 part-white-at-end c = search needs
 
--- src/lib.rt:257:13
 white-at-requires : tie.Need-white-at-requires Inv-loop μ-loop
 white-at-requires c κs = search needs
 
--- src/lib.rt:259:13
 returns : tie.Need-returns Inv-loop μ-loop
 returns c = search (needs, start-stop)
 
--- src/lib.rt:261:9
 add-i : tie.Need-add-i Inv-loop μ-loop
 add-i c = search (needs, start-fits)
 
--- src/lib.rt:256:5
 loop-less : tie.Need-loop-less Inv-loop μ-loop
 loop-less c = search needs
 
--- src/lib.rt:256:5
 loop-again : tie.Need-loop-again Inv-loop μ-loop
 loop-again c = search (needs, start-on)
 
--- src/lib.rt:252:1
 returns-2 : tie.Need-returns-2 Inv-loop μ-loop
 returns-2 c = search (needs, start-end)
 

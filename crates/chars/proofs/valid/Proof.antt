@@ -5,9 +5,6 @@ use lib.ListN.{length}
 use Prim.Native.Nat.{_-_}
 use Rattle.chars.proofs.valid.Statement.{statement}
 use Rattle.chars.proofs.valid.Tie as tie
-use Rattle.chars.proofs.valid.Reads as reads
-use Rattle.chars.proofs.valid.Lts as lts
-use Rattle.chars.proofs.width.Reads as width-reads
 
 abbrev Inv-loop : tie.InvT-loop
 Inv-loop s i₀ i = Checking s i
@@ -15,43 +12,33 @@ Inv-loop s i₀ i = Checking s i
 abbrev μ-loop : tie.MeasureT-loop
 μ-loop s i₀ i = length s - i
 
--- src/lib.rt:305:5
 loop-holds : tie.Need-loop-holds Inv-loop μ-loop
 loop-holds c = search needs
 
--- src/lib.rt:306:23
 sub-width : tie.Need-sub-width Inv-loop μ-loop
 sub-width c = search needs
 
--- src/lib.rt:306:23
 part-width-start : tie.Need-part-width-start Inv-loop μ-loop
 part-width-start c = search needs
 
--- src/lib.rt:306:23
 part-width-end : tie.Need-part-width-end Inv-loop μ-loop
 part-width-end c = search needs
 
--- src/lib.rt:306:13
 width-requires : tie.Need-width-requires Inv-loop μ-loop
 width-requires c κs = search needs
 
--- src/lib.rt:308:13
 returns : tie.Need-returns Inv-loop μ-loop
 returns c = search (needs, check-stop)
 
--- src/lib.rt:310:9
 add-i : tie.Need-add-i Inv-loop μ-loop
 add-i c = search (needs, check-fits)
 
--- src/lib.rt:305:5
 loop-less : tie.Need-loop-less Inv-loop μ-loop
 loop-less c = search needs
 
--- src/lib.rt:305:5
 loop-again : tie.Need-loop-again Inv-loop μ-loop
 loop-again c = search (needs, check-on)
 
--- src/lib.rt:301:1
 returns-2 : tie.Need-returns-2 Inv-loop μ-loop
 returns-2 c = search (needs, check-end)
 

@@ -2,18 +2,13 @@ use Rattle.slices.proofs.Bytes.{past}
 use borrow.Author.Needs.{needs}
 use Rattle.slices.proofs.peek.Statement.{statement}
 use Rattle.slices.proofs.peek.Tie as tie
-use Rattle.slices.proofs.peek.Reads as reads
-use Rattle.slices.proofs.peek.Lts as lts
 
--- src/lib.rt:13:22
 shared-slice-read-result : tie.Need-shared-slice-read-result
 shared-slice-read-result c = search needs
 
--- src/lib.rt:10:1
 returns : tie.Need-returns
 returns c = search needs
 
--- src/lib.rt:10:1
 returns-2 : tie.Need-returns-2
 returns-2 c = search (needs, past)
 

@@ -5,8 +5,6 @@ use Rattle.meaning.specs.Base.{zeros}
 use Prim.Native.Nat.{_-_}
 use Rattle.slices.proofs.zero.Statement.{statement}
 use Rattle.slices.proofs.zero.Tie as tie
-use Rattle.slices.proofs.zero.Reads as reads
-use Rattle.slices.proofs.zero.Lts as lts
 
 abbrev Inv-loop : tie.InvT-loop
 Inv-loop s₀ i₀ s i = Laid (zeros (length s₀)) s₀ s i
@@ -14,31 +12,24 @@ Inv-loop s₀ i₀ s i = Laid (zeros (length s₀)) s₀ s i
 abbrev μ-loop : tie.MeasureT-loop
 μ-loop s₀ i₀ s i = length s₀ - i
 
--- src/lib.rt:81:5
 loop-holds : tie.Need-loop-holds Inv-loop μ-loop
 loop-holds c = search (needs, zero-start)
 
--- src/lib.rt:82:9
 slice-write-s : tie.Need-slice-write-s Inv-loop μ-loop
 slice-write-s c = search needs
 
--- src/lib.rt:83:9
 add-i : tie.Need-add-i Inv-loop μ-loop
 add-i c = search needs
 
--- src/lib.rt:81:5
 loop-less : tie.Need-loop-less Inv-loop μ-loop
 loop-less c = search needs
 
--- src/lib.rt:81:5
 loop-again : tie.Need-loop-again Inv-loop μ-loop
 loop-again c = search (needs, zero-on)
 
--- src/lib.rt:77:1
 same-length : tie.Need-same-length Inv-loop μ-loop
 same-length c = search needs
 
--- src/lib.rt:77:1
 returns : tie.Need-returns Inv-loop μ-loop
 returns c = search (needs, zero-end)
 

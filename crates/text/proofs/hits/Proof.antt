@@ -2,15 +2,11 @@ use Rattle.meaning.specs.Quote.{hits}
 use Rattle.laws.specs.Tests.{tests}
 use Rattle.text.proofs.hits.Statement.{statement}
 use Rattle.text.proofs.hits.Tie as tie
-use Rattle.text.proofs.hits.Reads as reads
-use Rattle.text.proofs.hits.Lts as lts
 
--- src/lib.rt:78:1
 returns : tie.Need-returns
 unfolding hits
 returns c = search tests
 
--- src/lib.rt:78:1
 returns-2 : tie.Need-returns-2
 unfolding hits
 returns-2 c = search tests

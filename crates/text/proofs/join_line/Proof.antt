@@ -4,10 +4,6 @@ use lib.ListN.{length}
 use Prim.Native.Nat.{_-_}
 use Rattle.text.proofs.join_line.Statement.{statement}
 use Rattle.text.proofs.join_line.Tie as tie
-use Rattle.text.proofs.join_line.Reads as reads
-use Rattle.text.proofs.join_line.Lts as lts
-use Rattle.text.proofs.fate.Reads as fate-reads
-use Rattle.text.proofs.step.Reads as step-reads
 
 abbrev Inv-loop : tie.InvT-loop
 Inv-loop s i₀ m₀ c₀ i m c = Gathering s i m c
@@ -15,75 +11,57 @@ Inv-loop s i₀ m₀ c₀ i m c = Gathering s i m c
 abbrev μ-loop : tie.MeasureT-loop
 μ-loop s i₀ m₀ c₀ i m c = length s - i
 
--- src/lib.rt:249:5
 loop-holds : tie.Need-loop-holds Inv-loop μ-loop
 loop-holds c = search (needs, gather-start)
 
--- src/lib.rt:250:17
 shared-slice-read-b : tie.Need-shared-slice-read-b Inv-loop μ-loop
 shared-slice-read-b c = search needs
 
--- src/lib.rt:252:17
 fate-requires : tie.Need-fate-requires Inv-loop μ-loop
 fate-requires c κs = search needs
 
--- src/lib.rt:255:21
 enum-told : tie.Need-enum-told Inv-loop μ-loop
 enum-told c = search needs
 
--- src/lib.rt:255:21
 returns : tie.Need-returns Inv-loop μ-loop
 returns c = search (needs, over-here)
 
--- src/lib.rt:258:21
 enum-told-2 : tie.Need-enum-told-2 Inv-loop μ-loop
 enum-told-2 c = search needs
 
--- src/lib.rt:258:21
 returns-2 : tie.Need-returns-2 Inv-loop μ-loop
 returns-2 c = search (needs, whole-here)
 
--- src/lib.rt:261:21
 enum-told-3 : tie.Need-enum-told-3 Inv-loop μ-loop
 enum-told-3 c = search needs
 
--- src/lib.rt:261:21
 add-m : tie.Need-add-m Inv-loop μ-loop
 add-m c = search needs
 
--- src/lib.rt:262:21
 step-requires : tie.Need-step-requires Inv-loop μ-loop
 step-requires c κs = search needs
 
--- src/lib.rt:263:21
 add-i : tie.Need-add-i Inv-loop μ-loop
 add-i c = search needs
 
--- src/lib.rt:249:5
 loop-less : tie.Need-loop-less Inv-loop μ-loop
 loop-less c = search needs
 
--- src/lib.rt:249:5
 loop-again : tie.Need-loop-again Inv-loop μ-loop
 loop-again c = search (needs, gather-on)
 
--- src/lib.rt:267:13
 step-requires-2 : tie.Need-step-requires-2 Inv-loop μ-loop
 step-requires-2 c κs = search needs
 
--- src/lib.rt:268:13
 add-i-2 : tie.Need-add-i-2 Inv-loop μ-loop
 add-i-2 c = search needs
 
--- src/lib.rt:249:5
 loop-less-2 : tie.Need-loop-less-2 Inv-loop μ-loop
 loop-less-2 c = search needs
 
--- src/lib.rt:249:5
 loop-again-2 : tie.Need-loop-again-2 Inv-loop μ-loop
 loop-again-2 c = search (needs, gather-byte)
 
--- src/lib.rt:239:1
 returns-3 : tie.Need-returns-3 Inv-loop μ-loop
 returns-3 c = search (needs, open-here)
 

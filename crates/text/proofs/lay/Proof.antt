@@ -4,9 +4,6 @@ use lib.ListN.{length}
 use Prim.Native.Nat.{_-_}
 use Rattle.text.proofs.lay.Statement.{statement}
 use Rattle.text.proofs.lay.Tie as tie
-use Rattle.text.proofs.lay.Reads as reads
-use Rattle.text.proofs.lay.Lts as lts
-use Rattle.text.proofs.lay_line.Reads as lay-line-reads
 
 abbrev Inv-loop : tie.InvT-loop
 Inv-loop text scratch₀ i₀ j₀ scratch i j = Laying text scratch₀ scratch i j
@@ -14,59 +11,45 @@ Inv-loop text scratch₀ i₀ j₀ scratch i j = Laying text scratch₀ scratch 
 abbrev μ-loop : tie.MeasureT-loop
 μ-loop text scratch₀ i₀ j₀ scratch i j = length text - i
 
--- src/lib.rt:230:5
 loop-holds : tie.Need-loop-holds Inv-loop μ-loop
 loop-holds c = search (needs, lay-start)
 
--- src/lib.rt:231:26
 sub-lay-line : tie.Need-sub-lay-line Inv-loop μ-loop
 sub-lay-line c = search needs
 
--- src/lib.rt:231:26
 part-lay-line-start : tie.Need-part-lay-line-start Inv-loop μ-loop
 part-lay-line-start c = search needs
 
--- src/lib.rt:231:26
 part-lay-line-end : tie.Need-part-lay-line-end Inv-loop μ-loop
 part-lay-line-end c = search needs
 
--- src/lib.rt:231:38
 sub-lay-line-2 : tie.Need-sub-lay-line-2 Inv-loop μ-loop
 sub-lay-line-2 c = search needs
 
--- src/lib.rt:231:38
 part-lay-line-start-2 : tie.Need-part-lay-line-start-2 Inv-loop μ-loop
 part-lay-line-start-2 c = search needs
 
--- src/lib.rt:231:38
 part-lay-line-end-2 : tie.Need-part-lay-line-end-2 Inv-loop μ-loop
 part-lay-line-end-2 c = search needs
 
--- src/lib.rt:231:13
 lay-line-requires : tie.Need-lay-line-requires Inv-loop μ-loop
 lay-line-requires c κs = search (needs, lends)
 
--- src/lib.rt:232:9
 add-i : tie.Need-add-i Inv-loop μ-loop
 add-i c = search (needs, taken-within)
 
--- src/lib.rt:233:9
 add-j : tie.Need-add-j Inv-loop μ-loop
 add-j c = search (needs, written-within)
 
--- src/lib.rt:230:5
 loop-less : tie.Need-loop-less Inv-loop μ-loop
 loop-less c = search needs
 
--- src/lib.rt:230:5
 loop-again : tie.Need-loop-again Inv-loop μ-loop
 loop-again c = search (needs, lay-on)
 
--- src/lib.rt:224:1
 same-length : tie.Need-same-length Inv-loop μ-loop
 same-length c = search needs
 
--- src/lib.rt:224:1
 returns : tie.Need-returns Inv-loop μ-loop
 returns c = search (needs, lay-done)
 

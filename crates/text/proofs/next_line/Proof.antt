@@ -2,72 +2,52 @@ use Rattle.text.proofs.Walking.{at-end, over-there, open-there, end-wit
 use borrow.Author.Needs.{needs}
 use Rattle.text.proofs.next_line.Statement.{statement}
 use Rattle.text.proofs.next_line.Tie as tie
-use Rattle.text.proofs.next_line.Reads as reads
-use Rattle.text.proofs.next_line.Lts as lts
-use Rattle.text.proofs.join_line.Reads as join-line-reads
-use Rattle.text.proofs.skip.Reads as skip-reads
 
--- src/lib.rt:305:9
 skip-requires : tie.Need-skip-requires
 skip-requires c κs = search needs
 
--- src/lib.rt:309:9
 returns : tie.Need-returns
 returns c = search (needs, at-end)
 
--- src/lib.rt:311:23
 sub-join-line : tie.Need-sub-join-line
 sub-join-line c = search needs
 
--- src/lib.rt:311:23
 part-join-line-start : tie.Need-part-join-line-start
 part-join-line-start c = search needs
 
--- src/lib.rt:311:23
 part-join-line-end : tie.Need-part-join-line-end
 part-join-line-end c = search needs
 
--- src/lib.rt:311:9
 join-line-requires : tie.Need-join-line-requires
 join-line-requires c κs = search needs
 
--- src/lib.rt:313:24
 enum-told : tie.Need-enum-told
 enum-told c = search needs
 
--- src/lib.rt:314:24
 enum-told-2 : tie.Need-enum-told-2
 enum-told-2 c = search needs
 
--- src/lib.rt:315:24
 enum-known-j : tie.Need-enum-known-j
 enum-known-j c = search needs
 
--- src/lib.rt:317:18
 add-t16 : tie.Need-add-t16
 add-t16 c = search (needs, end-within)
 
--- src/lib.rt:320:21
 add-t17 : tie.Need-add-t17
 add-t17 c = search (needs, end-within)
 
--- src/lib.rt:320:21
 add-t18 : tie.Need-add-t18
 add-t18 c = search (needs, place-within)
 
--- src/lib.rt:321:23
 add-t19 : tie.Need-add-t19
 add-t19 c = search (needs, lines-within)
 
--- src/lib.rt:301:1
 returns-2 : tie.Need-returns-2
 returns-2 c = search (needs, over-there)
 
--- src/lib.rt:301:1
 returns-3 : tie.Need-returns-3
 returns-3 c = search (needs, open-there)
 
--- src/lib.rt:301:1
 returns-4 : tie.Need-returns-4
 returns-4 c = search (needs, line-there)
 

@@ -4,10 +4,6 @@ use lib.ListN.{length}
 use Prim.Native.Nat.{_-_}
 use Rattle.text.proofs.outside.Statement.{statement}
 use Rattle.text.proofs.outside.Tie as tie
-use Rattle.text.proofs.outside.Reads as reads
-use Rattle.text.proofs.outside.Lts as lts
-use Rattle.text.proofs.hits.Reads as hits-reads
-use Rattle.text.proofs.quote.Reads as quote-reads
 
 abbrev Inv-loop : tie.InvT-loop
 Inv-loop s c i₀ st₀ i st = Seeking s c i st
@@ -15,39 +11,30 @@ Inv-loop s c i₀ st₀ i st = Seeking s c i st
 abbrev μ-loop : tie.MeasureT-loop
 μ-loop s c i₀ st₀ i st = length s - i
 
--- src/lib.rt:134:5
 loop-holds : tie.Need-loop-holds Inv-loop μ-loop
 loop-holds c = search needs
 
--- src/lib.rt:135:17
 shared-slice-read-b : tie.Need-shared-slice-read-b Inv-loop μ-loop
 shared-slice-read-b c = search needs
 
--- src/lib.rt:136:12
 hits-requires : tie.Need-hits-requires Inv-loop μ-loop
 hits-requires c κs = search needs
 
--- src/lib.rt:137:13
 returns : tie.Need-returns Inv-loop μ-loop
 returns c = search (needs, seek-hit)
 
--- src/lib.rt:139:9
 quote-requires : tie.Need-quote-requires Inv-loop μ-loop
 quote-requires c κs = search needs
 
--- src/lib.rt:140:9
 add-i : tie.Need-add-i Inv-loop μ-loop
 add-i c = search needs
 
--- src/lib.rt:134:5
 loop-less : tie.Need-loop-less Inv-loop μ-loop
 loop-less c = search needs
 
--- src/lib.rt:134:5
 loop-again : tie.Need-loop-again Inv-loop μ-loop
 loop-again c = search (needs, seek-on)
 
--- src/lib.rt:129:1
 returns-2 : tie.Need-returns-2 Inv-loop μ-loop
 returns-2 c = search (needs, seek-end)
 

@@ -2,35 +2,27 @@ use Rattle.meaning.specs.Quote.{quote}
 use Rattle.laws.specs.Tests.{tests}
 use Rattle.text.proofs.quote.Statement.{statement}
 use Rattle.text.proofs.quote.Tie as tie
-use Rattle.text.proofs.quote.Reads as reads
-use Rattle.text.proofs.quote.Lts as lts
 
--- src/lib.rt:62:13
 returns : tie.Need-returns
 unfolding quote
 returns c = search tests
 
--- src/lib.rt:64:9
 returns-2 : tie.Need-returns-2
 unfolding quote
 returns-2 c = search tests
 
--- src/lib.rt:68:13
 returns-3 : tie.Need-returns-3
 unfolding quote
 returns-3 c = search tests
 
--- src/lib.rt:71:13
 returns-4 : tie.Need-returns-4
 unfolding quote
 returns-4 c = search tests
 
--- src/lib.rt:73:9
 returns-5 : tie.Need-returns-5
 unfolding quote
 returns-5 c = search tests
 
--- src/lib.rt:57:1
 returns-6 : tie.Need-returns-6
 unfolding quote
 returns-6 c = search tests

@@ -4,10 +4,6 @@ use lib.ListN.{length}
 use Prim.Native.Nat.{_-_}
 use Rattle.text.proofs.skip.Statement.{statement}
 use Rattle.text.proofs.skip.Tie as tie
-use Rattle.text.proofs.skip.Reads as reads
-use Rattle.text.proofs.skip.Lts as lts
-use Rattle.chars.proofs.blank.Reads as blank-reads
-use Rattle.slices.proofs.find.Reads as find-reads
 
 abbrev Inv-loop : tie.InvT-loop
 Inv-loop s at line i₀ n₀ i n = Skipping s at line i n
@@ -15,73 +11,56 @@ Inv-loop s at line i₀ n₀ i n = Skipping s at line i n
 abbrev μ-loop : tie.MeasureT-loop
 μ-loop s at line i₀ n₀ i n = length s - i
 
--- src/lib.rt:281:5
 loop-holds : tie.Need-loop-holds Inv-loop μ-loop
 loop-holds c = search (needs, skip-start)
 
--- src/lib.rt:282:30
 sub-find : tie.Need-sub-find Inv-loop μ-loop
 sub-find c = search needs
 
--- src/lib.rt:282:30
 part-find-start : tie.Need-part-find-start Inv-loop μ-loop
 part-find-start c = search needs
 
--- src/lib.rt:282:30
 part-find-end : tie.Need-part-find-end Inv-loop μ-loop
 part-find-end c = search needs
 
--- src/lib.rt:282:13
 find-requires : tie.Need-find-requires Inv-loop μ-loop
 find-requires c κs = search needs
 
--- src/lib.rt:283:17
 add-e : tie.Need-add-e Inv-loop μ-loop
 add-e c = search needs
 
--- src/lib.rt:285:13
 returns : tie.Need-returns Inv-loop μ-loop
 returns c = search (needs, skip-out)
 
--- src/lib.rt:290:25
 sub-blank : tie.Need-sub-blank Inv-loop μ-loop
 sub-blank c = search needs
 
--- src/lib.rt:290:25
 part-blank-start : tie.Need-part-blank-start Inv-loop μ-loop
 part-blank-start c = search needs
 
--- src/lib.rt:290:25
 part-blank-end : tie.Need-part-blank-end Inv-loop μ-loop
 part-blank-end c = search needs
 
--- src/lib.rt:290:12
 blank-requires : tie.Need-blank-requires Inv-loop μ-loop
 blank-requires c κs = search needs
 
--- src/lib.rt:291:17
 add-i : tie.Need-add-i Inv-loop μ-loop
 add-i c = search needs
 
--- src/lib.rt:292:13
 add-n : tie.Need-add-n Inv-loop μ-loop
 add-n c = search needs
 
--- src/lib.rt:281:5
 loop-less : tie.Need-loop-less Inv-loop μ-loop
 loop-less c = search needs
 
--- src/lib.rt:281:5
 loop-again : tie.Need-loop-again Inv-loop μ-loop
 loop-again c = search (needs, skip-on)
 
--- src/lib.rt:294:13
 returns-2 : tie.Need-returns-2 Inv-loop μ-loop
 returns-2 c = let b = c .before .before .before in
     skip-found _ _ _ _ _ (b .before .before .before .before .loop .inv) (b .before .before .before .loop-test .taken) _ (b .before .find .ensures)
     (b .if1 .left) _ (c .before .blank .ensures) (c .if2 .left)
 
--- src/lib.rt:275:1
 returns-3 : tie.Need-returns-3 Inv-loop μ-loop
 returns-3 c = search (needs, skip-end)
 

@@ -3,24 +3,17 @@ use Rattle.laws.specs.Tests.{calls}
 use borrow.Author.Needs.{needs}
 use Rattle.text.proofs.tally.Statement.{statement}
 use Rattle.text.proofs.tally.Tie as tie
-use Rattle.text.proofs.tally.Reads as reads
-use Rattle.text.proofs.tally.Lts as lts
-use Rattle.text.proofs.hits.Reads as hits-reads
 
--- src/lib.rt:88:8
 hits-requires : tie.Need-hits-requires
 hits-requires c κs = search needs
 
--- src/lib.rt:89:16
 add-result : tie.Need-add-result
 add-result c = search needs
 
--- src/lib.rt:89:9
 returns : tie.Need-returns
 unfolding tally
 returns c = search calls
 
--- src/lib.rt:84:1
 returns-2 : tie.Need-returns-2
 unfolding tally
 returns-2 c = search calls

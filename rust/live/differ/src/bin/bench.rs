@@ -60,7 +60,7 @@ fn port_pass(text: &str, scratch: &mut [u8]) -> usize {
     let laid = &scratch[..all.used];
     let (mut at, mut line, mut count) = (0, 1, 0);
     loop {
-        let l = black_box(text::next(laid, at, line));
+        let l = black_box(text::next(laid, at, line as u32));
         if l.kind != 1 {
             return count;
         }
