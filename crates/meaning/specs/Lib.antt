@@ -5,5 +5,7 @@ pub mod Utf8
 pub mod Space
 pub mod Quote
 pub mod Lines
+pub mod Integers
 pub mod Table
 pub mod Corners
+pub mod CornersValues

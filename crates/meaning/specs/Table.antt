@@ -2,10 +2,37 @@
 use Prim.Native.Nat.{ℕ}
 use mathlib.Core.List.{List, [], _∷_, _++_}
 use mathlib.Core.Path.{_≡_, refl}
+use lib.IntN.{pos, negsuc}
 use Rattle.meaning.specs.Base.{ascii}
 use Rattle.meaning.specs.Limits.{of01}
-use Rattle.meaning.specs.Refusal.{Answer, atLine}
+use Rattle.meaning.specs.Refusal.{Answer, atLine, ok, bad}
 use Rattle.meaning.specs.Lines.{lines, computes}
+use Rattle.meaning.specs.Integers.{integer}
+
+-- P1 "`0x-5` is -5"
+pub p1 : integer (ascii "0x-5") ≡ ok (negsuc 4)
+unfolding Rattle.meaning.specs.Integers.computes
+p1 = refl
+
+-- P2 "`-0x5` is 12"
+pub p2 : integer (ascii "-0x5") ≡ bad 12
+unfolding Rattle.meaning.specs.Integers.computes
+p2 = refl
+
+-- P3 "`0_x10` is 16"
+pub p3 : integer (ascii "0_x10") ≡ ok (pos 16)
+unfolding Rattle.meaning.specs.Integers.computes
+p3 = refl
+
+-- P4 "`0x7fffffffffffffff` is read"
+pub p4 : integer (ascii "0x7fffffffffffffff") ≡ ok (pos 9223372036854775807)
+unfolding Rattle.meaning.specs.Integers.computes
+p4 = refl
+
+-- P5 "`0x8000000000000000` is 12"
+pub p5 : integer (ascii "0x8000000000000000") ≡ bad 12
+unfolding Rattle.meaning.specs.Integers.computes
+p5 = refl
 
 -- P11 "line `x`, then `]`, is 3 at line 2"
 pub p11 : lines of01 (ascii "x" ++ 10 ∷ ascii "]") ≡ atLine 3 2

@@ -1,0 +1,19 @@
+use Rattle.meaning.specs.Integers.{most}
+use borrow.Author.Needs.{needs}
+use Rattle.scalar.proofs.integer.most.Statement.{statement}
+use Rattle.scalar.proofs.integer.most.Tie as tie
+use Rattle.scalar.proofs.integer.most.Reads as reads
+use Rattle.scalar.proofs.integer.most.Lts as lts
+
+-- src/integer.rt:87:1
+returns : tie.Need-returns
+unfolding most
+returns c = rw (c .if1 .taken)
+
+-- src/integer.rt:87:1
+returns-2 : tie.Need-returns-2
+unfolding most
+returns-2 c = rw (c .if1 .left)
+
+pub most-spec : {M : Type 1} → statement M
+most-spec = tie.close (tie.spec returns returns-2)
