@@ -1,0 +1,56 @@
+use Rattle.tree.proofs.Walks.{Walking, holds-next, walk-start, walk-on, walk-hit, walk-end}
+use Prim.Native.Nat.{_-_}
+use borrow.Author.Needs.{needs}
+use Rattle.tree.proofs.child.Statement.{statement}
+use Rattle.tree.proofs.child.Tie as tie
+use Rattle.tree.proofs.child.Reads as reads
+use Rattle.tree.proofs.child.Lts as lts
+use Rattle.tree.proofs.under.Reads as under-reads
+
+abbrev Inv-loop : tie.InvT-loop
+Inv-loop tree made parent from i₀ i = Walking tree made parent «from» i
+
+abbrev μ-loop : tie.MeasureT-loop
+μ-loop tree made parent from i₀ i = made - i
+
+-- src/lib.rt:128:5
+loop-holds : tie.Need-loop-holds Inv-loop μ-loop
+loop-holds c = search (needs, walk-start)
+
+-- src/lib.rt:129:12
+under-requires : tie.Need-under-requires Inv-loop μ-loop
+under-requires c κs = search (needs, holds-next)
+
+-- src/lib.rt:130:13
+returns : tie.Need-returns Inv-loop μ-loop
+returns c = search (needs, walk-hit)
+
+-- src/lib.rt:132:9
+add-i : tie.Need-add-i Inv-loop μ-loop
+add-i c = search needs
+
+-- src/lib.rt:128:5
+loop-less : tie.Need-loop-less Inv-loop μ-loop
+loop-less c = search needs
+
+-- src/lib.rt:128:5
+loop-again : tie.Need-loop-again Inv-loop μ-loop
+loop-again c = search (needs, walk-on)
+
+-- src/lib.rt:123:1
+returns-2 : tie.Need-returns-2 Inv-loop μ-loop
+returns-2 c = search (needs, walk-end)
+
+pub child-spec : {M : Type 1} → statement M
+child-spec =
+    tie.close
+    (tie.spec
+    Inv-loop
+    μ-loop
+    loop-holds
+    under-requires
+    returns
+    add-i
+    loop-less
+    loop-again
+    returns-2)

@@ -1,0 +1,32 @@
+use Rattle.tree.proofs.Walks.{mine-not, mine-is}
+use borrow.Author.Needs.{needs}
+use Rattle.tree.proofs.mine.Statement.{statement}
+use Rattle.tree.proofs.mine.Tie as tie
+use Rattle.tree.proofs.mine.Reads as reads
+use Rattle.tree.proofs.mine.Lts as lts
+use Rattle.tree.proofs.get.Reads as get-reads
+use Rattle.tree.proofs.keyed.Reads as keyed-reads
+use Rattle.tree.proofs.under.Reads as under-reads
+
+-- src/lib.rt:100:8
+under-requires : tie.Need-under-requires
+under-requires c κs = search needs
+
+-- src/lib.rt:101:13
+get-requires : tie.Need-get-requires
+get-requires c κs = search needs
+
+-- src/lib.rt:102:9
+keyed-requires : tie.Need-keyed-requires
+keyed-requires c κs = search needs
+
+-- src/lib.rt:102:9
+returns : tie.Need-returns
+returns c = search (needs, mine-is)
+
+-- src/lib.rt:96:1
+returns-2 : tie.Need-returns-2
+returns-2 c = search (needs, mine-not)
+
+pub mine-spec : {M : Type 1} → statement M
+mine-spec = tie.close (tie.spec under-requires get-requires keyed-requires returns returns-2)
