@@ -15,9 +15,16 @@ use Rattle.tree.specs.declared.Found.the-variants.{At, Nothing}
 pub record Holds (room : List ℕ) (n : ℕ) : Type 0 where
   pub fits : 32 * n ≤ length room
 
--- a value's 32 bytes: kind, a spare byte, parent, key and its length, data, 16 spare bytes
+-- parent, key and its length; data and 16 spare bytes
+unfoldable pub place : Slot → List ℕ
+place v = little 2 (v .parent) ++ (little 2 (v .key) ++ little 2 (v .len))
+
+unfoldable pub body : Slot → List ℕ
+body v = little 8 (v .«data») ++ zeros 16
+
+-- a value's 32 bytes: kind, a spare byte, where it hangs, what it is
 unfoldable pub cell : Slot → List ℕ
-cell v = v .kind ∷ 0 ∷ (little 2 (v .parent) ++ (little 2 (v .key) ++ (little 2 (v .len) ++ (little 8 (v .«data») ++ zeros 16))))
+cell v = v .kind ∷ 0 ∷ (place v ++ body v)
 
 -- what stands at number n
 unfoldable pub slotAt : List ℕ → ℕ → Slot

@@ -32,6 +32,26 @@ fn mark(tree: &mut [u8], at: usize, kind: u8)
     tree[at + 1] = 0;
 }
 
+// Where a value hangs: its parent, its key and the key's length.
+fn link(tree: &mut [u8], at: usize, v: Slot)
+    requires { ⌜ at + 6 ≤ length (now tree) ⌝ }
+    ensures { λ _. ⌜ now (tree .exit) ≡ stored (now (tree .entry)) at (room.place v) ⌝ }
+{
+    slices::put2(tree, at, v.parent);
+    slices::put2(tree, at + 2, v.key);
+    slices::put2(tree, at + 4, v.len);
+}
+
+// What a value is, and the spare bytes behind it.
+fn fill(tree: &mut [u8], at: usize, v: Slot)
+    requires { ⌜ at + 24 ≤ length (now tree) ⌝ }
+    ensures { λ _. ⌜ now (tree .exit) ≡ stored (now (tree .entry)) at (room.body v) ⌝ }
+{
+    slices::put8(tree, at, v.data);
+    slices::put8(tree, at + 8, 0);
+    slices::put8(tree, at + 16, 0);
+}
+
 // Writes value number n whole.
 pub fn put(tree: &mut [u8], n: usize, v: Slot)
     requires { ⌜ Holds (now tree) (n + 1) ⌝ }
@@ -39,12 +59,8 @@ pub fn put(tree: &mut [u8], n: usize, v: Slot)
 {
     let at = 32 * n;
     mark(tree, at, v.kind);
-    slices::put2(tree, at + 2, v.parent);
-    slices::put2(tree, at + 4, v.key);
-    slices::put2(tree, at + 6, v.len);
-    slices::put8(tree, at + 8, v.data);
-    slices::put8(tree, at + 16, 0);
-    slices::put8(tree, at + 24, 0);
+    link(tree, at + 2, v);
+    fill(tree, at + 8, v);
 }
 
 // Reads value number n.
@@ -154,8 +170,10 @@ pub fn count(tree: &[u8], made: usize, parent: u16) -> usize
     while i < made {
         if under(tree, i, parent) {
             n += 1;
+            i += 1;
+        } else {
+            i += 1;
         }
-        i += 1;
     }
     n
 }

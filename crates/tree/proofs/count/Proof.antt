@@ -1,3 +1,6 @@
+use Rattle.tree.proofs.Walks.{Counting, holds-next, count-hit, count-on, count-end}
+use Prim.Native.Nat.{_-_}
+use borrow.Author.Needs.{needs}
 use Rattle.tree.proofs.count.Statement.{statement}
 use Rattle.tree.proofs.count.Tie as tie
 use Rattle.tree.proofs.count.Reads as reads
@@ -5,40 +8,64 @@ use Rattle.tree.proofs.count.Lts as lts
 use Rattle.tree.proofs.under.Reads as under-reads
 
 abbrev Inv-loop : tie.InvT-loop
-Inv-loop tree made parent n₀ i₀ n i = ?
+Inv-loop tree made parent n₀ i₀ n i = Counting tree made parent n i
 
 abbrev μ-loop : tie.MeasureT-loop
-μ-loop tree made parent n₀ i₀ n i = ?
+μ-loop tree made parent n₀ i₀ n i = made - i
 
--- src/lib.rt:144:5
+-- src/lib.rt:170:5
 loop-holds : tie.Need-loop-holds Inv-loop μ-loop
 loop-holds c = search needs
 
--- src/lib.rt:145:12
+-- src/lib.rt:171:12
 under-requires : tie.Need-under-requires Inv-loop μ-loop
-under-requires c κs = search needs
+under-requires c κs = search (needs, holds-next)
 
--- src/lib.rt:146:13
+-- src/lib.rt:172:13
 add-n : tie.Need-add-n Inv-loop μ-loop
 add-n c = search needs
 
--- src/lib.rt:148:9
+-- src/lib.rt:173:13
 add-i : tie.Need-add-i Inv-loop μ-loop
 add-i c = search needs
 
--- src/lib.rt:144:5
+-- src/lib.rt:170:5
 loop-less : tie.Need-loop-less Inv-loop μ-loop
 loop-less c = search needs
 
--- src/lib.rt:144:5
+-- src/lib.rt:170:5
 loop-again : tie.Need-loop-again Inv-loop μ-loop
-loop-again c = search needs
+loop-again c = search (needs, count-hit)
 
--- src/lib.rt:138:1
+-- src/lib.rt:175:13
+add-i-2 : tie.Need-add-i-2 Inv-loop μ-loop
+add-i-2 c = search needs
+
+-- src/lib.rt:170:5
+loop-less-2 : tie.Need-loop-less-2 Inv-loop μ-loop
+loop-less-2 c = search needs
+
+-- src/lib.rt:170:5
+loop-again-2 : tie.Need-loop-again-2 Inv-loop μ-loop
+loop-again-2 c = search (needs, count-on)
+
+-- src/lib.rt:164:1
 returns : tie.Need-returns Inv-loop μ-loop
-returns c = search needs
+returns c = search (needs, count-end)
 
 pub count-spec : {M : Type 1} → statement M
 count-spec =
     tie.close
-    (tie.spec Inv-loop μ-loop loop-holds under-requires add-n add-i loop-less loop-again returns)
+    (tie.spec
+    Inv-loop
+    μ-loop
+    loop-holds
+    under-requires
+    add-n
+    add-i
+    loop-less
+    loop-again
+    add-i-2
+    loop-less-2
+    loop-again-2
+    returns)
