@@ -53,7 +53,7 @@ module _ (room : List ℕ) (at : ℕ) (bs : List ℕ) where
       let n : length head ≡ next = head-long h ∙ sym e in
       let m : at + length (bs ++ cs) ≡ next + length cs = omega (arith, length-append bs cs) in
       let d : drop (next + length cs) (head ++ rest) ≡ drop (next + length cs) room =
-        sym (drop-drop (length cs) next (head ++ rest)) ∙ ap (drop (length cs)) (drop-at head rest next n) ∙ drop-drop (length cs) (at + length bs) room ∙ ap (λ (k : ℕ). drop (k + length cs) room) (sym e) in
+      sym (drop-drop (length cs) next (head ++ rest)) ∙ ap (drop (length cs)) (drop-at head rest next n) ∙ drop-drop (length cs) (at + length bs) room ∙ ap (λ (k : ℕ). drop (k + length cs) room) (sym e) in
       ap (λ (l : List ℕ). take next l ++ (cs ++ drop (next + length cs) l)) split
       ∙ ap (λ (l : List ℕ). l ++ (cs ++ drop (next + length cs) (head ++ rest))) (take-at head rest next n)
       ∙ ap (λ (l : List ℕ). head ++ (cs ++ l)) d

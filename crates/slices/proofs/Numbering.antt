@@ -34,7 +34,7 @@ module _ (s₀ s : List ℕ) (at k n end i m : ℕ) where
         room = a .room;
         long = length-set s i (m % 256) ∙ a .long;
         left = stored-cons s (little (end - (i + 1)) (m / 256)) i (m % 256) (omega (arith, a .long, a .room))
-          ∙ ap (λ (j : ℕ). stored s i (little j m)) (sym e) ∙ a .left;
+            ∙ ap (λ (j : ℕ). stored s i (little j m)) (sym e) ∙ a .left;
       }
 
   pub lay-end : Laying s₀ at k n end s i m → end ≤ i → s ≡ stored s₀ at (little k n)

@@ -36,7 +36,7 @@ module _ (room : List ℕ) (n : ℕ) (v : Slot) (h : Holds room (n + 1)) where
   unfolding slotAt cell place body
   slot-same s =
       let e : getD (stored room (32 * n) (cell v)) (32 * n) 0 ≡ v .kind =
-        rw (add-zero (32 * n)) at (stored-in room (32 * n) (cell v) 0 low (omega (arith, length-cell v))) in
+      rw (add-zero (32 * n)) at (stored-in room (32 * n) (cell v) 0 low (omega (arith, length-cell v))) in
       let p : number 2 (stored room (32 * n) (cell v)) (32 * n + 2) ≡ v .parent = number-cell 2 2 (omega arith) ∙ number-little 2 (v .parent) (s .parent) in
       let k : number 2 (stored room (32 * n) (cell v)) (32 * n + 4) ≡ v .key = number-cell 2 4 (omega arith) ∙ number-little 2 (v .key) (s .key) in
       let l : number 2 (stored room (32 * n) (cell v)) (32 * n + 6) ≡ v .len = number-cell 2 6 (omega arith) ∙ number-little 2 (v .len) (s .len) in

@@ -150,12 +150,12 @@ pub fn child(tree: &[u8], made: usize, parent: u16, from: usize) -> Found
     requires { ⌜ Holds (now tree) made ⌝ }
     ensures { λ r. ⌜ Finds from made (room.child (now (tree .entry)) made parent from) r ⌝ }
 {
-    let mut i = from;
-    while i < made {
-        if under(tree, i, parent) {
-            return Found::At(i);
+    let mut n = from;
+    while n < made {
+        if under(tree, n, parent) {
+            return Found::At(n);
         }
-        i += 1;
+        n += 1;
     }
     Found::Nothing
 }

@@ -8,10 +8,10 @@ use Rattle.tree.proofs.child.Lts as lts
 use Rattle.tree.proofs.under.Reads as under-reads
 
 abbrev Inv-loop : tie.InvT-loop
-Inv-loop tree made parent from i₀ i = Walking tree made parent «from» i
+Inv-loop tree made parent from n₀ n = Walking tree made parent from n
 
 abbrev μ-loop : tie.MeasureT-loop
-μ-loop tree made parent from i₀ i = made - i
+μ-loop tree made parent from n₀ n = made - n
 
 -- src/lib.rt:128:5
 loop-holds : tie.Need-loop-holds Inv-loop μ-loop
@@ -26,8 +26,8 @@ returns : tie.Need-returns Inv-loop μ-loop
 returns c = search (needs, walk-hit)
 
 -- src/lib.rt:132:9
-add-i : tie.Need-add-i Inv-loop μ-loop
-add-i c = search needs
+add-n : tie.Need-add-n Inv-loop μ-loop
+add-n c = search needs
 
 -- src/lib.rt:128:5
 loop-less : tie.Need-loop-less Inv-loop μ-loop
@@ -50,7 +50,7 @@ child-spec =
     loop-holds
     under-requires
     returns
-    add-i
+    add-n
     loop-less
     loop-again
     returns-2)
