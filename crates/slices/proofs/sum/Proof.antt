@@ -13,43 +13,33 @@ Inv-loop s at k i₀ r₀ i r = Summing s at k i r
 abbrev μ-loop : tie.MeasureT-loop
 μ-loop s at k i₀ r₀ i r = i
 
--- src/lib.rt:110:17
 add-i : tie.Need-add-i Inv-loop μ-loop
 add-i c = search needs
 
--- src/lib.rt:112:5
 loop-holds : tie.Need-loop-holds Inv-loop μ-loop
 loop-holds c = search (needs, sum-start)
 
--- src/lib.rt:113:9
 sub-i : tie.Need-sub-i Inv-loop μ-loop
 sub-i c = search needs
 
--- src/lib.rt:114:13
 mul-r : tie.Need-mul-r Inv-loop μ-loop
 mul-r c = search (needs, sum-shifts)
 
--- src/lib.rt:114:23
 shared-slice-read-r : tie.Need-shared-slice-read-r Inv-loop μ-loop
 shared-slice-read-r c = search needs
 
--- src/lib.rt:114:23
 cast-r : tie.Need-cast-r Inv-loop μ-loop
 cast-r c = omega (arith, c .shared-slice-known .given (c .before .before .loop .i - 1))
 
--- src/lib.rt:114:13
 add-r : tie.Need-add-r Inv-loop μ-loop
 add-r c = search (needs, sum-fits, c .shared-slice-known .given)
 
--- src/lib.rt:112:5
 loop-less : tie.Need-loop-less Inv-loop μ-loop
 loop-less c = search needs
 
--- src/lib.rt:112:5
 loop-again : tie.Need-loop-again Inv-loop μ-loop
 loop-again c = search (needs, sum-on, c .shared-slice-known .given)
 
--- src/lib.rt:106:1
 returns : tie.Need-returns Inv-loop μ-loop
 returns c = search (needs, sum-end)
 

@@ -13,31 +13,24 @@ Inv-loop tree made parent from n₀ n = Walking tree made parent from n
 abbrev μ-loop : tie.MeasureT-loop
 μ-loop tree made parent from n₀ n = made - n
 
--- src/lib.rt:128:5
 loop-holds : tie.Need-loop-holds Inv-loop μ-loop
 loop-holds c = search (needs, walk-start)
 
--- src/lib.rt:129:12
 under-requires : tie.Need-under-requires Inv-loop μ-loop
 under-requires c κs = search (needs, holds-next)
 
--- src/lib.rt:130:13
 returns : tie.Need-returns Inv-loop μ-loop
 returns c = search (needs, walk-hit)
 
--- src/lib.rt:132:9
 add-n : tie.Need-add-n Inv-loop μ-loop
 add-n c = search needs
 
--- src/lib.rt:128:5
 loop-less : tie.Need-loop-less Inv-loop μ-loop
 loop-less c = search needs
 
--- src/lib.rt:128:5
 loop-again : tie.Need-loop-again Inv-loop μ-loop
 loop-again c = search (needs, walk-on)
 
--- src/lib.rt:123:1
 returns-2 : tie.Need-returns-2 Inv-loop μ-loop
 returns-2 c = search (needs, walk-end)
 

@@ -6,31 +6,24 @@ use Rattle.tree.proofs.fill.Reads as reads
 use Rattle.tree.proofs.fill.Lts as lts
 use Rattle.slices.proofs.put8.Reads as put8-reads
 
--- src/lib.rt:50:5
 put8-requires : tie.Need-put8-requires
 put8-requires c κs = search needs
 
--- src/lib.rt:51:24
 add-put8 : tie.Need-add-put8
 add-put8 c = search needs
 
--- src/lib.rt:51:5
 put8-requires-2 : tie.Need-put8-requires-2
 put8-requires-2 c κs = search needs
 
--- src/lib.rt:52:24
 add-put8-2 : tie.Need-add-put8-2
 add-put8-2 c = search needs
 
--- src/lib.rt:52:5
 put8-requires-3 : tie.Need-put8-requires-3
 put8-requires-3 c κs = search needs
 
--- src/lib.rt:46:1
 same-length : tie.Need-same-length
 same-length c = search needs
 
--- src/lib.rt:46:1
 returns : tie.Need-returns
 returns c = search (needs, filled)
 

@@ -12,31 +12,24 @@ Inv-loop tree store made parent key i₀ i = Looking tree store key made parent 
 abbrev μ-loop : tie.MeasureT-loop
 μ-loop tree store made parent key i₀ i = i
 
--- src/lib.rt:113:5
 loop-holds : tie.Need-loop-holds Inv-loop μ-loop
 loop-holds c = search (needs, look-start)
 
--- src/lib.rt:114:9
 sub-i : tie.Need-sub-i Inv-loop μ-loop
 sub-i c = search needs
 
--- src/lib.rt:115:12
 mine-requires : tie.Need-mine-requires Inv-loop μ-loop
 mine-requires c κs = search (needs, look-room)
 
--- src/lib.rt:116:13
 returns : tie.Need-returns Inv-loop μ-loop
 returns c = search (needs, look-hit)
 
--- src/lib.rt:113:5
 loop-less : tie.Need-loop-less Inv-loop μ-loop
 loop-less c = search needs
 
--- src/lib.rt:113:5
 loop-again : tie.Need-loop-again Inv-loop μ-loop
 loop-again c = search (needs, look-on)
 
--- src/lib.rt:108:1
 returns-2 : tie.Need-returns-2 Inv-loop μ-loop
 returns-2 c = search (needs, look-end)
 

@@ -7,47 +7,36 @@ use Rattle.tree.proofs.get.Lts as lts
 use Rattle.slices.proofs.get2.Reads as get2-reads
 use Rattle.slices.proofs.get8.Reads as get8-reads
 
--- src/lib.rt:45:14
 mul-at : tie.Need-mul-at
 mul-at c = search needs
 
--- src/lib.rt:46:37
 add-get2 : tie.Need-add-get2
 add-get2 c = search needs
 
--- src/lib.rt:46:9
 get2-requires : tie.Need-get2-requires
 get2-requires c κs = search needs
 
--- src/lib.rt:47:34
 add-get2-2 : tie.Need-add-get2-2
 add-get2-2 c = search needs
 
--- src/lib.rt:47:9
 get2-requires-2 : tie.Need-get2-requires-2
 get2-requires-2 c κs = search needs
 
--- src/lib.rt:48:34
 add-get2-3 : tie.Need-add-get2-3
 add-get2-3 c = search needs
 
--- src/lib.rt:48:9
 get2-requires-3 : tie.Need-get2-requires-3
 get2-requires-3 c κs = search needs
 
--- src/lib.rt:49:35
 add-get8 : tie.Need-add-get8
 add-get8 c = search needs
 
--- src/lib.rt:49:9
 get8-requires : tie.Need-get8-requires
 get8-requires c κs = search needs
 
--- src/lib.rt:51:15
 shared-slice-read-t10 : tie.Need-shared-slice-read-t10
 shared-slice-read-t10 c = search needs
 
--- src/lib.rt:41:1
 returns : tie.Need-returns
 returns c = search (needs, got)
 

@@ -7,19 +7,15 @@ use Rattle.tree.proofs.hang.Lts as lts
 use Rattle.tree.proofs.get.Reads as get-reads
 use Rattle.tree.proofs.put.Reads as put-reads
 
--- src/lib.rt:64:9
 get-requires : tie.Need-get-requires
 get-requires c κs = search needs
 
--- src/lib.rt:72:5
 put-requires : tie.Need-put-requires
 put-requires c κs = search needs
 
--- src/lib.rt:60:1
 same-length : tie.Need-same-length
 same-length c = search needs
 
--- src/lib.rt:60:1
 returns : tie.Need-returns
 returns c = search (needs, hung-up)
 

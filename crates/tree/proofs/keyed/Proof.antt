@@ -6,39 +6,30 @@ use Rattle.tree.proofs.keyed.Reads as reads
 use Rattle.tree.proofs.keyed.Lts as lts
 use Rattle.slices.proofs.same.Reads as same-reads
 
--- src/lib.rt:88:16
 cast-from : tie.Need-cast-from
 cast-from c = search needs
 
--- src/lib.rt:89:22
 cast-end : tie.Need-cast-end
 cast-end c = search needs
 
--- src/lib.rt:89:15
 add-end : tie.Need-add-end
 add-end c = search needs
 
--- src/lib.rt:91:9
 returns : tie.Need-returns
 returns c = search (needs, keyed-past)
 
--- src/lib.rt:93:18
 sub-same : tie.Need-sub-same
 sub-same c = search needs
 
--- src/lib.rt:93:18
 part-same-start : tie.Need-part-same-start
 part-same-start c = search needs
 
--- src/lib.rt:93:18
 part-same-end : tie.Need-part-same-end
 part-same-end c = search needs
 
--- src/lib.rt:93:5
 same-requires : tie.Need-same-requires
 same-requires c κs = search needs
 
--- src/lib.rt:85:1
 returns-2 : tie.Need-returns-2
 returns-2 c = search (needs, keyed-is)
 

@@ -6,31 +6,24 @@ use Rattle.tree.proofs.link.Reads as reads
 use Rattle.tree.proofs.link.Lts as lts
 use Rattle.slices.proofs.put2.Reads as put2-reads
 
--- src/lib.rt:40:5
 put2-requires : tie.Need-put2-requires
 put2-requires c κs = search needs
 
--- src/lib.rt:41:24
 add-put2 : tie.Need-add-put2
 add-put2 c = search needs
 
--- src/lib.rt:41:5
 put2-requires-2 : tie.Need-put2-requires-2
 put2-requires-2 c κs = search needs
 
--- src/lib.rt:42:24
 add-put2-2 : tie.Need-add-put2-2
 add-put2-2 c = search needs
 
--- src/lib.rt:42:5
 put2-requires-3 : tie.Need-put2-requires-3
 put2-requires-3 c κs = search needs
 
--- src/lib.rt:36:1
 same-length : tie.Need-same-length
 same-length c = search needs
 
--- src/lib.rt:36:1
 returns : tie.Need-returns
 returns c = search (needs, linked)
 

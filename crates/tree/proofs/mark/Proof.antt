@@ -5,23 +5,18 @@ use Rattle.tree.proofs.mark.Tie as tie
 use Rattle.tree.proofs.mark.Reads as reads
 use Rattle.tree.proofs.mark.Lts as lts
 
--- src/lib.rt:31:5
 slice-write-tree : tie.Need-slice-write-tree
 slice-write-tree c = search needs
 
--- src/lib.rt:32:10
 add-tree : tie.Need-add-tree
 add-tree c = search needs
 
--- src/lib.rt:32:5
 slice-write-tree-2 : tie.Need-slice-write-tree-2
 slice-write-tree-2 c = search (needs, mark-second)
 
--- src/lib.rt:27:1
 same-length : tie.Need-same-length
 same-length c = search needs
 
--- src/lib.rt:27:1
 returns : tie.Need-returns
 returns c = search (needs, marked)
 

@@ -8,23 +8,18 @@ use Rattle.tree.proofs.get.Reads as get-reads
 use Rattle.tree.proofs.keyed.Reads as keyed-reads
 use Rattle.tree.proofs.under.Reads as under-reads
 
--- src/lib.rt:100:8
 under-requires : tie.Need-under-requires
 under-requires c κs = search needs
 
--- src/lib.rt:101:13
 get-requires : tie.Need-get-requires
 get-requires c κs = search needs
 
--- src/lib.rt:102:9
 keyed-requires : tie.Need-keyed-requires
 keyed-requires c κs = search needs
 
--- src/lib.rt:102:9
 returns : tie.Need-returns
 returns c = search (needs, mine-is)
 
--- src/lib.rt:96:1
 returns-2 : tie.Need-returns-2
 returns-2 c = search (needs, mine-not)
 

@@ -8,35 +8,27 @@ use Rattle.tree.proofs.fill.Reads as fill-reads
 use Rattle.tree.proofs.link.Reads as link-reads
 use Rattle.tree.proofs.mark.Reads as mark-reads
 
--- src/lib.rt:60:14
 mul-at : tie.Need-mul-at
 mul-at c = search needs
 
--- src/lib.rt:61:5
 mark-requires : tie.Need-mark-requires
 mark-requires c κs = search needs
 
--- src/lib.rt:62:16
 add-link : tie.Need-add-link
 add-link c = search needs
 
--- src/lib.rt:62:5
 link-requires : tie.Need-link-requires
 link-requires c κs = search needs
 
--- src/lib.rt:63:16
 add-fill : tie.Need-add-fill
 add-fill c = search needs
 
--- src/lib.rt:63:5
 fill-requires : tie.Need-fill-requires
 fill-requires c κs = search needs
 
--- src/lib.rt:56:1
 same-length : tie.Need-same-length
 same-length c = search needs
 
--- src/lib.rt:56:1
 returns : tie.Need-returns
 returns c = search (needs, put-whole)
 

@@ -6,19 +6,15 @@ use Rattle.tree.proofs.under.Reads as reads
 use Rattle.tree.proofs.under.Lts as lts
 use Rattle.slices.proofs.get2.Reads as get2-reads
 
--- src/lib.rt:80:14
 mul-at : tie.Need-mul-at
 mul-at c = search needs
 
--- src/lib.rt:81:24
 add-get2 : tie.Need-add-get2
 add-get2 c = search needs
 
--- src/lib.rt:81:5
 get2-requires : tie.Need-get2-requires
 get2-requires c κs = search needs
 
--- src/lib.rt:76:1
 returns : tie.Need-returns
 returns c = search (needs, under-is)
 
