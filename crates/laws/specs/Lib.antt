@@ -4,3 +4,4 @@ pub mod Parts
 pub mod Chars
 pub mod Trim
 pub mod Scans
+pub mod Stored

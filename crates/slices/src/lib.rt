@@ -2,10 +2,12 @@
 
 ghost use mathlib.Core.Path.{_≡_};
 ghost use mathlib.Core.List.{_++_};
-ghost use Prim.Native.Nat.{_≤_};
+ghost use Prim.Native.Nat.{_+_, _≤_};
 ghost use lib.ListN.{length, getD, drop};
 ghost use Rattle.meaning.specs.Base as base;
+ghost use Rattle.laws.specs.Stored.{stored};
 ghost use Rattle.slices.specs.Found.{Found};
+ghost use Rattle.slices.specs.Numbers.{Reading, Read, little, number};
 
 // The byte at i, or 0 from the end on.
 pub fn peek(s: &[u8], i: usize) -> u8
@@ -83,4 +85,61 @@ pub fn zero(s: &mut [u8])
         s[i] = 0;
         i += 1;
     }
+}
+
+// Lays the k bytes of n, the least first.
+fn lay(s: &mut [u8], at: usize, k: usize, n: u64)
+    requires { ⌜ at + k ≤ length (now s) ⌝ }
+    ensures { λ _. ⌜ now (s .exit) ≡ stored (now (s .entry)) at (little k n) ⌝ }
+{
+    let end = at + k;
+    let mut i = at;
+    let mut m = n;
+    while i < end {
+        s[i] = (m % 256) as u8;
+        m = m / 256;
+        i += 1;
+    }
+}
+
+// The number that k bytes make, the least first.
+fn sum(s: &[u8], at: usize, k: usize) -> u64
+    requires { ⌜ Reading (now s) at k ⌝ }
+    ensures { λ r. ⌜ Read (now (s .entry)) at k r ⌝ }
+{
+    let mut i = at + k;
+    let mut r: u64 = 0;
+    while at < i {
+        i -= 1;
+        r = r * 256 + s[i] as u64;
+    }
+    r
+}
+
+pub fn put2(s: &mut [u8], at: usize, n: u16)
+    requires { ⌜ at + 2 ≤ length (now s) ⌝ }
+    ensures { λ _. ⌜ now (s .exit) ≡ stored (now (s .entry)) at (little 2 n) ⌝ }
+{
+    lay(s, at, 2, n as u64);
+}
+
+pub fn put8(s: &mut [u8], at: usize, n: u64)
+    requires { ⌜ at + 8 ≤ length (now s) ⌝ }
+    ensures { λ _. ⌜ now (s .exit) ≡ stored (now (s .entry)) at (little 8 n) ⌝ }
+{
+    lay(s, at, 8, n);
+}
+
+pub fn get2(s: &[u8], at: usize) -> u16
+    requires { ⌜ at + 2 ≤ length (now s) ⌝ }
+    ensures { λ r. ⌜ r ≡ number 2 (now (s .entry)) at ⌝ }
+{
+    sum(s, at, 2) as u16
+}
+
+pub fn get8(s: &[u8], at: usize) -> u64
+    requires { ⌜ at + 8 ≤ length (now s) ⌝ }
+    ensures { λ r. ⌜ r ≡ number 8 (now (s .entry)) at ⌝ }
+{
+    sum(s, at, 8)
 }

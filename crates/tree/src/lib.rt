@@ -1,0 +1,179 @@
+// The tree room: values of 32 bytes each in the order they are made, each hung up under a parent. Only this crate knows the layout.
+
+ghost use mathlib.Core.Path.{_≡_};
+ghost use mathlib.Core.List.{[], _∷_};
+ghost use Prim.Native.Nat.{_+_, _*_, _≤_};
+ghost use lib.ListN.{length};
+ghost use Rattle.laws.specs.Stored.{stored};
+ghost use Rattle.tree.specs.Room as room;
+ghost use Rattle.tree.specs.Room.{Holds, Finds, Counts, cell, slotAt, hung};
+
+// A value. Its kind: 1 string, 2 integer, 3 boolean, 4 array, 5 table. Its parent: 0 none yet, 1 the root, n + 2 value number n.
+// Its key is len bytes of the text store. Its data: an integer's 64 bits; start + 65536 * length of a string; 0 or 1; else 0.
+pub struct Slot {
+    pub kind: u8,
+    pub parent: u16,
+    pub key: u16,
+    pub len: u16,
+    pub data: u64,
+}
+
+pub enum Found {
+    At(usize),
+    Nothing,
+}
+
+// The kind and the spare byte behind it.
+fn mark(tree: &mut [u8], at: usize, kind: u8)
+    requires { ⌜ at + 2 ≤ length (now tree) ⌝ }
+    ensures { λ _. ⌜ now (tree .exit) ≡ stored (now (tree .entry)) at (kind ∷ 0 ∷ []) ⌝ }
+{
+    tree[at] = kind;
+    tree[at + 1] = 0;
+}
+
+// Where a value hangs: its parent, its key and the key's length.
+fn link(tree: &mut [u8], at: usize, v: Slot)
+    requires { ⌜ at + 6 ≤ length (now tree) ⌝ }
+    ensures { λ _. ⌜ now (tree .exit) ≡ stored (now (tree .entry)) at (room.place v) ⌝ }
+{
+    slices::put2(tree, at, v.parent);
+    slices::put2(tree, at + 2, v.key);
+    slices::put2(tree, at + 4, v.len);
+}
+
+// What a value is, and the spare bytes behind it.
+fn fill(tree: &mut [u8], at: usize, v: Slot)
+    requires { ⌜ at + 24 ≤ length (now tree) ⌝ }
+    ensures { λ _. ⌜ now (tree .exit) ≡ stored (now (tree .entry)) at (room.body v) ⌝ }
+{
+    slices::put8(tree, at, v.data);
+    slices::put8(tree, at + 8, 0);
+    slices::put8(tree, at + 16, 0);
+}
+
+// Writes value number n whole.
+pub fn put(tree: &mut [u8], n: usize, v: Slot)
+    requires { ⌜ Holds (now tree) (n + 1) ⌝ }
+    ensures { λ _. ⌜ now (tree .exit) ≡ stored (now (tree .entry)) (32 * n) (cell v) ⌝ }
+{
+    let at = 32 * n;
+    mark(tree, at, v.kind);
+    link(tree, at + 2, v);
+    fill(tree, at + 8, v);
+}
+
+// Reads value number n.
+pub fn get(tree: &[u8], n: usize) -> Slot
+    requires { ⌜ Holds (now tree) (n + 1) ⌝ }
+    ensures { λ r. ⌜ r ≡ slotAt (now (tree .entry)) n ⌝ }
+{
+    let at = 32 * n;
+    let parent = slices::get2(tree, at + 2);
+    let key = slices::get2(tree, at + 4);
+    let len = slices::get2(tree, at + 6);
+    let data = slices::get8(tree, at + 8);
+    Slot {
+        kind: tree[at],
+        parent: parent,
+        key: key,
+        len: len,
+        data: data,
+    }
+}
+
+// Hangs value number n up under a parent, with a key; an array's item has the key of no bytes.
+pub fn hang(tree: &mut [u8], n: usize, parent: u16, key: u16, len: u16)
+    requires { ⌜ Holds (now tree) (n + 1) ⌝ }
+    ensures { λ _. ⌜ now (tree .exit) ≡ stored (now (tree .entry)) (32 * n) (cell (hung parent key len (slotAt (now (tree .entry)) n))) ⌝ }
+{
+    let v = get(tree, n);
+    let w = Slot {
+        kind: v.kind,
+        parent: parent,
+        key: key,
+        len: len,
+        data: v.data,
+    };
+    put(tree, n, w);
+}
+
+// Whether value number n hangs under the parent.
+fn under(tree: &[u8], n: usize, parent: u16) -> bool
+    requires { ⌜ Holds (now tree) (n + 1) ⌝ }
+    ensures { λ r. ⌜ r ≡ room.under (now (tree .entry)) n parent ⌝ }
+{
+    let at = 32 * n;
+    slices::get2(tree, at + 2) == parent
+}
+
+// Whether the value's key is these bytes.
+fn keyed(store: &[u8], v: Slot, key: &[u8]) -> bool
+    ensures { λ r. ⌜ r ≡ room.keyed (now (store .entry)) v (now (key .entry)) ⌝ }
+{
+    let from = v.key as usize;
+    let end = from + v.len as usize;
+    if store.len() < end {
+        return false;
+    }
+    slices::same(&store[from..end], key)
+}
+
+fn mine(tree: &[u8], store: &[u8], n: usize, parent: u16, key: &[u8]) -> bool
+    requires { ⌜ Holds (now tree) (n + 1) ⌝ }
+    ensures { λ r. ⌜ r ≡ room.mine (now (tree .entry)) (now (store .entry)) n parent (now (key .entry)) ⌝ }
+{
+    if under(tree, n, parent) {
+        let v = get(tree, n);
+        return keyed(store, v, key);
+    }
+    false
+}
+
+// The newest of the values made that hangs under the parent with the key.
+pub fn find(tree: &[u8], store: &[u8], made: usize, parent: u16, key: &[u8]) -> Found
+    requires { ⌜ Holds (now tree) made ⌝ }
+    ensures { λ r. ⌜ Finds 0 made (room.look (now (tree .entry)) (now (store .entry)) made parent (now (key .entry))) r ⌝ }
+{
+    let mut i = made;
+    while 0 < i {
+        i -= 1;
+        if mine(tree, store, i, parent, key) {
+            return Found::At(i);
+        }
+    }
+    Found::Nothing
+}
+
+// The first of the values made that hangs under the parent, from a number on.
+pub fn child(tree: &[u8], made: usize, parent: u16, from: usize) -> Found
+    requires { ⌜ Holds (now tree) made ⌝ }
+    ensures { λ r. ⌜ Finds from made (room.child (now (tree .entry)) made parent from) r ⌝ }
+{
+    let mut n = from;
+    while n < made {
+        if under(tree, n, parent) {
+            return Found::At(n);
+        }
+        n += 1;
+    }
+    Found::Nothing
+}
+
+// How many of the values made hang under the parent.
+pub fn count(tree: &[u8], made: usize, parent: u16) -> usize
+    requires { ⌜ Holds (now tree) made ⌝ }
+    ensures { λ r. ⌜ Counts (now (tree .entry)) made parent r ⌝ }
+{
+    let mut n: usize = 0;
+    let mut i = 0;
+    while i < made {
+        if under(tree, i, parent) {
+            n += 1;
+            i += 1;
+        } else {
+            i += 1;
+        }
+    }
+    n
+}
