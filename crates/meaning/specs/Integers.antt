@@ -5,6 +5,7 @@ use mathlib.Core.List.{List, [], _∷_}
 use lib.Dec.{eqb, ltb, leb}
 use lib.IntN.{ℤ, pos, negℤ}
 use lib.ListN.{getD, drop}
+pub use Rattle.meaning.specs.declared.Signed.{Signed}
 use Rattle.meaning.specs.Base.{pick, nil?}
 use Rattle.meaning.specs.Refusal.{R, ok, bad, via}
 
@@ -32,32 +33,35 @@ most false = 2 ^ 63 - 1
 unfoldable pub within : ℕ → R ℕ → R ℕ
 within limit r = via r (λ n. pick (ltb limit n) (bad 12) (ok n))
 
--- the magnitude n, with a minus or without
-abbrev pub signed : Bool → ℕ → ℤ
-signed true n = negℤ (pos n)
-signed false n = pos n
-
 -- "at least one digit, within 64-bit signed range"
-unfoldable pub magnitude : Bool → ℕ → List ℕ → R ℤ
-magnitude neg base s = pick (nil? s) (bad 12) (via (within (most neg) (value base 0 s)) (λ n. ok (signed neg n)))
+unfoldable pub magnitude : Bool → ℕ → List ℕ → R Signed
+magnitude neg base s = pick (nil? s) (bad 12) (via (within (most neg) (value base 0 s)) (λ n. ok (record { neg = neg; mag = n })))
 
 -- "then an optional sign": `-` or `+`
-unfoldable pub sign : ℕ → List ℕ → R ℤ
+unfoldable pub sign : ℕ → List ℕ → R Signed
 sign base s =
     pick (eqb (getD s 0 0) 45) (magnitude true base (drop 1 s))
     (pick (eqb (getD s 0 0) 43) (magnitude false base (drop 1 s)) (magnitude false base s))
 
 -- "`0x` or `0X` means base 16"
-unfoldable pub body : List ℕ → R ℤ
+unfoldable pub body : List ℕ → R Signed
 body s =
     pick (eqb (getD s 0 0) 48)
     (pick (eqb (getD s 1 0) 120) (sign 16 (drop 2 s)) (pick (eqb (getD s 1 0) 88) (sign 16 (drop 2 s)) (sign 10 s)))
     (sign 10 s)
 
+-- the integer that s is, by sign and magnitude, or 12
+unfoldable pub signed : List ℕ → R Signed
+signed s = body (clean s)
+
+abbrev pub numberOf : Bool → ℕ → ℤ
+numberOf true n = negℤ (pos n)
+numberOf false n = pos n
+
 -- the integer that s is, or 12
 unfoldable pub integer : List ℕ → R ℤ
-integer s = body (clean s)
+integer s = via (signed s) (λ x. ok (numberOf (x .neg) (x .mag)))
 
 unfoldable pub computes : Unit {0}
-unfolding digit most within magnitude sign body integer
+unfolding digit most within magnitude sign body signed integer
 computes = tt

@@ -29,6 +29,12 @@ pub enum Fate {
     Whole,
 }
 
+// An integer by sign and magnitude.
+pub struct Signed {
+    pub neg: bool,
+    pub mag: u64,
+}
+
 pub fn of01() -> Limits
     ensures { λ r. ⌜ r ≡ limits.of01 ⌝ }
 {

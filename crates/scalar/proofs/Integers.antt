@@ -8,18 +8,15 @@ use native.Mathlib.Omega.{arith}
 use native.Mathlib.Numerals.{add-one}
 use borrow.Author.Tests.{eq-eqb, ne-eqb, le-ltb, lt-ltb, le-leb, lt-leb, leb-false, ltb-true, ltb-false}
 use lib.Dec.{eqb, ltb, leb}
-use lib.IntN.{ℤ, pos, negℤ, _-ℤ_, +ℤ-idl}
-use lib.Signed.{mag}
 use mir.Syntax.{w64}
-use mir.Val.{SFits, toZ, ofZ}
-use mir.Facts.{toZ-pos, toZ-ofZ}
 use lib.ListN.{length, getD, drop, drop-of-length-le}
 use lib.Seq.{drop-cons}
 use Rattle.meaning.specs.Base.{pick, nil?}
 use Rattle.meaning.specs.Refusal.{R, ok, bad, via}
-use Rattle.meaning.specs.Integers.{digit, value, clean, most, within, signed, magnitude, sign, body, integer}
+use Rattle.meaning.specs.Integers.{digit, value, clean, most, within, magnitude, sign, body, signed}
 use Rattle.laws.specs.Cases.{on, picked}
 use Rattle.scalar.specs.Ints.{intOf, digitsOf, more, Skipped, Passed}
+use Rattle.meaning.specs.declared.Signed.{Signed}
 use Rattle.scalar.specs.declared.integer.Int.{Int}
 use Rattle.scalar.specs.declared.integer.Int.the-variants.{Value, Wrong}
 use Rattle.scalar.specs.declared.integer.Digits.{Digits}
@@ -142,26 +139,6 @@ module _ (s : List ℕ) (base limit from i acc : ℕ) (a : Counting s base limit
       let t : within limit (value base acc (clean (drop i s))) ≡ ok acc = rw (drop-of-length-le s h, le-ltb limit acc (a .small)) in
       sym t ∙ a .left
 
--- ---- the sign
-mag-neg : (n : ℕ) → n < 2 ^ 63 → mag (negℤ (pos n)) < 2 ^ 63
-mag-neg zero h = h
-mag-neg (suc n) h = omega arith
-
-pub minus : (n : ℕ) → n < 2 ^ 63 → pos 0 -ℤ toZ w64 n ≡ negℤ (pos n)
-minus n h = rw (toZ-pos w64 h) (+ℤ-idl (negℤ (pos n)))
-
-pub minus-fits : (n : ℕ) → n < 2 ^ 63 → SFits w64 (pos 0 -ℤ toZ w64 n)
-minus-fits n h = rw (minus n h) (record { sfits = mag-neg n h })
-
-pub below-most : (neg : Bool) (n : ℕ) → n ≤ most neg → (n ≡ 2 ^ 63 → ⊥) → n < 2 ^ 63
-unfolding most
-below-most true n h e = omega arith
-below-most false n h e = omega arith
-
-pub below-pos : (n : ℕ) (neg : Bool) → n ≤ most neg → neg ≡ false → n < 2 ^ 63
-unfolding most
-below-pos n neg h e = let k : n ≤ most false = rw e at h in omega arith
-
 -- ---- past underscores
 pub record Skipping (s : List ℕ) (i r : ℕ) : Type 0 where
   pub high : r ≤ length s
@@ -210,17 +187,14 @@ module _ (s : List ℕ) (i r : ℕ) (k : Skipped s i r) where
     some-left = rw (full (omega (arith, k .high)))
 
     module _ (base m : ℕ) (neg : Bool) (d : Digits) (e : m ≡ most neg) (f : digitsOf d ≡ within m (value base 0 (clean (drop i s)))) where
-      pub number : (n : ℕ) (z : ℤ) → d ≡ Count n → z ≡ signed neg n → intOf (Value z) ≡ magnitude neg base (clean (drop i s))
+      pub number : (n : ℕ) → d ≡ Count n → intOf (Value (record { neg = neg; mag = n })) ≡ magnitude neg base (clean (drop i s))
       unfolding magnitude
-      number n z g q = rw (some-left, ← e, ← f, g, q)
+      number n g = rw (some-left, ← e, ← f, g)
 
       pub no-number : d ≡ Stray → intOf Wrong ≡ magnitude neg base (clean (drop i s))
       unfolding magnitude
       no-number g = rw (some-left, ← e, ← f, g)
 
-pub fits-most : (base m : ℕ) (neg : Bool) (s : List ℕ) (d : Digits) (n : ℕ)
-    → m ≡ most neg → digitsOf d ≡ within m (value base 0 s) → d ≡ Count n → n ≤ most neg
-fits-most base m neg s d n e f g = rw e at (within-le m n (value base 0 s) (sym f ∙ ap digitsOf g))
 
 -- ---- an optional sign
 module _ (s : List ℕ) (i base b : ℕ) (x : Int) (e : b ≡ getD (clean (drop i s)) 0 0) where
@@ -254,18 +228,18 @@ module _ (s : List ℕ) (j k a b : ℕ) (x : Int) (ea : a ≡ getD (clean (drop 
   ed : drop 2 (clean s) ≡ clean (drop k s)
   ed = twice (clean s) ∙ ap (λ (l : List ℕ). drop 1 l) (sym (p .rest)) ∙ sym (q .rest)
 
-  pub hex-small : a ≡ 48 → b ≡ 120 → intOf x ≡ sign 16 (clean (drop k s)) → intOf x ≡ integer s
-  unfolding body integer
+  pub hex-small : a ≡ 48 → b ≡ 120 → intOf x ≡ sign 16 (clean (drop k s)) → intOf x ≡ signed s
+  unfolding body signed
   hex-small f g e = rw (← ea, ← ec, eq-eqb a 48 f, eq-eqb b 120 g, ed) e
 
-  pub hex-large : a ≡ 48 → (b ≡ 120 → ⊥) → b ≡ 88 → intOf x ≡ sign 16 (clean (drop k s)) → intOf x ≡ integer s
-  unfolding body integer
+  pub hex-large : a ≡ 48 → (b ≡ 120 → ⊥) → b ≡ 88 → intOf x ≡ sign 16 (clean (drop k s)) → intOf x ≡ signed s
+  unfolding body signed
   hex-large f m g e = rw (← ea, ← ec, eq-eqb a 48 f, ne-eqb b 120 m, eq-eqb b 88 g, ed) e
 
-  pub zero-first : a ≡ 48 → (b ≡ 120 → ⊥) → (b ≡ 88 → ⊥) → intOf x ≡ sign 10 (clean (drop 0 s)) → intOf x ≡ integer s
-  unfolding body integer
+  pub zero-first : a ≡ 48 → (b ≡ 120 → ⊥) → (b ≡ 88 → ⊥) → intOf x ≡ sign 10 (clean (drop 0 s)) → intOf x ≡ signed s
+  unfolding body signed
   zero-first f m g e = rw (← ea, ← ec, eq-eqb a 48 f, ne-eqb b 120 m, ne-eqb b 88 g) e
 
-  pub no-zero : (a ≡ 48 → ⊥) → intOf x ≡ sign 10 (clean (drop 0 s)) → intOf x ≡ integer s
-  unfolding body integer
+  pub no-zero : (a ≡ 48 → ⊥) → intOf x ≡ sign 10 (clean (drop 0 s)) → intOf x ≡ signed s
+  unfolding body signed
   no-zero f e = rw (← ea, ne-eqb a 48 f) e

@@ -3,27 +3,27 @@ use Prim.Native.Nat.{ℕ, _+_, _*_, _≤_, _<_}
 use mathlib.Core.List.{List}
 use mathlib.Core.Path.{_≡_, sym, ap, _∙_}
 use lib.Dec.{ltb, leb}
-use lib.IntN.{ℤ}
 use lib.ListN.{length, getD, drop}
 use Rattle.meaning.specs.Base.{pick}
 use Rattle.meaning.specs.Refusal.{R, ok, bad}
-use Rattle.meaning.specs.Integers.{digit, clean, integer}
+use Rattle.meaning.specs.Integers.{digit, clean, signed}
+use Rattle.meaning.specs.declared.Signed.{Signed}
 use Rattle.scalar.specs.declared.integer.Int.{Int}
 use Rattle.scalar.specs.declared.integer.Int.the-variants.{Value, Wrong}
 use Rattle.scalar.specs.declared.integer.Digits.{Digits}
 use Rattle.scalar.specs.declared.integer.Digits.the-variants.{Count, Stray}
 
 -- 12: the text is no integer
-abbrev pub intOf : Int → R ℤ
+abbrev pub intOf : Int → R Signed
 intOf (Value i) = ok i
 intOf Wrong = bad 12
 
 -- what a caller learns of each answer
-module _ (r : Int) (t : List ℕ) (e : intOf r ≡ integer t) where
-  pub int-read : (i : ℤ) → r ≡ Value i → integer t ≡ ok i
+module _ (r : Int) (t : List ℕ) (e : intOf r ≡ signed t) where
+  pub int-read : (i : Signed) → r ≡ Value i → signed t ≡ ok i
   int-read i f = sym e ∙ ap intOf f
 
-  pub int-wrong : r ≡ Wrong → integer t ≡ bad 12
+  pub int-wrong : r ≡ Wrong → signed t ≡ bad 12
   int-wrong f = sym e ∙ ap intOf f
 
 -- 12: a byte is no digit, or the digits count more than the limit

@@ -1,5 +1,6 @@
-// Integers. Underscores are skipped where they stand; the magnitude is read in u64 against its limit, and takes its sign last.
+// Integers. Underscores are skipped where they stand; the magnitude is read in u64 against its limit, and the sign stands beside it.
 
+use meaning::Signed;
 ghost use mathlib.Core.Path.{_≡_};
 ghost use Prim.Native.Nat.{_≤_};
 ghost use lib.ListN.{length, getD, drop};
@@ -8,7 +9,7 @@ ghost use Rattle.scalar.specs.Ints.{intOf, digitsOf, more, Skipped, Pass
 
 // The integer, or refusal 12.
 pub enum Int {
-    Value(i64),
+    Value(Signed),
     Wrong,
 }
 
@@ -94,21 +95,6 @@ fn most(neg: bool) -> u64
     }
 }
 
-// The magnitude n with its sign; 2^63 is no i64, so its negative is written.
-fn signed(neg: bool, n: u64) -> i64
-    requires { ⌜ n ≤ meant.most neg ⌝ }
-    ensures { λ r. ⌜ r ≡ meant.signed neg n ⌝ }
-{
-    if neg {
-        if n == 0x8000000000000000 {
-            return -9223372036854775808;
-        }
-        let v = n as i64;
-        return 0 - v;
-    }
-    n as i64
-}
-
 // Past the underscores at i.
 fn skip(s: &[u8], i: usize) -> usize
     requires { ⌜ i ≤ length (now s) ⌝ }
@@ -151,7 +137,7 @@ fn magnitude(s: &[u8], i: usize, neg: bool, base: u64) -> Int
         return Int::Wrong;
     }
     match digits_at(s, i, base, most(neg)) {
-        Digits::Count(n) => Int::Value(signed(neg, n)),
+        Digits::Count(n) => Int::Value(Signed { neg: neg, mag: n }),
         Digits::Stray => Int::Wrong,
     }
 }
@@ -174,7 +160,7 @@ fn sign(s: &[u8], i: usize, base: u64) -> Int
 
 // The integer that s is, or refusal 12.
 pub fn read_int(s: &[u8]) -> Int
-    ensures { λ r. ⌜ intOf r ≡ meant.integer (now (s .entry)) ⌝ }
+    ensures { λ r. ⌜ intOf r ≡ meant.signed (now (s .entry)) ⌝ }
 {
     let a = first(s, 0);
     let j = past(s, 0);

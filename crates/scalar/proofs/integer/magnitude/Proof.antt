@@ -1,13 +1,7 @@
-use Rattle.scalar.proofs.Integers.{none-left, number, no-number, fits-most}
+use Rattle.scalar.proofs.Integers.{none-left, number, no-number}
 use borrow.Author.Needs.{needs}
 use Rattle.scalar.proofs.integer.magnitude.Statement.{statement}
 use Rattle.scalar.proofs.integer.magnitude.Tie as tie
-use Rattle.scalar.proofs.integer.magnitude.Reads as reads
-use Rattle.scalar.proofs.integer.magnitude.Lts as lts
-use Rattle.scalar.proofs.integer.digits_at.Reads as digits-at-reads
-use Rattle.scalar.proofs.integer.most.Reads as most-reads
-use Rattle.scalar.proofs.integer.signed.Reads as signed-reads
-use Rattle.scalar.proofs.integer.skip.Reads as skip-reads
 
 -- src/integer.rt:150:8
 skip-requires : tie.Need-skip-requires
@@ -28,10 +22,6 @@ digits-at-requires c κs = search needs
 -- src/integer.rt:154:23
 enum-known-n : tie.Need-enum-known-n
 enum-known-n c = search needs
-
--- src/integer.rt:154:40
-signed-requires : tie.Need-signed-requires
-signed-requires c κs = search (needs, fits-most)
 
 -- src/integer.rt:155:26
 enum-told : tie.Need-enum-told
@@ -54,7 +44,6 @@ magnitude-spec =
     most-requires
     digits-at-requires
     enum-known-n
-    signed-requires
     enum-told
     returns-2
     returns-3)
