@@ -5,5 +5,8 @@ pub mod Utf8
 pub mod Space
 pub mod Quote
 pub mod Lines
+pub mod Strings
+pub mod Keys
 pub mod Table
 pub mod Corners
+pub mod CornersKeys

@@ -29,6 +29,14 @@ pub enum Fate {
     Whole,
 }
 
+// What a byte of a string does: ends it, announces an escape, stands for a byte, or is no escape.
+pub enum Act {
+    End,
+    Hold,
+    Put(u8),
+    Fault,
+}
+
 pub fn of01() -> Limits
     ensures { λ r. ⌜ r ≡ limits.of01 ⌝ }
 {

@@ -1,0 +1,4 @@
+// Keys.
+pub fn nothing(x: usize) -> usize {
+    x
+}
