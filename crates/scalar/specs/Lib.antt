@@ -1,2 +1,4 @@
 pub mod Stores
 pub mod Decodes
+pub mod Segments
+pub mod Splits
