@@ -1,3 +1,6 @@
+use Prim.Native.Nat.{_-_}
+use Rattle.scalar.proofs.Splitting.{Splitting, split-start, end-within, end-fits, part-room, used-within, split-last, split-on, split-refused, split-over}
+use borrow.Author.Needs.{needs}
 use Rattle.scalar.proofs.key.put_key.Statement.{statement}
 use Rattle.scalar.proofs.key.put_key.Tie as tie
 use Rattle.scalar.proofs.key.put_key.Reads as reads
@@ -7,14 +10,14 @@ use Rattle.scalar.proofs.key.put_segment.Reads as put-segment-reads
 use Rattle.slices.proofs.find.Reads as find-reads
 
 abbrev Inv-loop : tie.InvT-loop
-Inv-loop s store₀ used limit ends₀ n₀ at₀ i₀ store ends n at i = ?
+Inv-loop s store₀ used limit ends₀ n₀ at₀ i₀ store ends n at i = Splitting s store₀ used limit store ends n at i
 
 abbrev μ-loop : tie.MeasureT-loop
-μ-loop s store₀ used limit ends₀ n₀ at₀ i₀ store ends n at i = ?
+μ-loop s store₀ used limit ends₀ n₀ at₀ i₀ store ends n at i = limit - n
 
 -- src/key.rt:157:5
 loop-holds : tie.Need-loop-holds Inv-loop μ-loop
-loop-holds c = search needs
+loop-holds c = search (needs, split-start)
 
 -- src/key.rt:158:30
 sub-find : tie.Need-sub-find Inv-loop μ-loop
@@ -34,7 +37,7 @@ find-requires c κs = search needs
 
 -- src/key.rt:159:17
 add-e : tie.Need-add-e Inv-loop μ-loop
-add-e c = search needs
+add-e c = search (needs, end-within)
 
 -- src/key.rt:160:29
 sub-put-segment : tie.Need-sub-put-segment Inv-loop μ-loop
@@ -46,15 +49,15 @@ part-put-segment-start c = search needs
 
 -- src/key.rt:160:29
 part-put-segment-end : tie.Need-part-put-segment-end Inv-loop μ-loop
-part-put-segment-end c = search needs
+part-put-segment-end c = search (needs, end-fits)
 
 -- src/key.rt:160:13
 put-segment-requires : tie.Need-put-segment-requires Inv-loop μ-loop
-put-segment-requires c κs = search needs
+put-segment-requires c κs = search (needs, part-room)
 
 -- src/key.rt:162:9
 add-at : tie.Need-add-at Inv-loop μ-loop
-add-at c = search needs
+add-at c = search (needs, used-within)
 
 -- src/key.rt:163:12
 is-fine-requires : tie.Need-is-fine-requires Inv-loop μ-loop
@@ -78,7 +81,7 @@ same-length c = search needs
 
 -- src/key.rt:167:17
 returns : tie.Need-returns Inv-loop μ-loop
-returns c = search needs
+returns c = search (needs, split-last)
 
 -- src/key.rt:174:17
 add-i : tie.Need-add-i Inv-loop μ-loop
@@ -90,7 +93,7 @@ loop-less c = search needs
 
 -- src/key.rt:157:5
 loop-again : tie.Need-loop-again Inv-loop μ-loop
-loop-again c = search needs
+loop-again c = search (needs, split-on)
 
 -- src/key.rt:176:13
 same-length-2 : tie.Need-same-length-2 Inv-loop μ-loop
@@ -98,7 +101,7 @@ same-length-2 c = search needs
 
 -- src/key.rt:176:13
 returns-2 : tie.Need-returns-2 Inv-loop μ-loop
-returns-2 c = search needs
+returns-2 c = search (needs, split-refused)
 
 -- src/key.rt:149:1
 same-length-3 : tie.Need-same-length-3 Inv-loop μ-loop
@@ -106,7 +109,7 @@ same-length-3 c = search needs
 
 -- src/key.rt:149:1
 returns-3 : tie.Need-returns-3 Inv-loop μ-loop
-returns-3 c = search needs
+returns-3 c = search (needs, split-over)
 
 pub put-key-spec : {M : Type 1} → statement M
 put-key-spec =
