@@ -1,3 +1,4 @@
 pub mod Decoding
 pub mod Segmenting
 pub mod Splitting
+pub mod Keying

@@ -55,7 +55,7 @@ flat-snoc [] k = append-nil k
 flat-snoc (j ∷ ks) k = rw (flat-snoc ks k) (sym (append-assoc j (flat ks) k))
 
 -- ---- where segments end
-ends-size : (at : ℕ) (ks : List (List ℕ)) → length (endsOf at ks) ≡ length ks
+pub ends-size : (at : ℕ) (ks : List (List ℕ)) → length (endsOf at ks) ≡ length ks
 ends-size at [] = refl
 ends-size at (k ∷ ks) = ap suc (ends-size (at + length k) ks)
 
@@ -200,9 +200,9 @@ module _ (limit : ℕ) (all : List (List ℕ)) (at₀ : ℕ) (store₀ : List �
           took = a .took ∙ ap (front (a .ks)) t ∙ simp append-assoc;
           here = rw (flat-snoc (a .ks) k) (omega (arith, w, b));
           row =
-            ap (λ (x : List ℕ). set x n (at + r .written)) (a .row ∙ ap (λ (y : ℕ). endsOf at₀ (a .ks) ++ zeros y) z)
-            ∙ set-at (endsOf at₀ (a .ks)) 0 (zeros (16 - (n + 1))) (at + r .written) n l
-            ∙ rw (ends-snoc at₀ (a .ks) k, w) (sym (append-assoc (endsOf at₀ (a .ks)) ((at₀ + length (flat (a .ks)) + length k) ∷ []) (zeros (16 - (n + 1)))));
+              ap (λ (x : List ℕ). set x n (at + r .written)) (a .row ∙ ap (λ (y : ℕ). endsOf at₀ (a .ks) ++ zeros y) z)
+              ∙ set-at (endsOf at₀ (a .ks)) 0 (zeros (16 - (n + 1))) (at + r .written) n l
+              ∙ rw (ends-snoc at₀ (a .ks) k, w) (sym (append-assoc (endsOf at₀ (a .ks)) ((at₀ + length (flat (a .ks)) + length k) ∷ []) (zeros (16 - (n + 1)))));
           left = g .left ∙ rw (a .left, a .here, flat-snoc (a .ks) k) (stored-stored store₀ at₀ (flat (a .ks)) k (a .room));
         }
 
@@ -344,6 +344,6 @@ module _ (s store₀ : List ℕ) (at₀ limit : ℕ) (store ends : List ℕ) (n 
                 few = omega arith;
                 top = a .top;
                 state =
-                  advance limit (cut 46 s) at₀ store₀ (take k (drop i s)) (cut 46 (drop (i + k + 1) s)) store ends n at b h
-                  (take k (drop i s)) store' r so (sym q ∙ e);
+                    advance limit (cut 46 s) at₀ store₀ (take k (drop i s)) (cut 46 (drop (i + k + 1) s)) store ends n at b h
+                    (take k (drop i s)) store' r so (sym q ∙ e);
               }

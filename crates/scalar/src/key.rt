@@ -1,7 +1,7 @@
 // Keys and headers: segments split at every dot, each decoded into the store behind those already there.
 
-use crate::string::put_string;
 use crate::string::Decoded;
+use crate::string::put_string;
 ghost use mathlib.Core.Path.{_≡_};
 ghost use Rattle.meaning.specs.Base as base;
 ghost use Rattle.meaning.specs.Keys as meant;
