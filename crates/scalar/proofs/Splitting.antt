@@ -26,7 +26,7 @@ use Rattle.scalar.specs.declared.key.Segment.{Segment}
 use Rattle.scalar.specs.declared.key.Key.{Key}
 use Rattle.scalar.specs.Stores.{stored, Room}
 use Rattle.scalar.specs.Segments.{told, isFine, laid, Segmented}
-use Rattle.scalar.specs.Splits.{Taken, none, by, taken, takes, flat, bytesOf, endsOf, Asked, Splits}
+use Rattle.scalar.specs.Splits.{Taken, none, by, taken, takes, flat, bytesOf, endsOf, keyOf, Asked, Splits}
 
 -- ---- bytes laid behind bytes
 pub stored-size : (store : List ℕ) (at : ℕ) (bs : List ℕ) → at + length bs ≤ length store → length (stored store at bs) ≡ length store
@@ -254,10 +254,10 @@ segments-zero (b ∷ x) = on (eqb b 46) (λ e. rw e) (λ e. rw e (go (cut 46 x))
     go (l ∷ ls) = refl
 
 module _ (s store₀ : List ℕ) (at₀ limit : ℕ) (store ends : List ℕ) (n at i : ℕ) (a : Splitting s store₀ at₀ limit store ends n at i) where
-  pub split-over : limit ≤ n → Splits limit s store₀ at₀ store (record { verdict = TooMany; n = n; used = at; ends = ends })
-  split-over h =
-      split-out limit s store₀ at₀ store _ (a .few) (omega (arith, a .low, a .high))
-      (too-many limit (cut 46 s) at₀ store₀ (cut 46 (drop i s)) store ends n at (a .state) h (segments-zero (drop i s)))
+  pub split-over : limit ≤ n → (y : Key) → y ≡ keyOf TooMany n at ends → Splits limit s store₀ at₀ store y
+  split-over h y is =
+      rw is (split-out limit s store₀ at₀ store _ (a .few) (omega (arith, a .low, a .high))
+      (too-many limit (cut 46 s) at₀ store₀ (cut 46 (drop i s)) store ends n at (a .state) h (segments-zero (drop i s))))
 
   module _ (h : n < limit) (k : ℕ) (f : Found 46 (take (length s - i) (drop i s)) k) where
     ends-there : k ≡ before 46 (drop i s)
@@ -307,10 +307,9 @@ module _ (s store₀ : List ℕ) (at₀ limit : ℕ) (store ends : List ℕ) (n 
           cut-none 46 (drop i s) m ∙ rw t
 
       module _ (t : Bool) (q : t ≡ isFine (r .verdict)) where
-        pub split-refused : t ≡ false
-            → Splits limit s store₀ at₀ store' (record { verdict = r .verdict; n = n; used = at + r .written; ends = ends })
-        split-refused e =
-            split-out limit s store₀ at₀ store' _ (a .few) (omega (arith, grown, end-fits))
+        pub split-refused : t ≡ false → (y : Key) → y ≡ keyOf (r .verdict) n (at + r .written) ends → Splits limit s store₀ at₀ store' y
+        split-refused e y is =
+            rw is (split-out limit s store₀ at₀ store' _ (a .few) (omega (arith, grown, end-fits))
             (on (ltb (i + k) (length s))
             (λ l.
             let b : Before limit (cut 46 s) at₀ store₀ (take k (drop i s) ∷ cut 46 (drop (i + k + 1) s)) store ends n at =
@@ -321,16 +320,16 @@ module _ (s store₀ : List ℕ) (at₀ limit : ℕ) (store ends : List ℕ) (n 
             let b : Before limit (cut 46 s) at₀ store₀ (take k (drop i s) ∷ []) store ends n at =
             rw (last (ltb-false (i + k) (length s) l)) at (a .state) in
             refused limit (cut 46 s) at₀ store₀ (take k (drop i s)) [] store ends n at b h
-            (take k (drop i s)) store' r so (sym q ∙ e)))
+            (take k (drop i s)) store' r so (sym q ∙ e))))
 
         module _ (e : t ≡ true) where
-          pub split-last : length s ≤ i + k
-              → Splits limit s store₀ at₀ store' (record { verdict = Fine; n = n + 1; used = at + r .written; ends = set ends n (at + r .written) })
-          split-last l =
+          pub split-last : length s ≤ i + k → (y : Key) → y ≡ keyOf (r .verdict) (n + 1) (at + r .written) (set ends n (at + r .written))
+              → Splits limit s store₀ at₀ store' y
+          split-last l y is =
               let b : Before limit (cut 46 s) at₀ store₀ (take k (drop i s) ∷ []) store ends n at = rw (last l) at (a .state) in
-              split-out limit s store₀ at₀ store' _ (omega arith) (omega (arith, grown, end-fits))
+              rw (is, is-fine (r .verdict) (sym q ∙ e)) (split-out limit s store₀ at₀ store' _ (omega arith) (omega (arith, grown, end-fits))
               (none-left limit (cut 46 s) at₀ store₀ store' (set ends n (at + r .written)) (n + 1) (at + r .written)
-              (advance limit (cut 46 s) at₀ store₀ (take k (drop i s)) [] store ends n at b h (take k (drop i s)) store' r so (sym q ∙ e)))
+              (advance limit (cut 46 s) at₀ store₀ (take k (drop i s)) [] store ends n at b h (take k (drop i s)) store' r so (sym q ∙ e))))
 
           pub split-on : i + k < length s
               → Splitting s store₀ at₀ limit store' (set ends n (at + r .written)) (n + 1) (at + r .written) (i + k + 1)

@@ -7,6 +7,7 @@ use Rattle.meaning.specs.Base.{zeros, cut}
 use Rattle.meaning.specs.Refusal.{R, ok, bad}
 use Rattle.meaning.specs.Space.{trim}
 use Rattle.meaning.specs.Keys.{segment, keys}
+use Rattle.scalar.specs.declared.key.Verdict.{Verdict}
 use Rattle.scalar.specs.declared.key.Key.{Key}
 use Rattle.scalar.specs.Stores.{stored}
 use Rattle.scalar.specs.Segments.{told, laid}
@@ -46,6 +47,10 @@ bytesOf t = flat (t .segs) ++ t .rest
 abbrev pub endsOf : ℕ → List (List ℕ) → List ℕ
 endsOf at [] = []
 endsOf at (k ∷ ks) = (at + length k) ∷ endsOf (at + length k) ks
+
+-- an answer
+abbrev pub keyOf : Verdict → ℕ → ℕ → List ℕ → Key
+keyOf verdict n used ends = record { verdict = verdict; n = n; used = used; ends = ends }
 
 -- no more segments than there are places, and room for the whole key
 pub record Asked (limit : ℕ) (s store : List ℕ) (at : ℕ) : Type 0 where

@@ -9,7 +9,7 @@ ghost use Rattle.meaning.specs.Space as space;
 ghost use Rattle.meaning.specs.Strings as strings;
 ghost use Rattle.scalar.specs.Stores.{Room, stored};
 ghost use Rattle.scalar.specs.Segments.{isFine, judged, laid, Segmented};
-ghost use Rattle.scalar.specs.Splits.{Asked, Splits};
+ghost use Rattle.scalar.specs.Splits.{keyOf, Asked, Splits};
 
 // What a segment or a key comes to: fine, or refusal 7, 8, 9 or 15.
 pub enum Verdict {
@@ -145,6 +145,17 @@ pub fn put_segment(s: &[u8], store: &mut [u8], used: usize) -> Segment
     put_trimmed(&s[from..end], store, used)
 }
 
+fn answered(verdict: Verdict, n: usize, used: usize, ends: [usize; 16]) -> Key
+    ensures { λ r. ⌜ r ≡ keyOf verdict n used ends ⌝ }
+{
+    Key {
+        verdict: verdict,
+        n: n,
+        used: used,
+        ends: ends,
+    }
+}
+
 // A whole key, segments strictly left to right. 15 leaves the segments before it, 7, 8 and 9 also what the refused one laid.
 pub fn put_key(s: &[u8], store: &mut [u8], used: usize, limit: usize) -> Key
     requires { ⌜ Asked limit (now s) (now store) used ⌝ }
@@ -164,27 +175,12 @@ pub fn put_key(s: &[u8], store: &mut [u8], used: usize, limit: usize) -> Key
             ends[n] = at;
             n += 1;
             if s.len() <= e {
-                return Key {
-                    verdict: Verdict::Fine,
-                    n: n,
-                    used: at,
-                    ends: ends,
-                };
+                return answered(v, n, at, ends);
             }
             i = e + 1;
         } else {
-            return Key {
-                verdict: v,
-                n: n,
-                used: at,
-                ends: ends,
-            };
+            return answered(v, n, at, ends);
         }
     }
-    Key {
-        verdict: Verdict::TooMany,
-        n: n,
-        used: at,
-        ends: ends,
-    }
+    answered(Verdict::TooMany, n, at, ends)
 }
