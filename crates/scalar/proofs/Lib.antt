@@ -1,4 +1,5 @@
 pub mod Decoding
+pub mod Speaking
 pub mod Segmenting
 pub mod Splitting
 pub mod Keying

@@ -23,7 +23,8 @@ use Rattle.scalar.specs.declared.key.Verdict.{Verdict}
 use Rattle.scalar.specs.declared.key.Verdict.the-variants.{Fine, Malformed, Escape, Unended, TooMany}
 use Rattle.scalar.specs.declared.key.Segment.{Segment}
 use Rattle.scalar.specs.Stores.{over, stored, Room}
-use Rattle.scalar.specs.Decodes.{answer, answerOf, Closed, Stuck, Open, Within, Puts}
+use Rattle.scalar.specs.Decodes.{Closed, Stuck, Open, Puts}
+use Rattle.scalar.proofs.Speaking.{Speaks, string-closed, string-escape, string-unended, closed-within, escape-within, unended-within}
 use Rattle.scalar.specs.Segments.{told, judged, laid, Segmented}
 
 pub none-last : (s : List ℕ) → length s ≡ 0 → 0 ≡ final s
@@ -55,25 +56,7 @@ module _ (p store store' : List ℕ) (a : ℕ) (e : store' ≡ stored store a p)
       go [] h = absurd (h refl)
       go (b ∷ p) h = refl
 
--- ---- decoded: the string behind an answer
-pub record Ended (r : Said) (e : Ending) (w : ℕ) : Type 0 where
-  pub how : r .how ≡ e
-  pub size : length (r .bytes) ≡ w
-
-closed-of : (e : Ending) (k m u w : ℕ) → answer e k m ≡ decoded.Done u w → (e ≡ closed) × (m ≡ w)
-closed-of closed k m u w q = (refl, cc)
-closed-of escape k m u w q = (cc, cc)
-closed-of unended k m u w q = (cc, cc)
-
-escape-of : (e : Ending) (k m u w : ℕ) → answer e k m ≡ decoded.Escape u w → (e ≡ escape) × (m ≡ w)
-escape-of closed k m u w q = (cc, cc)
-escape-of escape k m u w q = (refl, cc)
-escape-of unended k m u w q = (cc, cc)
-
-unended-of : (e : Ending) (k m w : ℕ) → answer e k m ≡ decoded.Unended w → (e ≡ unended) × (m ≡ w)
-unended-of closed k m w q = (cc, cc)
-unended-of escape k m w q = (cc, cc)
-unended-of unended k m w q = (refl, cc)
+-- ---- decoded
 
 -- "the end quote, then emptiness"
 judged-is : (f : ℕ) (b : List ℕ) → told (judged f (length b)) b ≡ pick (eqb f 34) (nonempty b) (bad 7)
@@ -89,11 +72,11 @@ module _ (p store store' : List ℕ) (a : ℕ) (d : Decoded) (h : Puts p store a
       → Segmented p (quoted p) (decode 0 p .bytes) store a store' (record { verdict = v; written = w })
   unfolding quoted
   quoted-closed u w f v q e j =
-      let c : (decode 0 p .how ≡ closed) × (length (decode 0 p .bytes) ≡ w) = closed-of (decode 0 p .how) (decode 0 p .span) (length (decode 0 p .bytes)) u w (sym (h .says) ∙ q) in
-      let k : Closed (length p) u w = rw q at (h .within) in
+      let c : Speaks p closed u w = string-closed p store store' a d h u w q in
+      let k : Closed (length p) u w = closed-within p store store' a d h u w q in
       record {
-        says = rw (c .0, j, ← (c .1), e) (judged-is (final p) (decode 0 p .bytes));
-        wrote = sym (c .1);
+        says = rw (c .how, j, ← (c .size), e) (judged-is (final p) (decode 0 p .bytes));
+        wrote = sym (c .size);
         fits = omega (arith, k .fits, k .less);
         left = h .left;
       }
@@ -102,17 +85,17 @@ module _ (p store store' : List ℕ) (a : ℕ) (d : Decoded) (h : Puts p store a
       → Segmented p (quoted p) (decode 0 p .bytes) store a store' (record { verdict = Escape; written = w })
   unfolding quoted
   quoted-escape u w q =
-      let c : (decode 0 p .how ≡ escape) × (length (decode 0 p .bytes) ≡ w) = escape-of (decode 0 p .how) (decode 0 p .span) (length (decode 0 p .bytes)) u w (sym (h .says) ∙ q) in
-      let k : Stuck (length p) u w = rw q at (h .within) in
-      record { says = rw (c .0); wrote = sym (c .1); fits = omega (arith, k .fits, k .most); left = h .left }
+      let c : Speaks p escape u w = string-escape p store store' a d h u w q in
+      let k : Stuck (length p) u w = escape-within p store store' a d h u w q in
+      record { says = rw (c .how); wrote = sym (c .size); fits = omega (arith, k .fits, k .most); left = h .left }
 
   pub quoted-unended : (w : ℕ) → d ≡ decoded.Unended w
       → Segmented p (quoted p) (decode 0 p .bytes) store a store' (record { verdict = Unended; written = w })
   unfolding quoted
   quoted-unended w q =
-      let c : (decode 0 p .how ≡ unended) × (length (decode 0 p .bytes) ≡ w) = unended-of (decode 0 p .how) (decode 0 p .span) (length (decode 0 p .bytes)) w (sym (h .says) ∙ q) in
-      let k : Open (length p) w = rw q at (h .within) in
-      record { says = rw (c .0); wrote = sym (c .1); fits = k .most; left = h .left }
+      let c : Speaks p unended (decode 0 p .span) w = string-unended p store store' a d h w q in
+      let k : Open (length p) w = unended-within p store store' a d h w q in
+      record { says = rw (c .how); wrote = sym (c .size); fits = k .most; left = h .left }
 
 -- ---- trimmed: by its first byte f
 pub some-there : (p : List ℕ) (f : ℕ) → f ≡ getD p 0 0 → f ≡ 34 → 1 ≤ length p
