@@ -60,6 +60,13 @@ abbrev pub onFirst : ℕ → List (List ℕ) → List (List ℕ)
 onFirst b [] = (b ∷ []) ∷ []
 onFirst b (l ∷ ls) = (b ∷ l) ∷ ls
 
+-- the parts of a text between separators: next is the state after a byte, sep says that the byte parts; behind a separator the state is start again
+abbrev pub split : {S : Type 0} → S → (S → ℕ → S) → (S → ℕ → Bool) → S → List ℕ → List (List ℕ)
+split start next sep st [] = [] ∷ []
+split start next sep st (b ∷ s) =
+    let r : List (List ℕ) = split start next sep (pick (sep st b) start (next st b)) s in
+    pick (sep st b) ([] ∷ r) (onFirst b r)
+
 -- the parts between one c and the next
 abbrev pub cut : ℕ → List ℕ → List (List ℕ)
 cut c [] = [] ∷ []

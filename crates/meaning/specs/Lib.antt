@@ -5,7 +5,13 @@ pub mod Utf8
 pub mod Space
 pub mod Quote
 pub mod Lines
+pub mod Strings
 pub mod Integers
+pub mod Keys
+pub mod Reading
+pub mod Tree
+pub mod Values
 pub mod Table
 pub mod Corners
+pub mod CornersKeys
 pub mod CornersValues

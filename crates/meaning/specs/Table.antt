@@ -5,9 +5,10 @@ use mathlib.Core.Path.{_≡_, refl}
 use lib.IntN.{pos, negsuc}
 use Rattle.meaning.specs.Base.{ascii}
 use Rattle.meaning.specs.Limits.{of01}
-use Rattle.meaning.specs.Refusal.{Answer, atLine, ok, bad}
+use Rattle.meaning.specs.Refusal.{Answer, atLine, R, ok, bad}
 use Rattle.meaning.specs.Lines.{lines, computes}
 use Rattle.meaning.specs.Integers.{integer}
+use Rattle.meaning.specs.Keys as keyed
 
 -- P1 "`0x-5` is -5"
 pub p1 : integer (ascii "0x-5") ≡ ok (negsuc 4)
@@ -33,6 +34,11 @@ p4 = refl
 pub p5 : integer (ascii "0x8000000000000000") ≡ bad 12
 unfolding Rattle.meaning.specs.Integers.computes
 p5 = refl
+
+-- P7 "key `"a.b"` is 9"
+pub p7 : keyed.keys (of01 .segments) (ascii "\"a.b\"") ≡ bad 9
+unfolding keyed.computes
+p7 = refl
 
 -- P11 "line `x`, then `]`, is 3 at line 2"
 pub p11 : lines of01 (ascii "x" ++ 10 ∷ ascii "]") ≡ atLine 3 2

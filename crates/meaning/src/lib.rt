@@ -35,6 +35,14 @@ pub struct Signed {
     pub mag: u64,
 }
 
+// What a byte of a string does: ends it, announces an escape, stands for a byte, or is no escape.
+pub enum Act {
+    End,
+    Hold,
+    Put(u8),
+    Fault,
+}
+
 pub fn of01() -> Limits
     ensures { λ r. ⌜ r ≡ limits.of01 ⌝ }
 {

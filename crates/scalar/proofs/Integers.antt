@@ -195,7 +195,6 @@ module _ (s : List ℕ) (i r : ℕ) (k : Skipped s i r) where
       unfolding magnitude
       no-number g = rw (some-left, ← e, ← f, g)
 
-
 -- ---- an optional sign
 module _ (s : List ℕ) (i base b : ℕ) (x : Int) (e : b ≡ getD (clean (drop i s)) 0 0) where
   pub sign-minus : (j : ℕ) → Passed s i j → b ≡ 45 → intOf x ≡ magnitude true base (clean (drop j s)) → intOf x ≡ sign base (clean (drop i s))

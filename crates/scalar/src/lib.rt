@@ -1,6 +1,5 @@
-// Scalars: what a value's text says.
+// Scalars: what the text of a string, an integer or a key says.
 
-mod integer;
-
-pub use integer::Int;
-pub use integer::read_int;
+pub mod integer;
+pub mod key;
+pub mod string;

@@ -20,13 +20,13 @@ pub before-fits : (c : ℕ) (s : List ℕ) → before c s ≤ length s
 before-fits c [] = omega arith
 before-fits c (b ∷ s) = on (eqb b c) (λ e. rw e (omega arith)) (λ e. rw e (omega (arith, before-fits c s)))
 
-cut-there : (c : ℕ) (s : List ℕ) → before c s < length s → cut c s ≡ take (before c s) s ∷ cut c (drop (suc (before c s)) s)
+pub cut-there : (c : ℕ) (s : List ℕ) → before c s < length s → cut c s ≡ take (before c s) s ∷ cut c (drop (suc (before c s)) s)
 cut-there c [] h = absurd (omega arith)
 cut-there c (b ∷ s) h =
     on (eqb b c) (λ e. rw e)
     (λ e. let k : suc (before c s) < suc (length s) = rw e at h in rw (e, cut-there c s (omega arith)))
 
-cut-none : (c : ℕ) (s : List ℕ) → length s ≤ before c s → cut c s ≡ s ∷ []
+pub cut-none : (c : ℕ) (s : List ℕ) → length s ≤ before c s → cut c s ≡ s ∷ []
 cut-none c [] h = refl
 cut-none c (b ∷ s) h =
     on (eqb b c) (λ e. absurd (omega (arith, rw e at h)))
