@@ -46,7 +46,7 @@ module _ (s : List ℕ) (at n : ℕ) (r : Next) (f : Follows s at n r) where
   line-told a e l p = told (nexts.Line a e l p)
 
 -- ---- text_lines: z is the room once it is zero
-length-zeros : (n : ℕ) → length (zeros n) ≡ n
+pub length-zeros : (n : ℕ) → length (zeros n) ≡ n
 length-zeros zero = refl
 length-zeros (suc n) = ap suc (length-zeros n)
 

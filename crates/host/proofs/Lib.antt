@@ -1,1 +1,4 @@
 pub mod Exports
+pub mod Valued
+pub mod Keyed
+pub mod Readouts

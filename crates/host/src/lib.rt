@@ -1,5 +1,7 @@
 // The boundary for hosts: what C and Rust call. No export has a `requires`.
 
+mod values;
+
 use text::Next;
 use text::Reading;
 ghost use mathlib.Core.Path.{_≡_};

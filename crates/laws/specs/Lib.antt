@@ -5,3 +5,7 @@ pub mod Chars
 pub mod Trim
 pub mod Scans
 pub mod Stored
+pub mod Splits
+pub mod Never
+pub mod Fits
+pub mod Counted

@@ -56,6 +56,11 @@ abbrev pub before : ℕ → List ℕ → ℕ
 before c [] = 0
 before c (b ∷ s) = pick (eqb b c) 0 (suc (before c s))
 
+-- byte strings one behind the other
+abbrev pub concat : List (List ℕ) → List ℕ
+concat [] = []
+concat (x ∷ xs) = x ++ concat xs
+
 abbrev pub onFirst : ℕ → List (List ℕ) → List (List ℕ)
 onFirst b [] = (b ∷ []) ∷ []
 onFirst b (l ∷ ls) = (b ∷ l) ∷ ls

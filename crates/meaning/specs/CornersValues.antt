@@ -5,8 +5,12 @@ use mathlib.Core.Path.{_≡_, refl, ap}
 use lib.IntN.{pos, negsuc}
 use lib.ListN.{replicate}
 use Rattle.meaning.specs.Base.{ascii}
-use Rattle.meaning.specs.Refusal.{R, ok, bad}
+use Rattle.meaning.specs.Limits.{of01}
+use Rattle.meaning.specs.Refusal.{R, ok, bad, numbered}
 use Rattle.meaning.specs.Integers.{integer, value, clean, computes}
+use Rattle.meaning.specs.Reading.{Got, got, not}
+use Rattle.meaning.specs.Tree.{Value, array, none′, item}
+use Rattle.meaning.specs.Values as valued
 
 -- ---- 22, integers
 
@@ -149,3 +153,141 @@ unfolding computes
 int-zeros zero = refl
 int-zeros (suc zero) = refl
 int-zeros (suc (suc n)) = rw (clean-one n, value-one n)
+
+-- ---- 20, brackets and commas
+
+-- a value by 01's limits, the first that is made
+abbrev reads : List ℕ → Got Value
+reads s = valued.value (of01 .values) (of01 .arrays) s 0
+
+-- refused by a number
+abbrev refuses : ℕ → Got Value
+refuses n = not (numbered n)
+
+-- an array of nothing, the only value made
+abbrev nothing : Got Value
+nothing = got (array none′) [] 1
+
+-- `[1] [2]`: one item, `1] [2`
+pub two-arrays : reads (ascii "[1] [2]") ≡ refuses 12
+unfolding valued.computes
+two-arrays = refl
+
+-- `["x"], ["y"]`: a comma where the bracket count is -1 does not split
+pub comma-below-zero : reads (ascii "[\"x\"], [\"y\"]") ≡ refuses 10
+unfolding valued.computes
+comma-below-zero = refl
+
+-- `[1] 2`: it does not end in a bracket
+pub array-and-more : reads (ascii "[1] 2") ≡ refuses 11
+unfolding valued.computes
+array-and-more = refl
+
+-- `[] []`: one item, `] [`
+pub two-empty-arrays : reads (ascii "[] []") ≡ refuses 12
+unfolding valued.computes
+two-empty-arrays = refl
+
+-- `[[]`, as in `] = [[]`: the inner `[` alone
+pub inner-bracket : reads (ascii "[[]") ≡ refuses 11
+unfolding valued.computes
+inner-bracket = refl
+
+-- ---- 21, what is no value
+
+-- three quotes: the empty string, and text behind it
+pub three-quotes : reads (ascii "\"\"\"x\"\"\"") ≡ refuses 10
+unfolding valued.computes
+three-quotes = refl
+
+-- `'x'`: no string
+pub single-quotes : reads (ascii "'x'") ≡ refuses 12
+unfolding valued.computes
+single-quotes = refl
+
+-- `[ , ]`: both items are blank
+pub blank-items : reads (ascii "[ , ]") ≡ nothing
+unfolding valued.computes
+blank-items = refl
+
+-- `[` U+00A0 `]`: a blank item of wide white space
+pub wide-blank-item : reads (91 ∷ 0xc2 ∷ 0xa0 ∷ 93 ∷ []) ≡ nothing
+unfolding valued.computes
+wide-blank-item = refl
+
+-- `tr_ue`: underscores are dropped of integers alone
+pub true-underscore : reads (ascii "tr_ue") ≡ refuses 12
+unfolding valued.computes
+true-underscore = refl
+
+-- `TRUE`: small letters alone
+pub true-capital : reads (ascii "TRUE") ≡ refuses 12
+unfolding valued.computes
+true-capital = refl
+
+-- ---- 23, arrays inside one another
+
+-- n arrays inside one another, and as many brackets of text
+abbrev nested : ℕ → List ℕ
+nested n = replicate n 91 ++ replicate n 93
+
+-- an array that holds n others, each in the one before
+abbrev within : ℕ → Value
+within zero = array none′
+within (suc n) = array (item (within n) none′)
+
+-- 16 are read
+pub sixteen-arrays : reads (nested 16) ≡ got (within 15) [] 16
+unfolding valued.computes
+sixteen-arrays = refl
+
+-- the 17th is 14
+pub seventeen-arrays : reads (nested 17) ≡ refuses 14
+unfolding valued.computes
+seventeen-arrays = refl
+
+-- ---- 24, the order at the limit
+
+-- where all values are made
+abbrev full : List ℕ → Got Value
+full s = valued.value (of01 .values) (of01 .arrays) s (of01 .values)
+
+-- `x`: no integer, before 16
+pub full-word : full (ascii "x") ≡ refuses 12
+unfolding valued.computes
+full-word = refl
+
+-- `"x" y`: text behind a string, before 16
+pub full-behind : full (ascii "\"x\" y") ≡ refuses 10
+unfolding valued.computes
+full-behind = refl
+
+-- `[1] 2`: no closing bracket, before 16
+pub full-open : full (ascii "[1] 2") ≡ refuses 11
+unfolding valued.computes
+full-open = refl
+
+-- `"\q"`: no escape, before 16
+pub full-escape : full (ascii "\"\\q\"") ≡ refuses 8
+unfolding valued.computes
+full-escape = refl
+
+-- `1`: the one above the limit
+pub full-one : full (ascii "1") ≡ refuses 16
+unfolding valued.computes
+full-one = refl
+
+-- `"x"`: a string too
+pub full-string : full (ascii "\"x\"") ≡ refuses 16
+unfolding valued.computes
+full-string = refl
+
+-- `[x]`: the array is made before its items are read
+pub full-array : full (ascii "[x]") ≡ refuses 16
+unfolding valued.computes
+full-array = refl
+
+-- 17 arrays inside one another: the outermost is above the limit
+pub full-nested : full (nested 17) ≡ refuses 16
+unfolding valued.computes
+full-nested = refl

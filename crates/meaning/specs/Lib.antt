@@ -11,6 +11,7 @@ pub mod Keys
 pub mod Reading
 pub mod Tree
 pub mod Values
+pub mod Document
 pub mod Table
 pub mod Corners
 pub mod CornersKeys

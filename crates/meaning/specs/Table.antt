@@ -9,6 +9,9 @@ use Rattle.meaning.specs.Refusal.{Answer, atLine, R, ok, bad}
 use Rattle.meaning.specs.Lines.{lines, computes}
 use Rattle.meaning.specs.Integers.{integer}
 use Rattle.meaning.specs.Keys as keyed
+use Rattle.meaning.specs.Reading.{got}
+use Rattle.meaning.specs.Tree.{int, array, none′, item}
+use Rattle.meaning.specs.Values as valued
 
 -- P1 "`0x-5` is -5"
 pub p1 : integer (ascii "0x-5") ≡ ok (negsuc 4)
@@ -34,6 +37,11 @@ p4 = refl
 pub p5 : integer (ascii "0x8000000000000000") ≡ bad 12
 unfolding Rattle.meaning.specs.Integers.computes
 p5 = refl
+
+-- P6 "`[1,,2]` has two items"
+pub p6 : valued.value (of01 .values) (of01 .arrays) (ascii "[1,,2]") 0 ≡ got (array (item (int (pos 1)) (item (int (pos 2)) none′))) [] 3
+unfolding valued.computes
+p6 = refl
 
 -- P7 "key `"a.b"` is 9"
 pub p7 : keyed.keys (of01 .segments) (ascii "\"a.b\"") ≡ bad 9

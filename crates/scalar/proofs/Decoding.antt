@@ -103,6 +103,7 @@ room-lent src store a h = rw (rest-of store a) (omega (arith, length-drop a stor
 
 pub lent : (src store ys : List ℕ) (a : ℕ) (r : Decoded) → Decodes src (take (length store - a) (drop a store)) ys r
     → Puts src store a (take a store ++ (ys ++ drop (length store - a) (drop a store))) r
+unfolding stored
 lent src store ys a r h =
     let k : Decodes src (drop a store) ys r = rw (rest-of store a) at h in
     record {

@@ -150,6 +150,7 @@ ends-from at (k ∷ ks) (suc i) h = ends-from (at + length k) ks i (omega arith)
 
 pub segment-at : (store : List ℕ) (at : ℕ) (ks : List (List ℕ)) (i : ℕ) → at ≤ length store → i < length ks
     → part (at + length (flat (take i ks))) (getD (endsOf at ks) i 0) (stored store at (flat ks)) ≡ getD ks i []
+unfolding stored
 segment-at store at ks i l h =
     let a : List ℕ = flat (take i ks) in
     let k : List ℕ = getD ks i [] in

@@ -34,6 +34,7 @@ none-last (b ∷ s) h = absurd (omega arith)
 -- ---- laid as it is
 pub copied : (p store ys : List ℕ) (a : ℕ) → ys ≡ p ++ drop (length p) (take (length store - a) (drop a store))
     → take a store ++ (ys ++ drop (length store - a) (drop a store)) ≡ stored store a p
+unfolding stored
 copied p store ys a e = back-of store ys a ∙ ap (λ (l : List ℕ). take a store ++ l) (e ∙ rw (rest-of store a, drop-drop))
 
 pub room-copied : (p store : List ℕ) (a : ℕ) → Room p store a → length p ≤ length (take (length store - a) (drop a store))

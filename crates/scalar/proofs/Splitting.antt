@@ -1,5 +1,5 @@
 -- The segments of a key, one behind the other: what the loop keeps, and one law for each way on and out.
-use Prim.Native.Nat.{ℕ, zero, suc, _+_, _-_, _^_, _≤_, _<_}
+use Prim.Native.Nat.{ℕ, suc, _+_, _-_, _^_, _≤_, _<_}
 use mathlib.Core.Bool.{Bool, true, false}
 use mathlib.Core.List.{List, [], _∷_, _++_, append-assoc, append-nil}
 use mathlib.Core.Path.{_≡_, refl, sym, ap, _∙_}
@@ -10,14 +10,15 @@ use native.Mathlib.Numerals.{add-one}
 use mir.Syntax.{w64}
 use mir.Val.{Fits}
 use lib.Dec.{eqb, ltb}
-use lib.ListN.{length, getD, take, drop, set, length-drop, length-append, take-append-drop, drop-of-length-le}
-use lib.Seq.{drop-drop, length-take-le, take-at, drop-at, set-at, take-all}
+use lib.ListN.{length, take, drop, set, length-drop, length-append}
+use lib.Seq.{drop-drop, length-take-le, set-at, take-all}
 use Rattle.meaning.specs.Base.{zeros, before, onFirst, cut}
 use Rattle.meaning.specs.Refusal.{R, ok, bad, via}
 use Rattle.meaning.specs.Space.{trim}
 use Rattle.meaning.specs.Keys.{segment, segments, keys}
 use Rattle.laws.specs.Cases.{on}
 use Rattle.laws.specs.Parts.{rest-of}
+use Rattle.laws.specs.Stored.{stored-nil, stored-behind, length-stored}
 use Rattle.slices.specs.Found.{Found}
 use Rattle.text.proofs.Cuts.{cut-there, cut-none}
 use Rattle.scalar.specs.declared.key.Verdict.{Verdict}
@@ -29,26 +30,8 @@ use Rattle.scalar.specs.Segments.{told, isFine, laid, Segmented}
 use Rattle.scalar.specs.Splits.{Taken, none, by, taken, takes, flat, bytesOf, endsOf, keyOf, Asked, Splits}
 
 -- ---- bytes laid behind bytes
-pub stored-size : (store : List ℕ) (at : ℕ) (bs : List ℕ) → at + length bs ≤ length store → length (stored store at bs) ≡ length store
-stored-size store at bs h =
-    length-append (take at store) (bs ++ drop (at + length bs) store)
-    ∙ omega (arith, length-take-le at store (omega arith), length-append bs (drop (at + length bs) store), length-drop (at + length bs) store)
-
-pub stored-nil : (store : List ℕ) (at : ℕ) → stored store at [] ≡ store
-stored-nil store at = rw add-zero (take-append-drop at store)
-
-pub stored-stored : (store : List ℕ) (at : ℕ) (a b : List ℕ) → at ≤ length store → stored (stored store at a) (at + length a) b ≡ stored store at (a ++ b)
-stored-stored store at a b h =
-    let q : List ℕ = take at store ++ a in
-    let d : List ℕ = drop (at + length a) store in
-    let e : stored store at a ≡ q ++ d = sym (append-assoc (take at store) a d) in
-    let n : length q ≡ at + length a = length-append (take at store) a ∙ ap (λ (m : ℕ). m + length a) (length-take-le at store h) in
-    let t : take (at + length a) (stored store at a) ≡ q = ap (take (at + length a)) e ∙ take-at q d (at + length a) n in
-    let x : drop (at + length a) (stored store at a) ≡ d = ap (drop (at + length a)) e ∙ drop-at q d (at + length a) n in
-    let y : drop (at + length a + length b) (stored store at a) ≡ drop (at + length a + length b) store =
-    sym (drop-drop (length b) (at + length a) (stored store at a)) ∙ ap (drop (length b)) x ∙ drop-drop (length b) (at + length a) store in
-    let z : at + length a + length b ≡ at + length (a ++ b) = omega (arith, length-append a b) in
-    rw (t, y, z) (append-assoc (take at store) a (b ++ drop (at + length (a ++ b)) store) ∙ ap (λ (l : List ℕ). take at store ++ l) (sym (append-assoc a b (drop (at + length (a ++ b)) store))))
+stored-stored : (store : List ℕ) (at : ℕ) (a b : List ℕ) → at ≤ length store → stored (stored store at a) (at + length a) b ≡ stored store at (a ++ b)
+stored-stored store at a b h = stored-behind store at a b (at + length a) h refl
 
 flat-snoc : (ks : List (List ℕ)) (k : List ℕ) → flat (ks ++ (k ∷ [])) ≡ flat ks ++ k
 flat-snoc [] k = append-nil k
@@ -292,7 +275,7 @@ module _ (s store₀ : List ℕ) (at₀ limit : ℕ) (store ends : List ℕ) (n 
       same-size : length store' ≡ length store₀
       same-size =
           ap length (g .left)
-          ∙ stored-size store at (laid (trim (take (i + k - i) (drop i s)))) (omega (arith, g .wrote, grown, end-fits, a .fits, a .long)) ∙ a .long
+          ∙ length-stored store at (laid (trim (take (i + k - i) (drop i s)))) (omega (arith, g .wrote, grown, end-fits, a .fits, a .long)) ∙ a .long
 
       -- the parts are this one and those behind its dot, or this one alone
       there : i + k < length s → cut 46 (drop i s) ≡ take k (drop i s) ∷ cut 46 (drop (i + k + 1) s)

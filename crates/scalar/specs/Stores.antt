@@ -1,15 +1,12 @@
 -- Bytes laid into a store behind those already there.
 use Prim.Native.Nat.{ℕ, _+_, _≤_}
 use mathlib.Core.List.{List, _++_}
-use lib.ListN.{length, take, drop}
+use lib.ListN.{length, drop}
+unfoldable pub use Rattle.laws.specs.Stored.{stored}
 
 -- a room with the bytes at its head
 abbrev pub over : List ℕ → List ℕ → List ℕ
 over bytes room = bytes ++ drop (length bytes) room
-
--- a store with the bytes at at
-abbrev pub stored : List ℕ → ℕ → List ℕ → List ℕ
-stored store at bytes = take at store ++ (bytes ++ drop (at + length bytes) store)
 
 -- behind at, the store takes as many bytes as s has
 pub record Room (s store : List ℕ) (at : ℕ) : Type 0 where

@@ -6,3 +6,4 @@ pub mod Walking
 pub mod Saying
 pub mod Checking
 pub mod Whole
+pub mod Items

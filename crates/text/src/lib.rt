@@ -8,9 +8,11 @@ ghost use Prim.Native.Nat.{_+_, _≤_, _<_};
 ghost use lib.ListN.{length};
 ghost use Rattle.meaning.specs.Quote as quotes;
 ghost use Rattle.meaning.specs.Lines as meant;
+ghost use Rattle.meaning.specs.Values as values;
 ghost use Rattle.text.specs.Laid.{Begins, Keeps, Fitting, Lays1, Lays, ended, over};
 ghost use Rattle.text.specs.Walk as walk;
 ghost use Rattle.text.specs.Answers.{Checks, Roomy, Reads};
+ghost use Rattle.text.specs.Item.{Item};
 
 // A place between joined lines of a laid text: an offset, and the number of the line there.
 pub struct Place {
@@ -143,6 +145,37 @@ pub fn outside(s: &[u8], c: u8) -> usize
             return i;
         }
         st = quote(st, b);
+        i += 1;
+    }
+    i
+}
+
+// Whether b parts two items.
+fn parts(c: Scan, b: u8) -> bool
+    ensures { λ r. ⌜ r ≡ values.parts? c b ⌝ }
+{
+    if hits(44, c.st, b) {
+        return c.opens == c.closes;
+    }
+    false
+}
+
+// How many bytes stand before the first comma that parts items, or all of them.
+pub fn item(s: &[u8]) -> usize
+    ensures { λ r. ⌜ Item (now (s .entry)) r ⌝ }
+{
+    let mut i = 0;
+    let mut x = Scan {
+        st: 0,
+        opens: 0,
+        closes: 0,
+    };
+    while i < s.len() {
+        let b = s[i];
+        if parts(x, b) {
+            return i;
+        }
+        x = step(x, b);
         i += 1;
     }
     i

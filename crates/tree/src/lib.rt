@@ -8,8 +8,8 @@ ghost use Rattle.laws.specs.Stored.{stored};
 ghost use Rattle.tree.specs.Room as room;
 ghost use Rattle.tree.specs.Room.{Holds, Finds, Counts, cell, slotAt, hung};
 
-// A value. Its kind: 1 string, 2 integer, 3 boolean, 4 array, 5 table. Its parent: 0 none yet, 1 the root, n + 2 value number n.
-// Its key is len bytes of the text store. Its data: an integer's 64 bits; start + 65536 * length of a string; 0 or 1; else 0.
+// A value. Its kind: 1 string, 2 integer, 3 boolean, 4 array, 5 table, 6 integer with a minus. Its parent: 0 none yet, 1 the root, n + 2 value number n.
+// Its key is len bytes of the text store. Its data: an integer's magnitude; start + 65536 * length of a string; 0 or 1; else 0.
 pub struct Slot {
     pub kind: u8,
     pub parent: u16,

@@ -1,2 +1,3 @@
 //! What the proved library exports, and safe wrappers over it.
 pub mod text;
+pub mod value;

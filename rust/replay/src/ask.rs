@@ -88,10 +88,10 @@ pub fn refused(number: u32, place: usize) -> Lines {
     }
 }
 
-/// The scratch begins with `held` and is zero to its end.
-pub fn holds(scratch: &[u8], held: &[u8]) -> Result<(), String> {
-    let Some(rest) = scratch.strip_prefix(held) else {
-        return Err("the scratch does not hold the kept lines".into());
+/// A lent room begins with `held` and is zero to its end.
+pub fn holds(room: &[u8], held: &[u8]) -> Result<(), String> {
+    let Some(rest) = room.strip_prefix(held) else {
+        return Err("the room does not begin with what it should hold".into());
     };
     // whole chunks at once, since this is done after every text
     match rest
@@ -99,7 +99,7 @@ pub fn holds(scratch: &[u8], held: &[u8]) -> Result<(), String> {
         .all(|part| part == &ZERO[..part.len()])
     {
         true => Ok(()),
-        false => Err("the scratch is not zero to its end".into()),
+        false => Err("the room is not zero to its end".into()),
     }
 }
 

@@ -3,4 +3,5 @@ pub mod answer;
 pub mod ask;
 pub mod model;
 pub mod random;
+pub mod value;
 pub mod vector;

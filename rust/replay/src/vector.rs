@@ -5,14 +5,14 @@
 use crate::answer::{Answer, Joined, Refusal};
 use std::{fmt::Write, path::Path, path::PathBuf, str::FromStr};
 
-/// The file of the recorded answers.
-pub fn file() -> PathBuf {
+/// A file of recorded answers.
+pub fn file(name: &str) -> PathBuf {
     let here = Path::new(env!("CARGO_MANIFEST_DIR"));
     let root = here
         .ancestors()
         .nth(2)
         .expect("rust/replay has a root above");
-    root.join("vectors/text.txt")
+    root.join("vectors").join(name)
 }
 
 /// Quotes a text in one line of printable ASCII.
@@ -74,23 +74,24 @@ pub fn read(line: &str) -> Result<(String, Answer), String> {
     Ok((text, answer))
 }
 
-struct Reader<'a>(&'a str);
+/// What is left of a line.
+pub(crate) struct Reader<'a>(pub(crate) &'a str);
 
 impl<'a> Reader<'a> {
-    fn word(&mut self) -> &'a str {
+    pub(crate) fn word(&mut self) -> &'a str {
         let (word, rest) = self.0.split_once(' ').unwrap_or((self.0, ""));
         self.0 = rest;
         word
     }
 
-    fn named(&mut self, name: &str) -> Result<(), String> {
+    pub(crate) fn named(&mut self, name: &str) -> Result<(), String> {
         match self.word() {
             word if word == name => Ok(()),
             word => Err(format!("{word:?} stands in place of {name}")),
         }
     }
 
-    fn number<T: FromStr>(&mut self) -> Result<T, String> {
+    pub(crate) fn number<T: FromStr>(&mut self) -> Result<T, String> {
         let word = self.word();
         word.parse().map_err(|_| format!("{word:?} is no number"))
     }
@@ -111,7 +112,7 @@ impl<'a> Reader<'a> {
         Ok(out)
     }
 
-    fn quoted(&mut self) -> Result<String, String> {
+    pub(crate) fn quoted(&mut self) -> Result<String, String> {
         let mut rest = self.0.strip_prefix('"').ok_or("no quote")?;
         let mut out = String::new();
         loop {

@@ -1,18 +1,35 @@
 //! The port against the recorded answers of the original.
-use replay::{ask::ask, vector};
+use replay::{ask, value, vector};
+
+fn lines(name: &str) -> Vec<String> {
+    let all = std::fs::read_to_string(vector::file(name)).expect(name);
+    let kept = all.lines().filter(|l| !l.starts_with("# "));
+    let lines: Vec<_> = kept.map(String::from).collect();
+    assert!(lines.len() >= 300, "only {} answers", lines.len());
+    lines
+}
 
 #[test]
-fn every_recorded_answer() {
-    let all = std::fs::read_to_string(vector::file()).expect("vectors/text.txt");
-    let mut count = 0;
-    for line in all.lines().filter(|l| !l.starts_with("# ")) {
-        let (text, want) = vector::read(line).unwrap_or_else(|e| panic!("{e} in {line}"));
+fn every_recorded_text() {
+    for line in lines("text.txt") {
+        let (text, want) = vector::read(&line).unwrap_or_else(|e| panic!("{e} in {line}"));
         assert_eq!(vector::write(&text, &want), line, "read and written again");
-        let got = ask(&text).unwrap_or_else(|e| panic!("{text:?}: {e}"));
+        let got = ask::ask(&text).unwrap_or_else(|e| panic!("{text:?}: {e}"));
         if let Some(difference) = got.difference(&want) {
             panic!("{text:?}: port against record, {difference}");
         }
-        count += 1;
     }
-    assert!(count >= 300, "only {count} answers");
+}
+
+#[test]
+fn every_recorded_value() {
+    for line in lines("value.txt") {
+        let (text, want) = value::vector::read(&line).unwrap_or_else(|e| panic!("{e} in {line}"));
+        let again = value::vector::write(&text, &want);
+        assert_eq!(again, line, "read and written again");
+        let got = value::ask::ask(text.as_bytes()).unwrap_or_else(|e| panic!("{text:?}: {e}"));
+        if let Some(difference) = got.difference(&want) {
+            panic!("{text:?}: port against record, {difference}");
+        }
+    }
 }

@@ -2,6 +2,7 @@
 use crate::original;
 use port::text;
 use replay::{answer::Answer, ask::ask};
+use std::time::{Duration, Instant};
 
 /// Every answer of the text layer on both sides, or the first difference.
 pub fn compare(text: &str) -> Result<(), String> {
@@ -33,29 +34,44 @@ fn trims(line: &str) -> Result<(), String> {
     Err(format!("trim of {line:?}: {got:?} against {want:?}"))
 }
 
+// A long text may stay longer than it need be.
+const PATIENCE: Duration = Duration::from_secs(5);
+
 /// Takes out parts, ever smaller ones, as long as the text still fails.
 pub fn shortest(text: &str, fails: impl Fn(&str) -> bool) -> String {
+    let until = Instant::now() + PATIENCE;
     let mut best: Vec<char> = text.chars().collect();
     let mut size = best.len().div_ceil(2);
-    while size > 0 {
-        match without(&best, size, &fails) {
-            Some(shorter) => best = shorter,
-            None => size /= 2,
+    while size > 0 && Instant::now() < until {
+        let length = best.len();
+        take_out(&mut best, size, &fails, until);
+        if best.len() == length {
+            size /= 2;
         }
     }
     best.into_iter().collect()
 }
 
-fn without(text: &[char], size: usize, fails: &impl Fn(&str) -> bool) -> Option<Vec<char>> {
-    let mut tries = (0..text.len()).map(|at| {
+// One way through the text, in steps of a quarter of what is taken out.
+fn take_out(text: &mut Vec<char>, size: usize, fails: &impl Fn(&str) -> bool, until: Instant) {
+    let mut at = 0;
+    while at < text.len() && Instant::now() < until {
         let end = text.len().min(at + size);
-        [&text[..at], &text[end..]].concat()
-    });
-    tries.find(|shorter| fails(&shorter.iter().collect::<String>()))
+        let shorter = [&text[..at], &text[end..]].concat();
+        match fails(&shorter.iter().collect::<String>()) {
+            true => *text = shorter,
+            false => at += size.div_ceil(4),
+        }
+    }
 }
 
 /// Compares and, on a difference, panics with the shortest failing text.
 pub fn check(text: &str) {
+    check_by(text, compare);
+}
+
+/// The same for any comparison.
+pub fn check_by(text: &str, compare: impl Fn(&str) -> Result<(), String>) {
     if compare(text).is_err() {
         let short = shortest(text, |t| compare(t).is_err());
         panic!("{short:?}: {}", compare(&short).unwrap_err());

@@ -3,3 +3,4 @@ pub mod compare;
 pub mod corners;
 pub mod original;
 pub mod record;
+pub mod value;

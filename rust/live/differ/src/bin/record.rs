@@ -1,9 +1,15 @@
-//! Writes vectors/text.txt from the original.
-use differ::record::{render, texts};
+//! Writes vectors/text.txt and vectors/value.txt from the original.
+use differ::{record, value};
 use replay::vector::file;
 
 fn main() {
-    let path = file();
-    std::fs::write(&path, render()).expect("vectors/ can be written");
-    println!("{} answers in {}", texts().count(), path.display());
+    write("text.txt", record::render(), record::texts().count());
+    let count = value::record::texts().count();
+    write("value.txt", value::record::render(), count);
+}
+
+fn write(name: &str, contents: String, count: usize) {
+    let path = file(name);
+    std::fs::write(&path, contents).expect("vectors/ can be written");
+    println!("{count} answers in {}", path.display());
 }

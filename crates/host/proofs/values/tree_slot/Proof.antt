@@ -1,0 +1,39 @@
+use Rattle.host.proofs.Valued.{slot-there, slot-none}
+use borrow.Author.Needs.{needs}
+use Rattle.host.proofs.values.tree_slot.Statement.{statement}
+use Rattle.host.proofs.values.tree_slot.Tie as tie
+use Rattle.host.proofs.values.tree_slot.Reads as reads
+use Rattle.host.proofs.values.tree_slot.Lts as lts
+use Rattle.tree.proofs.get.Reads as get-reads
+
+-- src/values.rt:101:13
+get-requires : tie.Need-get-requires
+get-requires c κs = search needs
+
+-- src/values.rt:103:19
+cast-t7 : tie.Need-cast-t7
+cast-t7 c = search needs
+
+-- src/values.rt:104:21
+cast-t8 : tie.Need-cast-t8
+cast-t8 c = search needs
+
+-- src/values.rt:105:18
+cast-t9 : tie.Need-cast-t9
+cast-t9 c = search needs
+
+-- src/values.rt:106:18
+cast-t10 : tie.Need-cast-t10
+cast-t10 c = search needs
+
+-- src/values.rt:102:9
+returns : tie.Need-returns
+returns c = search (needs, slot-there)
+
+-- src/values.rt:96:1
+returns-2 : tie.Need-returns-2
+returns-2 c = search (needs, slot-none)
+
+pub tree-slot-spec : {M : Type 1} → statement M
+tree-slot-spec =
+    tie.close (tie.spec get-requires cast-t7 cast-t8 cast-t9 cast-t10 returns returns-2)

@@ -1,0 +1,101 @@
+-- What the exports of the layer of values say, in the words of the definitions.
+use Prim.Native.Nat.{ℕ, _+_, _/_}
+use mathlib.Core.Bool.{Bool, true, false}
+use mathlib.Core.List.{List, [], _∷_, _++_}
+use mathlib.Core.Path.{_≡_}
+use lib.Dec.{eqb, ltb}
+use lib.ListN.{length, getD, drop}
+use Rattle.meaning.specs.Base.{pick, zeros}
+use Rattle.meaning.specs.Refusal.{R, ok, bad}
+use Rattle.meaning.specs.declared.Signed.{Signed}
+use Rattle.meaning.specs.Strings.{Ending, closed, escape, unended, Said, decode}
+use Rattle.meaning.specs.Keys.{keys}
+use Rattle.scalar.specs.declared.key.Verdict.{Verdict}
+use Rattle.scalar.specs.declared.key.Verdict.the-variants.{Fine, Malformed, Escape, Unended, TooMany}
+use Rattle.scalar.specs.Splits.{flat, endsOf}
+use Rattle.tree.specs.declared.Slot.{Slot}
+use Rattle.tree.specs.Room.{slotAt}
+use Rattle.host.specs.declared.values.Number.{Number}
+use Rattle.host.specs.declared.values.Spelling.{Spelling}
+use Rattle.host.specs.declared.values.Value.{Value}
+use Rattle.host.specs.declared.values.Segments.{Segments}
+use Rattle.host.specs.declared.values.ValueRead.{ValueRead}
+use Rattle.laws.specs.Stored.{stored}
+use Rattle.toml_lite.specs.Out.{Out, cells}
+use Rattle.toml_lite.specs.Fill.{valueOut}
+
+-- an integer, or its refusal
+abbrev pub numberOf : R Signed → Number
+numberOf (ok x) = record { number = 0; negative = x .neg; magnitude = x .mag }
+numberOf (bad n) = record { number = n; negative = false; magnitude = 0 }
+
+-- a string's answer, by how it ends
+abbrev pub spellingBy : Ending → List ℕ → ℕ → Spelling
+spellingBy closed bs k = record { number = 0; used = k; written = length bs; at = 0 }
+spellingBy escape bs k = record { number = 8; used = 0; written = 0; at = k }
+spellingBy unended bs k = record { number = 9; used = 0; written = 0; at = 0 }
+
+-- what stands in a room of zeros then: an ended string, or nothing
+abbrev pub spellBy : Ending → List ℕ → List ℕ → List ℕ
+spellBy closed bs room = bs ++ drop (length bs) room
+spellBy escape bs room = room
+spellBy unended bs room = room
+
+-- 17 where the room is shorter than the text
+pub record Spelled (s room room' : List ℕ) (r : Spelling) : Type 0 where
+  pub says : r ≡ pick (ltb (length room) (length s)) (record { number = 17; used = 0; written = 0; at = 0 }) (spellingBy (decode 0 s .how) (decode 0 s .bytes) (decode 0 s .span))
+  pub left : room' ≡ pick (ltb (length room) (length s)) (zeros (length room)) (spellBy (decode 0 s .how) (decode 0 s .bytes) (zeros (length room)))
+
+abbrev pub valueOf : Slot → Value
+valueOf v = record { kind = v .kind; parent = v .parent; key = v .key; len = v .len; «data» = v .«data» }
+
+-- value number n, where the room has so many
+abbrev pub slotOf : List ℕ → ℕ → Value
+slotOf room n = pick (ltb n (length room / 32)) (valueOf (slotAt room n)) (record { kind = 0; parent = 0; key = 0; len = 0; «data» = 0 })
+
+-- 01's number of a key's verdict
+abbrev pub faultOf : Verdict → ℕ
+faultOf Fine = 0
+faultOf Malformed = 7
+faultOf Escape = 8
+faultOf Unended = 9
+faultOf TooMany = 15
+
+-- a key's answer, and what stands in a room of zeros then: its segments one behind the other, or nothing
+abbrev pub segmentsOf : R (List (List ℕ)) → Segments
+segmentsOf (ok ks) = record { number = 0; count = length ks; used = length (flat ks) }
+segmentsOf (bad n) = record { number = n; count = 0; used = 0 }
+
+abbrev pub splitBy : R (List (List ℕ)) → List ℕ → List ℕ
+splitBy (ok ks) room = flat ks ++ drop (length (flat ks)) room
+splitBy (bad n) room = room
+
+pub record Split (s room room' : List ℕ) (r : Segments) : Type 0 where
+  pub says : r ≡ pick (ltb (length room) (length s)) (record { number = 17; count = 0; used = 0 }) (segmentsOf (keys 16 s))
+  pub left : room' ≡ pick (ltb (length room) (length s)) (zeros (length room)) (splitBy (keys 16 s) (zeros (length room)))
+
+-- where segment i ends
+abbrev pub endBy : R (List (List ℕ)) → ℕ → ℕ
+endBy (ok ks) i = getD (endsOf 0 ks) i 0
+endBy (bad n) i = 0
+
+pub record Ends (s room room' : List ℕ) (i r : ℕ) : Type 0 where
+  pub says : r ≡ pick (ltb (length room) (length s)) 0 (endBy (keys 16 s) i)
+  pub left : room' ≡ zeros (length room)
+
+-- 17 where a room is too small, then 1 where the text is too long
+unfoldable pub sizedOf : List ℕ → List ℕ → List ℕ → ℕ
+sizedOf s store tree = pick (ltb (length store) 32768) 17 (pick (ltb (length tree) 65536) 17 (pick (ltb 32768 (length s)) 1 0))
+
+-- what a value leaves under 01's limits in empty rooms
+abbrev pub outOf : List ℕ → Out
+outOf s = valueOut 2048 16 0 0 0 s
+
+-- the number that is told, 0 for none
+abbrev pub told : List ℕ → List ℕ → List ℕ → ℕ
+told s store tree = pick (eqb (sizedOf s store tree) 0) (outOf s .fault) (sizedOf s store tree)
+
+pub record Readout (s store tree store' tree' : List ℕ) (r : ValueRead) : Type 0 where
+  pub says : r ≡ pick (eqb (told s store tree) 0) (record { number = 0; used = length (outOf s .bytes); made = length (outOf s .slots) }) (record { number = told s store tree; used = 0; made = 0 })
+  pub store-is : store' ≡ pick (eqb (told s store tree) 0) (stored (zeros (length store)) 0 (outOf s .bytes)) (zeros (length store))
+  pub tree-is : tree' ≡ pick (eqb (told s store tree) 0) (stored (zeros (length tree)) 0 (cells (outOf s .slots))) (zeros (length tree))

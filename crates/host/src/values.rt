@@ -1,0 +1,258 @@
+// The layer of strings, integers, keys and values, for hosts that compare it with the original.
+
+use scalar::integer::Int;
+use scalar::key::Verdict;
+use scalar::string::Decoded;
+use toml_lite::Reply;
+use toml_lite::State;
+ghost use mathlib.Core.Path.{_≡_};
+ghost use Rattle.meaning.specs.Integers as ints;
+ghost use Rattle.host.specs.Values.{numberOf, slotOf, faultOf, sizedOf, Spelled, Split, Ends, Readout};
+
+// number 0 and the integer by sign and magnitude, or 12.
+#[repr(C)]
+pub struct Number {
+    pub number: u32,
+    pub negative: bool,
+    pub magnitude: u64,
+}
+
+// number 0, with the bytes of text used and the bytes written; or 8 with the place of its backslash; or 9; or 17.
+#[repr(C)]
+pub struct Spelling {
+    pub number: u32,
+    pub used: usize,
+    pub written: usize,
+    pub at: usize,
+}
+
+// A value of a tree room, as it stands there.
+#[repr(C)]
+pub struct Value {
+    pub kind: u32,
+    pub parent: u32,
+    pub key: u32,
+    pub len: u32,
+    pub data: u64,
+}
+
+// The integer that s is.
+#[no_mangle]
+pub extern "C" fn value_int(s: &[u8]) -> Number
+    ensures { λ r. ⌜ r ≡ numberOf (ints.signed (now (s .entry))) ⌝ }
+{
+    let r = scalar::integer::read_int(s);
+    match r {
+        Int::Value(x) => Number {
+            number: 0,
+            negative: x.neg,
+            magnitude: x.mag,
+        },
+        Int::Wrong => Number {
+            number: 12,
+            negative: false,
+            magnitude: 0,
+        },
+    }
+}
+
+fn misspelt(number: u32, at: usize) -> Spelling
+    ensures { λ r. ⌜ r ≡ record { number = number; used = 0; written = 0; at = at } ⌝ }
+{
+    Spelling {
+        number: number,
+        used: 0,
+        written: 0,
+        at: at,
+    }
+}
+
+// Decodes a string behind its opening quote. A refusal leaves the room all zero.
+#[no_mangle]
+pub extern "C" fn value_string(src: &[u8], out: &mut [u8]) -> Spelling
+    ensures { λ r. ⌜ Spelled (now (src .entry)) (now (out .entry)) (now (out .exit)) r ⌝ }
+{
+    slices::zero(out);
+    if out.len() < src.len() {
+        return misspelt(17, 0);
+    }
+    let d = scalar::string::decode(src, out);
+    match d {
+        Decoded::Done { used, written } => Spelling {
+            number: 0,
+            used: used,
+            written: written,
+            at: 0,
+        },
+        Decoded::Escape { at, written: _ } => {
+            slices::zero(out);
+            misspelt(8, at)
+        }
+        Decoded::Unended { written: _ } => {
+            slices::zero(out);
+            misspelt(9, 0)
+        }
+    }
+}
+
+// Value number n of a tree room; no value where the room is too short for it.
+#[no_mangle]
+pub extern "C" fn tree_slot(tree: &[u8], n: usize) -> Value
+    ensures { λ r. ⌜ r ≡ slotOf (now (tree .entry)) n ⌝ }
+{
+    if n < tree.len() / 32 {
+        let v = tree::get(tree, n);
+        return Value {
+            kind: v.kind as u32,
+            parent: v.parent as u32,
+            key: v.key as u32,
+            len: v.len as u32,
+            data: v.data,
+        };
+    }
+    Value {
+        kind: 0,
+        parent: 0,
+        key: 0,
+        len: 0,
+        data: 0,
+    }
+}
+
+// number 0 with how many segments a key has and how many bytes they take; or 7, 8, 9 or 15; or 17.
+#[repr(C)]
+pub struct Segments {
+    pub number: u32,
+    pub count: usize,
+    pub used: usize,
+}
+
+fn unsplit(number: u32) -> Segments
+    ensures { λ r. ⌜ r ≡ record { number = number; count = 0; used = 0 } ⌝ }
+{
+    Segments {
+        number: number,
+        count: 0,
+        used: 0,
+    }
+}
+
+// 01's number of a verdict, 0 for none.
+fn number_of(v: Verdict) -> u32
+    ensures { λ r. ⌜ r ≡ faultOf v ⌝ }
+{
+    match v {
+        Verdict::Fine => 0,
+        Verdict::Malformed => 7,
+        Verdict::Escape => 8,
+        Verdict::Unended => 9,
+        Verdict::TooMany => 15,
+    }
+}
+
+// Splits a key at its dots, under 01's limit of 16 segments. A refusal leaves the room all zero.
+#[no_mangle]
+pub extern "C" fn value_key(s: &[u8], store: &mut [u8]) -> Segments
+    ensures { λ r. ⌜ Split (now (s .entry)) (now (store .entry)) (now (store .exit)) r ⌝ }
+{
+    slices::zero(store);
+    if store.len() < s.len() {
+        return unsplit(17);
+    }
+    let k = scalar::key::put_key(s, store, 0, 16);
+    let v = k.verdict;
+    let n = number_of(v);
+    if n == 0 {
+        return Segments {
+            number: 0,
+            count: k.n,
+            used: k.used,
+        };
+    }
+    slices::zero(store);
+    unsplit(n)
+}
+
+// Where segment i of a key ends among its bytes; 0 where there is none. The room is all zero behind it.
+#[no_mangle]
+pub extern "C" fn value_key_end(s: &[u8], store: &mut [u8], i: usize) -> usize
+    ensures { λ r. ⌜ Ends (now (s .entry)) (now (store .entry)) (now (store .exit)) i r ⌝ }
+{
+    slices::zero(store);
+    if store.len() < s.len() {
+        return 0;
+    }
+    let k = scalar::key::put_key(s, store, 0, 16);
+    let v = k.verdict;
+    let n = number_of(v);
+    slices::zero(store);
+    if n == 0 {
+        if i < 16 {
+            let ends = k.ends;
+            return ends[i];
+        }
+        return 0;
+    }
+    0
+}
+
+// number 0 with the bytes used of the store and the values made; or 8 to 12, 14 or 16; or 17, then 1.
+#[repr(C)]
+pub struct ValueRead {
+    pub number: u32,
+    pub used: usize,
+    pub made: usize,
+}
+
+fn unread(number: u32) -> ValueRead
+    ensures { λ r. ⌜ r ≡ record { number = number; used = 0; made = 0 } ⌝ }
+{
+    ValueRead {
+        number: number,
+        used: 0,
+        made: 0,
+    }
+}
+
+// Whether the two rooms and a text are of 01's sizes: 0, or 17, or 1.
+fn sized(text: &[u8], store: &[u8], tree: &[u8]) -> u32
+    ensures { λ r. ⌜ r ≡ sizedOf (now (text .entry)) (now (store .entry)) (now (tree .entry)) ⌝ }
+{
+    if store.len() < 32768 {
+        return 17;
+    }
+    if tree.len() < 65536 {
+        return 17;
+    }
+    if 32768 < text.len() {
+        return 1;
+    }
+    0
+}
+
+// Reads one value under 01's limits into the two rooms. A refusal leaves both all zero.
+#[no_mangle]
+pub extern "C" fn value_read(text: &[u8], store: &mut [u8], tree: &mut [u8]) -> ValueRead
+    ensures { λ r. ⌜ Readout (now (text .entry)) (now (store .entry)) (now (tree .entry)) (now (store .exit)) (now (tree .exit)) r ⌝ }
+{
+    slices::zero(store);
+    slices::zero(tree);
+    let n = sized(text, store, tree);
+    if n != 0 {
+        return unread(n);
+    }
+    let st = State { used: 0, made: 0 };
+    let r = toml_lite::value::value(text, store, tree, st, 0, 2048, 16);
+    match r {
+        Reply::Fine(end) => ValueRead {
+            number: 0,
+            used: end.used,
+            made: end.made,
+        },
+        Reply::Fault(m, _) => {
+            slices::zero(store);
+            slices::zero(tree);
+            unread(m)
+        }
+    }
+}

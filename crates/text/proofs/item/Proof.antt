@@ -1,0 +1,68 @@
+use borrow.Author.Needs.{needs}
+use Rattle.text.proofs.Items.{Parting, part-start, part-on, part-hit, part-end}
+use lib.ListN.{length}
+use Prim.Native.Nat.{_-_}
+use Rattle.text.proofs.item.Statement.{statement}
+use Rattle.text.proofs.item.Tie as tie
+use Rattle.text.proofs.item.Reads as reads
+use Rattle.text.proofs.item.Lts as lts
+use Rattle.text.proofs.parts.Reads as parts-reads
+use Rattle.text.proofs.step.Reads as step-reads
+
+abbrev Inv-loop : tie.InvT-loop
+Inv-loop s i₀ x₀ i x = Parting s i x
+
+abbrev μ-loop : tie.MeasureT-loop
+μ-loop s i₀ x₀ i x = length s - i
+
+-- src/lib.rt:173:5
+loop-holds : tie.Need-loop-holds Inv-loop μ-loop
+loop-holds c = search (needs, part-start)
+
+-- src/lib.rt:174:17
+shared-slice-read-b : tie.Need-shared-slice-read-b Inv-loop μ-loop
+shared-slice-read-b c = search needs
+
+-- src/lib.rt:175:12
+parts-requires : tie.Need-parts-requires Inv-loop μ-loop
+parts-requires c κs = search needs
+
+-- src/lib.rt:176:13
+returns : tie.Need-returns Inv-loop μ-loop
+returns c = search (needs, part-hit)
+
+-- src/lib.rt:178:9
+step-requires : tie.Need-step-requires Inv-loop μ-loop
+step-requires c κs = search needs
+
+-- src/lib.rt:179:9
+add-i : tie.Need-add-i Inv-loop μ-loop
+add-i c = search needs
+
+-- src/lib.rt:173:5
+loop-less : tie.Need-loop-less Inv-loop μ-loop
+loop-less c = search needs
+
+-- src/lib.rt:173:5
+loop-again : tie.Need-loop-again Inv-loop μ-loop
+loop-again c = search (needs, part-on)
+
+-- src/lib.rt:164:1
+returns-2 : tie.Need-returns-2 Inv-loop μ-loop
+returns-2 c = search (needs, part-end)
+
+pub item-spec : {M : Type 1} → statement M
+item-spec =
+    tie.close
+    (tie.spec
+    Inv-loop
+    μ-loop
+    loop-holds
+    shared-slice-read-b
+    parts-requires
+    returns
+    step-requires
+    add-i
+    loop-less
+    loop-again
+    returns-2)

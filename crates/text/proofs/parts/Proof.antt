@@ -1,0 +1,25 @@
+use borrow.Author.Needs.{needs}
+use Rattle.meaning.specs.Values.{parts?}
+use Rattle.laws.specs.Tests.{calls}
+use Rattle.text.proofs.parts.Statement.{statement}
+use Rattle.text.proofs.parts.Tie as tie
+use Rattle.text.proofs.parts.Reads as reads
+use Rattle.text.proofs.parts.Lts as lts
+use Rattle.text.proofs.hits.Reads as hits-reads
+
+-- src/lib.rt:157:8
+hits-requires : tie.Need-hits-requires
+hits-requires c κs = search needs
+
+-- src/lib.rt:158:9
+returns : tie.Need-returns
+unfolding parts?
+returns c = search calls
+
+-- src/lib.rt:154:1
+returns-2 : tie.Need-returns-2
+unfolding parts?
+returns-2 c = search calls
+
+pub parts-spec : {M : Type 1} → statement M
+parts-spec = tie.close (tie.spec hits-requires returns returns-2)

@@ -1,0 +1,151 @@
+//! Integers, strings, keys and values, decoded into lent rooms.
+
+/// The least text store that `read` takes.
+pub const STORE_MIN: usize = 32_768;
+/// A value's bytes in the tree room.
+pub const SLOT: usize = 32;
+/// The most values that are made.
+pub const VALUES_MAX: usize = 2_048;
+/// The least tree room that `read` takes.
+pub const TREE_MIN: usize = SLOT * VALUES_MAX;
+/// The most segments of a key.
+pub const SEGMENTS_MAX: usize = 16;
+/// The most arrays inside one another.
+pub const ARRAYS_MAX: usize = 16;
+
+/// `number` 0: this integer; else 12.
+#[derive(Clone, Copy, Debug, PartialEq, Eq)]
+pub struct Number {
+    pub number: u32,
+    pub value: i64,
+}
+
+/// `number` 0: a string over `used` bytes with its closing quote, decoded to `written` bytes;
+/// 8 with the place of the backslash, 9 or 17.
+#[repr(C)]
+#[derive(Clone, Copy, Debug, PartialEq, Eq)]
+pub struct Decoded {
+    pub number: u32,
+    pub used: usize,
+    pub written: usize,
+    pub at: usize,
+}
+
+/// `number` 0: `count` segments in `used` bytes of the store; else a refusal.
+#[repr(C)]
+#[derive(Clone, Copy, Debug, PartialEq, Eq)]
+pub struct Segments {
+    pub number: u32,
+    pub count: usize,
+    pub used: usize,
+}
+
+/// `number` 0: `made` values, and their strings in `used` bytes of the store; else a refusal.
+#[repr(C)]
+#[derive(Clone, Copy, Debug, PartialEq, Eq)]
+pub struct ValueRead {
+    pub number: u32,
+    pub used: usize,
+    pub made: usize,
+}
+
+/// A value of the tree room. `kind` 1 string, 2 integer, 3 boolean, 4 array, 5 table, 6 integer
+/// with a minus; `parent` 0 for the outermost, n + 2 for an item of value number n; `data` a
+/// string's start in the store and 65,536 times its length, an integer's magnitude, a boolean's 0
+/// or 1, else 0.
+#[repr(C)]
+#[derive(Clone, Copy, Debug, PartialEq, Eq)]
+pub struct Slot {
+    pub kind: u32,
+    pub parent: u32,
+    pub key: u32,
+    pub len: u32,
+    pub data: u64,
+}
+
+mod sys {
+    use super::{Decoded, Segments, Slot, ValueRead};
+
+    /// An integer by sign and magnitude.
+    #[repr(C)]
+    pub struct Signed {
+        pub number: u32,
+        pub negative: bool,
+        pub magnitude: u64,
+    }
+
+    unsafe extern "C" {
+        pub fn value_int(s: *const u8, n: usize) -> Signed;
+        pub fn value_string(s: *const u8, n: usize, out: *mut u8, room: usize) -> Decoded;
+        pub fn value_key(s: *const u8, n: usize, store: *mut u8, room: usize) -> Segments;
+        pub fn value_key_end(
+            s: *const u8,
+            n: usize,
+            store: *mut u8,
+            room: usize,
+            i: usize,
+        ) -> usize;
+        pub fn value_read(
+            s: *const u8,
+            n: usize,
+            store: *mut u8,
+            store_room: usize,
+            tree: *mut u8,
+            tree_room: usize,
+        ) -> ValueRead;
+        pub fn tree_slot(tree: *const u8, room: usize, n: usize) -> Slot;
+    }
+}
+
+/// The integer that `s` is, taken as it stands: white space is not trimmed.
+pub fn int(s: &[u8]) -> Number {
+    // SAFETY: `s` is a live slice of that length, only read; value_int has no precondition.
+    let got = unsafe { sys::value_int(s.as_ptr(), s.len()) };
+    let value = match got.negative {
+        true => got.magnitude.wrapping_neg() as i64,
+        false => got.magnitude as i64,
+    };
+    Number {
+        number: got.number,
+        value,
+    }
+}
+
+/// Decodes the string whose opening quote stands before `s`.
+pub fn string(s: &[u8], out: &mut [u8]) -> Decoded {
+    let (to, room) = (out.as_mut_ptr(), out.len());
+    // SAFETY: both are live slices of their lengths and the borrow rules keep them apart;
+    // value_string has no precondition.
+    unsafe { sys::value_string(s.as_ptr(), s.len(), to, room) }
+}
+
+/// Decodes a key's segments one behind the other into `store`.
+pub fn key(s: &[u8], store: &mut [u8]) -> Segments {
+    let (to, room) = (store.as_mut_ptr(), store.len());
+    // SAFETY: both are live slices of their lengths and the borrow rules keep them apart;
+    // value_key has no precondition.
+    unsafe { sys::value_key(s.as_ptr(), s.len(), to, room) }
+}
+
+/// Where segment `i` of a key ends among its bytes, 0 where there is none; `store` is zero then.
+pub fn key_end(s: &[u8], store: &mut [u8], i: usize) -> usize {
+    let (to, room) = (store.as_mut_ptr(), store.len());
+    // SAFETY: both are live slices of their lengths and the borrow rules keep them apart;
+    // value_key_end has no precondition.
+    unsafe { sys::value_key_end(s.as_ptr(), s.len(), to, room, i) }
+}
+
+/// Reads a value: its strings into `store`, its values into `tree`, in reading order.
+pub fn read(s: &[u8], store: &mut [u8], tree: &mut [u8]) -> ValueRead {
+    let (to, room) = (store.as_mut_ptr(), store.len());
+    let (slots, places) = (tree.as_mut_ptr(), tree.len());
+    // SAFETY: all three are live slices of their lengths and the borrow rules keep them apart;
+    // value_read has no precondition.
+    unsafe { sys::value_read(s.as_ptr(), s.len(), to, room, slots, places) }
+}
+
+/// Value number `n` of a tree room; all zero where the room is too short for it.
+pub fn slot(tree: &[u8], n: usize) -> Slot {
+    // SAFETY: `tree` is a live slice of that length, only read; tree_slot has no precondition.
+    unsafe { sys::tree_slot(tree.as_ptr(), tree.len(), n) }
+}
