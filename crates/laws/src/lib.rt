@@ -1,5 +1,9 @@
 // Theorems about the definitions stand in specs/. There is no code here but one function, since a crate has at least one.
 
-pub fn nothing(x: usize) -> usize {
+ghost use mathlib.Core.Path.{_≡_};
+
+fn nothing(x: usize) -> usize
+    ensures { λ r. ⌜ r ≡ x ⌝ }
+{
     x
 }
