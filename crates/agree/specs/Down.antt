@@ -13,12 +13,13 @@ use Rattle.meaning.specs.Refusal.{numbered}
 use Rattle.meaning.specs.Reading.{Grown, grown, stuck, turn, make}
 use Rattle.meaning.specs.Tree.{Value, Table, str, int, boolean, array, table, empty, seen, asTable, lookup, hang, Grow, down, enter}
 use Rattle.laws.specs.Cases.{on}
+use Rattle.laws.specs.Never.{same-refl}
 use Rattle.tree.specs.declared.Slot.{Slot}
 use Rattle.tree.specs.declared.Found.{Found}
 use Rattle.tree.specs.declared.Found.the-variants.{At, Nothing}
 use Rattle.tree.specs.Room.{keyed}
 use Rattle.toml_lite.specs.Grow.{Seg, void, lookS, keyedSlot, enterS, enterBy, downS, makeS, Grown as GrownS, grown as grownS, stuck as stuckS, onward}
-use Rattle.agree.specs.Key.{Key, name, same-refl}
+use Rattle.agree.specs.Key.{Key, name}
 use Rattle.agree.specs.Log.{kindAt, walk}
 use Rattle.agree.specs.Finds.{get, find, put, setAt, Takes, at, set-set}
 use Rattle.agree.specs.Meets.{Shows, Meets, slotOf, bare-table}

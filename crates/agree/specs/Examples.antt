@@ -1,4 +1,4 @@
--- Two texts, computed on both levels.
+-- Texts, computed on both levels.
 use mathlib.Core.Bool.{true}
 use mathlib.Core.List.{List, [], _∷_, _++_}
 use mathlib.Core.Path.{_≡_, refl}
@@ -9,7 +9,11 @@ use Rattle.meaning.specs.Limits.{of01}
 use Rattle.meaning.specs.Refusal.{accepted}
 use Rattle.meaning.specs.Tree.{str, int, boolean, array, table, none′, item, empty, entry}
 use Rattle.meaning.specs.Document as meant
+use Rattle.tree.specs.declared.Slot.{Slot}
+use Rattle.tree.specs.declared.Found.the-variants.{At, Nothing}
+use Rattle.tree.specs.Order.{hasKey, before, follows, better, next}
 use Rattle.toml_lite.specs.Doc as rooms
+use Rattle.agree.specs.Order.{stepS}
 
 -- an array that a header adds to, and a key below the added table: the string is made before its table, and hung up last
 abbrev pub added : List ℕ
@@ -57,3 +61,22 @@ pub replaced-rooms : rooms.documentS of01 replaced
     })
 unfolding rooms.computes
 replaced-rooms = refl
+
+-- a key that comes again: the walk in byte order meets a, then the newest b, then nothing
+abbrev pub again : List ℕ
+again = ascii "b = 1" ++ 10 ∷ ascii "a = 2" ++ 10 ∷ ascii "b = 3"
+
+abbrev pub three : List Slot
+three =
+    record { kind = 2; parent = 1; key = 0; len = 1; «data» = 1 }
+    ∷ record { kind = 2; parent = 1; key = 1; len = 1; «data» = 2 }
+    ∷ record { kind = 2; parent = 1; key = 2; len = 1; «data» = 3 }
+    ∷ []
+
+pub again-rooms : rooms.documentS of01 again ≡ accepted (record { bytes = ascii "bab"; slots = three; here = 1 })
+unfolding rooms.computes
+again-rooms = refl
+
+pub again-walked : (stepS (ascii "bab") three 1 Nothing ≡ At 1) × (stepS (ascii "bab") three 1 (At 1) ≡ At 2) × (stepS (ascii "bab") three 1 (At 2) ≡ Nothing)
+unfolding hasKey before follows better next
+again-walked = (refl, refl, refl)

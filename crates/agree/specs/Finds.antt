@@ -9,8 +9,9 @@ use native.Mathlib.Omega.{arith}
 use Rattle.meaning.specs.Base.{same}
 use Rattle.meaning.specs.Tree.{Value, Items, Table, str, int, boolean, array, table, none′, item, empty, entry, lookup, insert, snoc, count, seen}
 use Rattle.laws.specs.Cases.{on, never}
-use Rattle.laws.specs.Never.{lookup-insert}
-use Rattle.agree.specs.Key.{Key, name, index, same-eq, same-refl}
+use Rattle.laws.specs.Never.{same-refl, lookup-insert}
+use Rattle.laws.specs.Order.{lookup-other}
+use Rattle.agree.specs.Key.{Key, name, index}
 use Rattle.agree.specs.Paths.{samePath, below, paths-eq, eq-paths, Beyond, beyond}
 
 abbrev pub nth : Items → ℕ → Option Value
@@ -138,13 +139,6 @@ count-snoc none′ u = refl
 count-snoc (item v is) u = ap suc (count-snoc is u)
 
 -- ---- tables
-
-pub lookup-other : (t : Table) (k m : List ℕ) (u : Value) → (k ≡ m → ⊥) → lookup (insert t k u) m ≡ lookup t m
-lookup-other empty k m u d = on (same k m) (λ e. absurd (d (same-eq k m e))) (λ e. rw e)
-lookup-other (entry j v t) k m u d =
-    on (same j k)
-    (λ e. on (same j m) (λ f. absurd (d (sym (same-eq j k e) ∙ same-eq j m f))) (λ f. rw (e, f)))
-    (λ e. on (same j m) (λ f. rw (e, f)) (λ f. rw (e, f) (lookup-other t k m u d)))
 
 insert-again : (t : Table) (k : List ℕ) (u w : Value) → insert (insert t k u) k w ≡ insert t k w
 insert-again empty k u w = rw (same-refl k)

@@ -1,12 +1,14 @@
 -- A step of a path: a table's key, or a place in an array.
 use Prim.Native.Nat.{ℕ}
-use mathlib.Core.List.{List, [], _∷_}
+use mathlib.Core.List.{List}
 use mathlib.Core.Bool.{Bool, true, false}
 use mathlib.Core.Path.{_≡_, refl, ap}
 use lib.Dec.{eqb}
 use borrow.Author.Tests.{eqb-true, eq-eqb}
 use Rattle.meaning.specs.Base.{same}
 use Rattle.laws.specs.Cases.{on, never}
+use Rattle.laws.specs.Never.{same-refl}
+use Rattle.laws.specs.Order.{same-eq}
 
 pub data Key : Type 0 where
   name : List ℕ → Key
@@ -17,17 +19,6 @@ eqk (name a) (name b) = same a b
 eqk (name a) (index j) = false
 eqk (index i) (name b) = false
 eqk (index i) (index j) = eqb i j
-
-pub same-refl : (p : List ℕ) → same p p ≡ true
-same-refl [] = refl
-same-refl (a ∷ p) = rw (eq-eqb a a refl) (same-refl p)
-
-pub same-eq : (p q : List ℕ) → same p q ≡ true → p ≡ q
-same-eq [] [] e = refl
-same-eq [] (b ∷ q) e = never e refl
-same-eq (a ∷ p) [] e = never e refl
-same-eq (a ∷ p) (b ∷ q) e =
-    on (eqb a b) (λ f. let g : a ≡ b = eqb-true a b f in let h : p ≡ q = same-eq p q (rw f at e) in cc) (λ f. never {b = false} (rw f at e) refl)
 
 eqk-refl : (k : Key) → eqk k k ≡ true
 eqk-refl (name a) = same-refl a

@@ -17,5 +17,6 @@ pub mod Whole
 pub mod Layouts
 pub mod Theorem
 pub mod Reads
+pub mod Order
 pub mod Rooms
 pub mod Examples

@@ -8,7 +8,7 @@ use lib.ListN.{length, take, drop, length-append}
 use lib.Seq.{take-append-seam, drop-append-seam}
 use Rattle.meaning.specs.declared.Limits.{Limits}
 use Rattle.meaning.specs.Base.{part, concat}
-use Rattle.meaning.specs.Refusal.{Fault, numbered, unknown, pathless, hollow, R, ok, bad}
+use Rattle.meaning.specs.Refusal.{Fault, numbered, unmet, R, ok, bad}
 use Rattle.meaning.specs.Reading.{Grown, grown, stuck, Got, got, not, turn, storing}
 use Rattle.meaning.specs.Tree.{Value, Items, Table, array, table, empty, seen, count as many, down, enter, pushOne, ensure, push}
 use Rattle.meaning.specs.Values.{value}
@@ -39,9 +39,7 @@ pub record Value-laid (used made : ℕ) (v : Value) (bs : List ℕ) (m : ℕ) (o
 abbrev pub Value-agrees : ℕ → ℕ → Got Value → Out → Type 0
 Value-agrees used made (got v bs m) o = Value-laid used made v bs m o
 Value-agrees used made (not (numbered n)) o = (o .fault ≡ n) × (n ≡ 0 → ⊥)
-Value-agrees used made (not unknown) o = ⊥
-Value-agrees used made (not pathless) o = ⊥
-Value-agrees used made (not hollow) o = ⊥
+Value-agrees used made (not (unmet u)) o = ⊥
 
 -- the readers of values agree
 abbrev pub Values-agree : Type 0

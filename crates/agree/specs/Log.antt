@@ -10,10 +10,11 @@ use lib.ListN.{length}
 use borrow.Author.Tests.{leb-true, leb-false, eqb-true, eqb-false, ne-eqb}
 use Rattle.meaning.specs.Base.{pick, same, part}
 use Rattle.laws.specs.Cases.{on, never}
+use Rattle.laws.specs.Order.{same-eq}
 use Rattle.tree.specs.declared.Slot.{Slot}
 use Rattle.tree.specs.Room.{keyed}
 use Rattle.toml_lite.specs.Grow.{mineS}
-use Rattle.agree.specs.Key.{Key, name, index, same-eq}
+use Rattle.agree.specs.Key.{Key, name, index}
 use Rattle.agree.specs.Paths.{below, apart, not-it, shorter}
 
 pub record Log : Type 0 where
@@ -99,6 +100,14 @@ top-nonzero f zero n t l e = omega arith
 top-nonzero f (suc m) n t l e =
     on (f m) (λ g. let z : m + 2 ≡ 0 = rw g at e in omega arith)
     (λ g. top-nonzero f m n t (on (eqb m n) (λ d. let c : m ≡ n = eqb-true m n d in never (rw (← c) at t) g) (λ d. omega (arith, eqb-false m n d))) (rw g at e))
+
+-- above it the test does not hold
+pub top-last : (f : ℕ → Bool) (high n m : ℕ) → top f high ≡ n + 2 → n < m → m < high → f m ≡ false
+top-last f zero n m e a b = absurd (omega arith)
+top-last f (suc h) n m e a b =
+    on (f h)
+    (λ t. let d : h + 2 ≡ n + 2 = rw t at e in absurd (omega arith))
+    (λ t. on (eqb m h) (λ c. let d : m ≡ h = eqb-true m h c in rw d t) (λ c. top-last f h n m (rw t at e) a (omega (arith, eqb-false m h c))))
 
 -- ---- what a test says
 

@@ -6,25 +6,44 @@ use mathlib.Core.Path.{_≡_, refl, sym, ap, subst, _∙_}
 use native.Mathlib.Omega.{arith}
 use native.Mathlib.Nat.{add-mul-mod-self-left, mod-eq-of-lt, mod-add-div}
 use lib.Dec.{eqb}
-use lib.ListN.{length, getD}
+use lib.ListN.{length, getD, drop, length-append}
+use borrow.Author.Tests.{le-leb}
 use Rattle.meaning.specs.Base.{pick, part}
+use Rattle.meaning.specs.Tree.{Value, Table, table, empty}
 use Rattle.laws.specs.Cases.{on}
 use Rattle.tree.specs.declared.Slot.{Slot}
 use Rattle.tree.specs.declared.Found.{Found}
 use Rattle.tree.specs.declared.Found.the-variants.{At, Nothing}
-use Rattle.tree.specs.Room.{slotAt, keyed, under, mine, look, first, child, count}
+use Rattle.tree.specs.Room.{Finds, slotAt, keyed, under, mine, look, first, child, count}
+use Rattle.tree.specs.Order.{keyOf, hasKey, next}
+use Rattle.tree.specs.Nearest.{next-same}
+use Rattle.scalar.specs.Stores.{over}
+use Rattle.toml_lite.specs.Out.{cells}
 use Rattle.toml_lite.specs.Grow.{void, mineS, lookS}
+use Rattle.toml_lite.specs.Carries.{AllSized, Carries}
+use Rattle.toml_lite.proofs.Carrying.{slot-carried, over-carries}
 use Rattle.agree.specs.Log.{top, count as counted}
 use Rattle.agree.specs.Meets.{Spells}
 use Rattle.agree.specs.Slots.{logOf, placeOf, look-top}
-use Rattle.agree.specs.Store.{mine-more}
-use Rattle.agree.specs.Reads.{firstS, nextS}
+use Rattle.agree.specs.Store.{mine-more, part-more}
+use Rattle.agree.specs.Reads.{Place, firstS, nextS}
+use Rattle.agree.specs.Steps.{Agree}
+use Rattle.agree.specs.Order.{stepS, Left, Stepped, step-at, step-over}
 
 -- the rooms begin with these values and these bytes
 pub record Carried (room store bytes : List ℕ) (vs : List Slot) : Type 0 where
   pub each : (i : ℕ) → i < length vs → slotAt room i ≡ getD vs i void
   pub rest : List ℕ
   pub is : store ≡ bytes ++ rest
+
+-- what readers leave: a room that carries the values, and a store over which the bytes were laid
+pub carried : (room store lent bytes : List ℕ) (vs : List Slot) → Carries room vs → store ≡ over bytes lent → Carried room store bytes vs
+carried room store lent bytes vs h e = record { each = slot-carried room vs h; rest = drop (length bytes) lent; is = e }
+
+-- or both laid over what was lent
+pub carried-over : (room had store lent bytes : List ℕ) (vs : List Slot) → AllSized vs → 32 * length vs ≤ length had → room ≡ over (cells vs) had → store ≡ over bytes lent
+    → Carried room store bytes vs
+carried-over room had store lent bytes vs s f d e = carried room store lent bytes vs (over-carries had room vs s f d) e
 
 place-one : (r s : Found) → placeOf r ≡ placeOf s → r ≡ s
 place-one (At n) (At m) e = ap At (omega arith)
@@ -77,6 +96,43 @@ module _ (room store bytes : List ℕ) (vs : List Slot) (c : Carried room store 
         (look-to (length vs) (omega arith)
         ∙ ap (top (λ i. mineS bytes (getD vs i void) p key)) (sym z)
         ∙ sym (look-top bytes p key vs 0 (λ i. mineS bytes (getD vs i void) p key) Nothing (λ i l. let b : 0 + i ≡ i = omega arith in rw b) refl))
+
+  module _ (within : (n : ℕ) → getD vs n void .key + getD vs n void .len ≤ length bytes) where
+    has-same : (n : ℕ) → hasKey store (getD vs n void) ≡ hasKey bytes (getD vs n void)
+    unfolding hasKey
+    has-same n =
+        let v : Slot = getD vs n void in
+        let l : v .key + v .len ≤ length store = omega (arith, within n, ap length (c .is), length-append bytes (c .rest)) in
+        rw (le-leb (v .key + v .len) (length store) l, le-leb (v .key + v .len) (length bytes) (within n))
+
+    key-same : (n : ℕ) → keyOf store (getD vs n void) ≡ keyOf bytes (getD vs n void)
+    key-same n = ap (λ (b : List ℕ). keyOf b (getD vs n void)) (c .is) ∙ part-more bytes (c .rest) (getD vs n void .key) (getD vs n void .len) (within n)
+
+    -- a value's key lies in the store, and is what the list says
+    pub room-key-in : (n : ℕ) → n < length vs → (slotAt room n) .key + (slotAt room n) .len ≤ length store
+    room-key-in n l = rw (c .each n l) (omega (arith, within n, ap length (c .is), length-append bytes (c .rest)))
+
+    pub room-key : (n : ℕ) → n < length vs → keyOf store (slotAt room n) ≡ keyOf bytes (getD vs n void)
+    room-key n l = ap (keyOf store) (c .each n l) ∙ key-same n
+
+    -- the next key under a place, in byte order
+    pub room-next-key : (p : ℕ) (after : Found) → next (slotAt room) store (length vs) p after ≡ stepS bytes vs p after
+    room-next-key p after =
+        next-same (length vs) (slotAt room) (λ n. getD vs n void) store bytes
+        (record { each = c .each; has = λ n _. has-same n; key = λ n _. key-same n }) p after
+
+-- a step of the walk in byte order, by what the function says: the first that is left, or nothing is left
+module _ (room store bytes : List ℕ) (vs : List Slot) (c : Carried room store bytes vs) (x : Value) (a : Agree bytes vs x) (p : ℕ) (t : Table) (h : Place bytes vs x p (table t))
+    (made : ℕ) (all : made ≡ length vs) (after : Found) (u : Table) (left : Left bytes vs t after u) (r : Found) (f : Finds 0 made (next (slotAt room) store made p after) r) where
+  step-is : stepS bytes vs p after ≡ r
+  step-is =
+      sym (room-next-key room store bytes vs c (a .within) p after) ∙ ap (λ (m : ℕ). next (slotAt room) store m p after) (sym all) ∙ sym (f .is)
+
+  pub room-step-at : (n : ℕ) → r ≡ At n → Stepped bytes vs x (h .path) t u n
+  room-step-at n e = step-at bytes vs x a p t h after u left n (step-is ∙ e)
+
+  pub room-step-over : r ≡ Nothing → u ≡ empty
+  room-step-over e = step-over bytes vs x a p t h after u left (step-is ∙ e)
 
 -- ---- a string's bytes, of a store that two bytes tell
 

@@ -11,12 +11,13 @@ use lib.Seq.{getD-append-seam, getD-set-same, getD-set-other}
 use borrow.Author.Tests.{eqb-true, eqb-false, eq-eqb, le-leb, ltb-true, ltb-false}
 use Rattle.meaning.specs.Base.{pick, part}
 use Rattle.laws.specs.Cases.{on}
+use Rattle.laws.specs.Never.{same-refl}
 use Rattle.tree.specs.declared.Slot.{Slot}
 use Rattle.tree.specs.declared.Found.{Found}
 use Rattle.tree.specs.declared.Found.the-variants.{At, Nothing}
 use Rattle.tree.specs.Room.{keyed, hung}
 use Rattle.toml_lite.specs.Grow.{Seg, void, mineS, lookS}
-use Rattle.agree.specs.Key.{Key, name, index, same-refl}
+use Rattle.agree.specs.Key.{Key, name, index}
 use Rattle.agree.specs.Log.{Log, top, kindAt, count, test, child, top-same, Hung}
 
 abbrev pub logOf : List Slot → Log

@@ -10,7 +10,7 @@ use lib.ListN.{length, length-append}
 use borrow.Author.Tests.{eq-eqb, ne-eqb}
 use Rattle.meaning.specs.declared.Limits.{Limits}
 use Rattle.meaning.specs.Base.{concat, nil?}
-use Rattle.meaning.specs.Refusal.{numbered, unknown, pathless, hollow, R, ok, bad, Answer, accepted, refused, after}
+use Rattle.meaning.specs.Refusal.{numbered, unmet, R, ok, bad, Answer, accepted, refused, after}
 use Rattle.meaning.specs.Reading.{Got, got, not, turn, storing, adding, onward, having}
 use Rattle.meaning.specs.Tree.{Value, table, empty, assign, ensure, push}
 use Rattle.meaning.specs.Keys.{keys}
@@ -88,9 +88,7 @@ module _ (values : Values-agree) (lim : Limits) where
         (assignBy lim o k r)
     value-by k (got v bs n) o a = rw (eq-eqb (o .fault) 0 (a .fault)) (key-by v bs n o a (keys (lim .segments) k) (keys-ok (lim .segments) k))
     value-by k (not (numbered n)) o a = rw (ne-eqb (o .fault) 0 (λ z. a .1 (sym (a .0) ∙ z))) (ap numbered (sym (a .0)))
-    value-by k (not unknown) o a = absurd a
-    value-by k (not pathless) o a = absurd a
-    value-by k (not hollow) o a = absurd a
+    value-by k (not (unmet u)) o a = absurd a
 
     line-agrees : (f : Form) → Line-agrees (r .bytes) (act lim f d m) (lineS lim f r)
     unfolding act lineS setting setS

@@ -1,2 +1,3 @@
 pub mod Widths
 pub mod Spaces
+pub mod Eights

@@ -9,8 +9,8 @@ use native.Mathlib.Nat.{lt-of-le-of-lt}
 use mir.Syntax.{w64}
 use mir.Val.{Fits}
 use lib.Dec.{eqb}
-use lib.ListN.{length, take, drop, length-drop, drop-of-length-le}
-use lib.Seq.{take-all, take-take, length-take-le, drop-drop}
+use lib.ListN.{length, getD, take, drop, length-drop, drop-of-length-le}
+use lib.Seq.{take-all, take-take, take-suc, length-take-le, drop-drop, drop-cons}
 use Rattle.meaning.specs.Base.{pick, nil?, between}
 use Rattle.meaning.specs.Utf8.{Range, char, point, chars, spelled, wellFormed, valid}
 use Rattle.meaning.specs.Space.{spaces, inside, white, trimHead, trimTail, trimStart, trimEnd, trim, blank}
@@ -18,6 +18,7 @@ use Rattle.laws.specs.Cases.{on}
 use Rattle.laws.specs.Parts.{rest-of}
 use Rattle.laws.specs.Chars.{char-fits, char-most, spelled-chars, valid-more, valid-stop}
 use Rattle.laws.specs.Trim.{whiteAt, endsIn, whiteEnd, white-fits, end-fits, head-more, head-stop, end-more, end-stop, trim-both, blank-is}
+use Rattle.chars.specs.Ascii.{ascii-char, ascii-at, ascii-end}
 use Rattle.chars.specs.Trimmed.{Started, Ended, Trimmed}
 use Rattle.chars.specs.declared.Span.{Span}
 
@@ -87,8 +88,8 @@ module _ (s : List ℕ) (i : ℕ) where
     pub start-bound : i ≤ length s → i + n ≤ length s
     start-bound h = omega (arith, white-here, white-fits (drop i s), length-drop i s)
 
-    pub start-fits : i ≤ length s → length s < 2 ^ 64 → Fits w64 (i + n)
-    start-fits h l = record { fits = lt-of-le-of-lt (start-bound h) l }
+    pub start-fits : Starting s i → length s < 2 ^ 64 → Fits w64 (i + n)
+    start-fits k l = record { fits = lt-of-le-of-lt (start-bound (k .high)) l }
 
     pub start-on : Starting s i → (n ≡ 0 → ⊥) → Starting s (i + n)
     start-on k h =
@@ -99,6 +100,16 @@ module _ (s : List ℕ) (i : ℕ) where
 
     pub start-stop : Starting s i → n ≡ 0 → Started s i
     start-stop k h = starting-done k (head-stop (drop i s) n white-here h)
+
+  module _ (k : Starting s i) (h : i < length s) (l : getD s i 0 < 128) (r : Bool) (e : r ≡ white (getD s i 0)) where
+    ascii-here : whiteAt (take (length s - i) (drop i s)) ≡ pick r 1 0
+    ascii-here = rw (rest-of s i, drop-cons s i 0 h, e) (ascii-at (getD s i 0) (drop (suc i) s) l)
+
+    pub start-ascii : r ≡ true → Starting s (i + 1)
+    start-ascii t = start-on 1 (sym (rw t at ascii-here)) k (λ z. omega arith)
+
+    pub start-plain : r ≡ false → Started s i
+    start-plain t = start-stop 0 (sym (rw t at ascii-here)) k refl
 
   pub start-end : Starting s i → length s ≤ i → Started s i
   start-end k h = starting-done k (rw (drop-of-length-le s h))
@@ -135,6 +146,19 @@ module _ (s : List ℕ) (e : ℕ) where
 
     pub end-halt : Ending s e → n ≡ 0 → Ended s e
     end-halt k h = ending-done k (end-stop (take e s) n w h)
+
+  module _ (k : Ending s e) (h : 0 < e) (l : getD s (e - 1) 0 < 128) (r : Bool) (p : r ≡ white (getD s (e - 1) 0)) where
+    ascii-last : whiteEnd (take e s) ≡ pick r 1 0
+    ascii-last =
+        let n : e ≡ suc (e - 1) = omega arith in
+        let t : take e s ≡ take (e - 1) s ++ (getD s (e - 1) 0 ∷ []) = ap (λ (m : ℕ). take m s) n ∙ take-suc s (e - 1) 0 (omega (arith, k .high)) in
+        rw (t, p) (ascii-end (getD s (e - 1) 0) l (take (e - 1) s))
+
+    pub end-ascii : r ≡ true → Ending s (e - 1)
+    end-ascii t = end-on 1 (sym (rw t at ascii-last)) k (λ z. omega arith)
+
+    pub end-plain : r ≡ false → Ended s e
+    end-plain t = end-halt 0 (sym (rw t at ascii-last)) k refl
 
   pub end-end : Ending s e → e ≤ 0 → Ended s e
   end-end k h = let z : e ≡ 0 = omega arith in ending-done k (rw z)
@@ -177,8 +201,8 @@ module _ (s : List ℕ) (i : ℕ) where
     pub check-bound : i ≤ length s → i + n ≤ length s
     check-bound h = omega (arith, char-here, char-fits (drop i s), length-drop i s)
 
-    pub check-fits : i ≤ length s → length s < 2 ^ 64 → Fits w64 (i + n)
-    check-fits h l = record { fits = lt-of-le-of-lt (check-bound h) l }
+    pub check-fits : Checking s i → length s < 2 ^ 64 → Fits w64 (i + n)
+    check-fits k l = record { fits = lt-of-le-of-lt (check-bound (k .high)) l }
 
     pub check-on : Checking s i → (n ≡ 0 → ⊥) → Checking s (i + n)
     check-on k h =
@@ -190,6 +214,9 @@ module _ (s : List ℕ) (i : ℕ) where
     pub check-stop : Checking s i → i < length s → n ≡ 0 → false ≡ valid s
     unfolding valid
     check-stop k l h = sym (sym (k .left) ∙ valid-stop (drop i s) n (omega (arith, length-drop i s)) char-here h)
+
+  pub check-ascii : Checking s i → i < length s → getD s i 0 ≤ 127 → Checking s (i + 1)
+  check-ascii k h l = check-on 1 (sym (rw (rest-of s i, drop-cons s i 0 h) (ascii-char (getD s i 0) (drop (suc i) s) (omega arith)))) k (λ z. omega arith)
 
   pub check-end : Checking s i → length s ≤ i → true ≡ valid s
   unfolding valid

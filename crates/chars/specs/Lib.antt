@@ -1,2 +1,4 @@
 pub mod Rows
+pub mod Ascii
+pub mod Under
 pub mod Trimmed

@@ -1,13 +1,15 @@
 // Characters of a byte string: UTF-8 (refusal 2, and the lent board name) and trimming.
 
+ghost use mathlib.Core.Bool.{true};
 ghost use mathlib.Core.Path.{_≡_};
-ghost use Prim.Native.Nat.{_≤_, _<_};
+ghost use Prim.Native.Nat.{_+_, _≤_, _<_};
 ghost use lib.ListN.{length, getD, take, drop};
 ghost use Rattle.meaning.specs.Base as base;
 ghost use Rattle.meaning.specs.Utf8 as utf8;
 ghost use Rattle.meaning.specs.Space as space;
 ghost use Rattle.laws.specs.Trim as bytes;
 ghost use Rattle.chars.specs.Rows as rows;
+ghost use Rattle.chars.specs.Under.{Under};
 ghost use Rattle.chars.specs.Trimmed.{Started, Ended, Trimmed};
 
 // A part of a byte string, by its first byte and the byte behind its last.
@@ -248,17 +250,40 @@ fn white_end(s: &[u8]) -> usize
     0
 }
 
+// Whether an ASCII byte is white space.
+fn ascii_white(b: u8) -> bool
+    requires { ⌜ b < 128 ⌝ }
+    ensures { λ r. ⌜ r ≡ space.white b ⌝ }
+{
+    if b == 32 {
+        return true;
+    }
+    if 13 < b {
+        return false;
+    }
+    9 <= b
+}
+
 // Where the white space at the head of s ends.
 fn trim_start(s: &[u8]) -> usize
     ensures { λ r. ⌜ Started (now (s .entry)) r ⌝ }
 {
     let mut i = 0;
     while i < s.len() {
-        let n = white_at(&s[i..]);
-        if n == 0 {
-            return i;
+        let b = s[i];
+        if b < 128 {
+            if ascii_white(b) {
+                i += 1;
+            } else {
+                return i;
+            }
+        } else {
+            let n = white_at(&s[i..]);
+            if n == 0 {
+                return i;
+            }
+            i += n;
         }
-        i += n;
     }
     i
 }
@@ -269,11 +294,20 @@ fn trim_end(s: &[u8]) -> usize
 {
     let mut e = s.len();
     while 0 < e {
-        let n = white_end(&s[..e]);
-        if n == 0 {
-            return e;
+        let b = s[e - 1];
+        if b < 128 {
+            if ascii_white(b) {
+                e -= 1;
+            } else {
+                return e;
+            }
+        } else {
+            let n = white_end(&s[..e]);
+            if n == 0 {
+                return e;
+            }
+            e -= n;
         }
-        e -= n;
     }
     e
 }
@@ -297,17 +331,40 @@ pub fn blank(s: &[u8]) -> bool
     trim_start(s) == s.len()
 }
 
+// A number that none of the four bytes from i on is over.
+fn most(s: &[u8], i: usize) -> u8
+    requires { ⌜ i + 4 ≤ length (now s) ⌝ }
+    ensures { λ r. ⌜ Under (now (s .entry)) i 4 r ⌝ }
+{
+    s[i] | s[i + 1] | s[i + 2] | s[i + 3]
+}
+
+// Whether there are eight bytes from i on, and all of them are ASCII.
+fn eight(s: &[u8], i: usize) -> bool
+    requires { ⌜ i ≤ length (now s) ⌝ }
+    ensures { λ r. ⌜ (r ≡ true → Under (now (s .entry)) i 8 127) ⌝ }
+{
+    if s.len() - i < 8 {
+        return false;
+    }
+    most(s, i) | most(s, i + 4) < 128
+}
+
 // Whether s is UTF-8.
 pub fn valid(s: &[u8]) -> bool
     ensures { λ r. ⌜ r ≡ utf8.valid (now (s .entry)) ⌝ }
 {
     let mut i = 0;
     while i < s.len() {
-        let n = width(&s[i..]);
-        if n == 0 {
-            return false;
+        if eight(s, i) {
+            i += 8;
+        } else {
+            let n = width(&s[i..]);
+            if n == 0 {
+                return false;
+            }
+            i += n;
         }
-        i += n;
     }
     true
 }

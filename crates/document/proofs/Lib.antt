@@ -4,3 +4,4 @@ pub mod Assigning
 pub mod Lining
 pub mod Looping
 pub mod Clearing
+pub mod Reading

@@ -27,7 +27,7 @@ use Rattle.document.specs.declared.LineRead.{LineRead}
 use Rattle.document.specs.declared.LineRead.the-variants as lines
 use Rattle.document.specs.declared.Read.{Read}
 use Rattle.document.specs.declared.Read.the-variants.{Fine, Fault}
-use Rattle.document.specs.Rooms.{docOf, Holding, Taking, Wrote, Lined, lineOf, start, wholeOf, Begun, Reads}
+use Rattle.document.specs.Rooms.{docOf, Holding, Taking, Wrote, Lined, lineOf, start, wholeOf, Behind, behindFault, Told, KeptAll, Begun, Reads}
 use Rattle.document.proofs.Assigning.{Stepped}
 
 pub record Ahead (limits : Limits) (s store₀ tree₀ store tree : List ℕ) (st : State) (here at line : ℕ) : Type 0 where
@@ -37,9 +37,7 @@ pub record Ahead (limits : Limits) (s store₀ tree₀ store tree : List ℕ) (s
   pub room : length s ≤ length store + 1
   pub holding : Holding limits store tree st
   pub stepped : Stepped at store₀ tree₀ store tree start st
-  pub rest : List Line
-  pub there : join closed line (linesOf (drop at s)) ≡ accepted rest
-  pub left : linesS limits rest (docOf store tree st here) ≡ wholeOf limits s
+  pub left : after (join closed line (linesOf (drop at s))) (λ ls. linesS limits ls (docOf store tree st here)) ≡ wholeOf limits s
 
 pub ahead-start : (limits : Limits) (s store tree : List ℕ) → Begun limits s store tree → Ahead limits s store tree store tree start 1 0 1
 ahead-start limits s store tree h =
@@ -50,23 +48,16 @@ ahead-start limits s store tree h =
       room = h .room;
       holding = h .holding;
       stepped = record { store-is = refl; tree-is = refl; store-long = refl; tree-long = refl; fits = omega arith; more = omega arith; short = omega arith; grew = omega arith };
-      rest = h .lines;
-      there = h .whole;
-      left = rw (h .whole) refl;
+      left = refl;
     }
 
 same-state : (st : State) (u m : ℕ) → u ≡ st .used → m ≡ st .made → _≡_ {A = State} st (record { used = u; made = m })
 same-state st u m p q = rw (p, q)
 
--- the lines behind the first
-record Behind (j : Answer (List Line)) (x : Line) (ls : List Line) : Type 0 where
-  rest : List Line
-  is : j ≡ accepted rest
-  all : ls ≡ x ∷ rest
-
-behind : (j : Answer (List Line)) (x : Line) (ls : List Line) → accepted ls ≡ after j (λ r. accepted (x ∷ r)) → Behind j x ls
-behind (accepted r) x ls e = record { rest = r; is = refl; all = cc }
-behind (refused f a p) x ls e = let z : _≡_ {A = ℕ} 0 1 = cc in absurd (omega arith)
+-- the first line, then the others
+line-first : (j : Answer (List Line)) (x : Line) (f : List Line → Answer Doc) → after (after j (λ ls. accepted (x ∷ ls))) f ≡ after j (λ ls. f (x ∷ ls))
+line-first (accepted ls) x f = refl
+line-first (refused g a p) x f = refl
 
 -- the line's own outcome, by the answer of the code
 fault-is : (m : R Doc) (q : LineRead) (n : ℕ) → q ≡ lineOf m → q ≡ lines.Fault n → m ≡ bad n
@@ -97,14 +88,18 @@ same-doc : (d : Doc) (bs : List ℕ) (vs : List Slot) (h : ℕ) → bs ≡ d .by
 same-doc d bs vs h p q r = rw (p, q, r)
 
 module _ (limits : Limits) (s store₀ tree₀ store tree : List ℕ) (st : State) (here at line : ℕ) (k : Ahead limits s store₀ tree₀ store tree st here at line) where
-  ended : k .rest ≡ [] → Reads limits (length s) store₀ tree₀ store tree (wholeOf limits s) (Fine st)
+  ended : join closed line (linesOf (drop at s)) ≡ accepted [] → Reads limits (length s) store₀ tree₀ store tree (wholeOf limits s) (Fine st)
   ended e =
       let w : accepted (docOf store tree st here) ≡ wholeOf limits s = rw e at (k .left) in
       let u : length (take (st .used) store) ≡ st .used = length-take-le (st .used) store (k .holding .fits) in
       let n : length (slotsOf tree (st .made)) ≡ st .made = length-slots tree (st .made) in
       rw (← w)
       (record {
-        says = ap Fine (same-state st (length (take (st .used) store)) (length (slotsOf tree (st .made))) u n);
+        told = record {
+          says = ap Fine (same-state st (length (take (st .used) store)) (length (slotsOf tree (st .made))) u n);
+          small = (omega (arith, k .stepped .short, k .high), omega (arith, k .holding .grows .few, k .holding .grows .most));
+          text = tt;
+        };
         store-long = k .stepped .store-long;
         tree-long = k .stepped .tree-long;
         kept = record {
@@ -121,25 +116,29 @@ module _ (limits : Limits) (s store₀ tree₀ store tree : List ℕ) (st : Stat
 
   pub ahead-end : length s ≤ at → Reads limits (length s) store₀ tree₀ store tree (wholeOf limits s) (Fine st)
   unfolding linesOf
-  ahead-end h =
-      let e : accepted [] ≡ accepted (k .rest) = rw (drop-of-length-le s h) at (k .there) in
-      ended cc
+  ahead-end h = ended (rw (drop-of-length-le s h))
+
+  -- 3 or 4 among the lines
+  halted : (n l : ℕ) → join closed line (linesOf (drop at s)) ≡ atLine n l → l + at ≤ line + length s → Reads limits (length s) store₀ tree₀ store tree (wholeOf limits s) (Fault n l)
+  halted n l e h =
+      let w : atLine n l ≡ wholeOf limits s = rw e at (k .left) in
+      rw (← w) (record { told = record { says = refl; small = omega (arith, k .number); text = refl }; store-long = k .stepped .store-long; tree-long = k .stepped .tree-long; kept = tt })
 
   module _ (r : Next) (f : Follows s at line r) where
-    told : Says s (accepted (k .rest)) r
-    told = rw (k .there) at (rw (← f .is) at (says s at line))
+    told : Says s (join closed line (linesOf (drop at s))) r
+    told = rw (f .is) (says s at line)
 
     pub ahead-none : r ≡ nexts.End → Reads limits (length s) store₀ tree₀ store tree (wholeOf limits s) (Fine st)
-    ahead-none e = let x : accepted (k .rest) ≡ accepted [] = rw e at told in ended cc
+    ahead-none e = ended (rw e at told)
 
     pub ahead-over : (l : ℕ) → r ≡ nexts.Over l → Reads limits (length s) store₀ tree₀ store tree (wholeOf limits s) (Fault 3 l)
-    ahead-over l e = let x : accepted (k .rest) ≡ atLine 3 l = rw e at told in let z : _≡_ {A = ℕ} 0 1 = cc in absurd (omega arith)
+    ahead-over l e = halted 3 l (rw e at told) (rw e at (f .advance))
 
     pub ahead-open : (l : ℕ) → r ≡ nexts.Open l → Reads limits (length s) store₀ tree₀ store tree (wholeOf limits s) (Fault 4 l)
-    ahead-open l e = let x : accepted (k .rest) ≡ atLine 4 l = rw e at told in let z : _≡_ {A = ℕ} 0 1 = cc in absurd (omega arith)
+    ahead-open l e = halted 4 l (rw e at told) (rw e at (f .advance))
 
     module _ (from end l : ℕ) (p : Place) (e : r ≡ nexts.Line from end l p) where
-      onward : Onward s at line from end p
+      onward : Onward s at line from end l p
       onward = rw e at (f .advance)
 
       pub ahead-from : from ≤ end
@@ -165,18 +164,32 @@ module _ (limits : Limits) (s store₀ tree₀ store tree : List ℕ) (st : Stat
             low = omega (arith, text-long, k .stepped .short, onward .on, ahead-in, k .low);
           }
 
-      first : Behind (join closed (p .line) (linesOf (drop (p .at) s))) (record { at = l; text = text }) (k .rest)
-      first = behind (join closed (p .line) (linesOf (drop (p .at) s))) (record { at = l; text = text }) (k .rest) (rw e at told)
+      pub ahead-behind : Behind s p l
+      ahead-behind =
+          record {
+            place = record { high = onward .fits; number = omega (arith, onward .count, k .number); small = omega (arith, k .low) };
+            number = omega (arith, onward .number, k .number, ahead-from, ahead-in);
+          }
 
-      meaning : toldAt limits l (lineS limits (meant.form (trim text)) (docOf store tree st here)) (linesS limits (first .rest)) ≡ wholeOf limits s
-      meaning = rw (first .all) at (k .left)
+      -- the lines behind this one
+      abbrev rest : Answer (List Line)
+      rest = join closed (p .line) (linesOf (drop (p .at) s))
+
+      meaning : after rest (λ ls. toldAt limits l (lineS limits (meant.form (trim text)) (docOf store tree st here)) (linesS limits ls)) ≡ wholeOf limits s
+      meaning =
+          sym (line-first rest (record { at = l; text = text }) (λ ls. linesS limits ls (docOf store tree st here)))
+          ∙ ap (λ (j : Answer (List Line)). after j (λ ls. linesS limits ls (docOf store tree st here))) (sym (rw e at told)) ∙ k .left
 
       module _ (store' tree' : List ℕ) (q : LineRead) (a : Lined limits (length text) store tree store' tree' st (lineS limits (meant.form (trim text)) (docOf store tree st here)) q) where
-        pub ahead-fault : (n : ℕ) → q ≡ lines.Fault n → Reads limits (length s) store₀ tree₀ store' tree' (wholeOf limits s) (Fault n l)
-        ahead-fault n g =
+        pub ahead-fault : (n : ℕ) (v : Read) → q ≡ lines.Fault n → Told (length s) (behindFault s p n l) v → Reads limits (length s) store₀ tree₀ store' tree' (wholeOf limits s) v
+        ahead-fault n v g t =
             let m : lineS limits (meant.form (trim text)) (docOf store tree st here) ≡ bad n = fault-is (lineS limits (meant.form (trim text)) (docOf store tree st here)) q n (a .says) g in
-            let w : atLine n l ≡ wholeOf limits s = rw m at meaning in
-            rw (← w) (record { says = refl; store-long = a .store-long ∙ k .stepped .store-long; tree-long = a .tree-long ∙ k .stepped .tree-long; kept = tt })
+            let w : behindFault s p n l ≡ wholeOf limits s = rw m at meaning in
+            rw (← w) (record { told = t; store-long = a .store-long ∙ k .stepped .store-long; tree-long = a .tree-long ∙ k .stepped .tree-long; kept = nothing rest })
+          where
+            nothing : (j : Answer (List Line)) → KeptAll limits (length s) store₀ tree₀ store' tree' (after j (λ _. atLine n l))
+            nothing (accepted ls) = tt
+            nothing (refused f a p) = tt
 
         module _ (next : State) (place : ℕ) (g : q ≡ lines.Fine next place) where
           at-last : Came limits (length text) store tree store' tree' st next place (lineS limits (meant.form (trim text)) (docOf store tree st here))
@@ -234,7 +247,5 @@ module _ (limits : Limits) (s store₀ tree₀ store tree : List ℕ) (st : Stat
                   short = omega (arith, in-place);
                   grew = omega arith;
                 };
-                rest = first .rest;
-                there = first .is;
-                left = ap (linesS limits (first .rest)) doc-now ∙ sym (ap (λ (m : R Doc). toldAt limits l m (linesS limits (first .rest))) (at-last .is)) ∙ meaning;
+                left = ap (λ (d : Doc). after rest (λ ls. linesS limits ls d)) doc-now ∙ sym (ap (λ (m : R Doc). after rest (λ ls. toldAt limits l m (linesS limits ls))) (at-last .is)) ∙ meaning;
               }

@@ -1,13 +1,17 @@
 -- What the rooms hold between lines, what reading a line asks of them, and what it leaves.
-use Prim.Native.Nat.{ℕ, _+_, _≤_, _<_}
+use Prim.Native.Nat.{ℕ, _+_, _*_, _≤_, _<_}
 use mathlib.Core.List.{List}
 use mathlib.Core.Path.{_≡_}
-use lib.ListN.{length, take}
+use lib.Dec.{ltb}
+use lib.ListN.{length, take, drop}
 use Rattle.meaning.specs.declared.Limits.{Limits}
-use Rattle.meaning.specs.Refusal.{Answer, accepted, refused, after, numberOf, R, ok, bad}
-use Rattle.meaning.specs.Base.{zeros}
+use Rattle.meaning.specs.Limits.{of01}
+use Rattle.meaning.specs.Refusal.{Answer, accepted, refused, after, numberOf, inText, atLine, atNoLine, R, ok, bad}
+use Rattle.meaning.specs.Base.{pick, zeros}
 use Rattle.meaning.specs.Keys.{keys}
-use Rattle.meaning.specs.Lines.{Line, closed, join}
+use Rattle.meaning.specs.Lines.{closed, join}
+use Rattle.text.specs.declared.Place.{Place}
+use Rattle.text.specs.Answers.{Between}
 use Rattle.text.specs.Laid.{linesOf}
 use Rattle.scalar.specs.Stores.{over}
 use Rattle.scalar.specs.declared.key.Verdict.{Verdict}
@@ -18,7 +22,7 @@ use Rattle.toml_lite.specs.declared.grow.Grown.the-variants.{At, Full, Clash}
 use Rattle.toml_lite.specs.Out.{cells}
 use Rattle.toml_lite.specs.Carries.{slotsOf, Carries, AllWithin, Grows}
 use Rattle.toml_lite.specs.Grow.{toLastS, hangS}
-use Rattle.toml_lite.specs.Doc.{Doc, settleS, pathBy, linesS, empty}
+use Rattle.toml_lite.specs.Doc.{Doc, settleS, pathBy, linesS, empty, documentS}
 use Rattle.document.specs.declared.LineRead.{LineRead}
 use Rattle.document.specs.declared.LineRead.the-variants.{Fine, Fault}
 use Rattle.document.specs.declared.Read.{Read}
@@ -103,17 +107,41 @@ start = record { used = 0; made = 0 }
 abbrev pub wholeOf : Limits → List ℕ → Answer Doc
 wholeOf limits s = after (join closed 1 (linesOf s)) (λ ls. linesS limits ls (empty limits))
 
--- its joined lines are whole, and the rooms take it: the last LF of a laid text is in no line
+-- a place behind a line
+pub record Behind (s : List ℕ) (p : Place) (line : ℕ) : Type 0 where
+  pub place : Between s (p .at) (p .line)
+  pub number : line ≤ length s + 1
+
+-- a line's fault, where the lines behind it have no 3 and no 4
+abbrev pub behindFault : List ℕ → Place → ℕ → ℕ → Answer Doc
+behindFault s p number line = after (join closed (p .line) (linesOf (drop (p .at) s))) (λ _. atLine number line)
+
+-- the rooms take the text: the last LF of a laid text is in no line
 pub record Begun (limits : Limits) (s store tree : List ℕ) : Type 0 where
-  pub lines : List Line
-  pub whole : join closed 1 (linesOf s) ≡ accepted lines
   pub holding : Holding limits store tree start
   pub room : length s ≤ length store + 1
   pub low : length s < 65536
 
+-- the answer of the code
 abbrev pub readOf : Answer Doc → Read
 readOf (accepted d) = reads.Fine (record { used = length (d .bytes); made = length (d .slots) })
 readOf (refused f section line) = reads.Fault (numberOf f) line
+
+-- no number of an answer is large
+abbrev pub Small : ℕ → Read → Type 0
+Small n (reads.Fine st) = (st .used ≤ n) × (st .made ≤ 65536)
+Small n (reads.Fault number line) = line ≤ n + 1
+
+-- a refusal is told of a text, not of an entry
+abbrev pub OfText : Answer Doc → Type 0
+OfText (accepted d) = Unit
+OfText (refused f section line) = section ≡ inText
+
+-- what is said of n bytes that mean m
+pub record Told (n : ℕ) (m : Answer Doc) (r : Read) : Type 0 where
+  pub says : r ≡ readOf m
+  pub small : Small n r
+  pub text : OfText m
 
 abbrev pub KeptAll : Limits → ℕ → List ℕ → List ℕ → List ℕ → List ℕ → Answer Doc → Type 0
 KeptAll limits n store tree store' tree' (accepted d) = Wrote limits n store tree store' tree' start d
@@ -121,7 +149,7 @@ KeptAll limits n store tree store' tree' (refused f section line) = Unit
 
 -- what reading all lines of n bytes that mean m leaves
 pub record Reads (limits : Limits) (n : ℕ) (store tree store' tree' : List ℕ) (m : Answer Doc) (r : Read) : Type 0 where
-  pub says : r ≡ readOf m
+  pub told : Told n m r
   pub store-long : length store' ≡ length store
   pub tree-long : length tree' ≡ length tree
   pub kept : KeptAll limits n store tree store' tree' m
@@ -135,7 +163,36 @@ abbrev pub treeOf : List ℕ → Answer Doc → List ℕ
 treeOf tree (accepted d) = over (cells (d .slots)) tree
 treeOf tree (refused f section line) = zeros (length tree)
 
+-- an accepted text's values stand in the room as they were made
+abbrev pub Carried : List ℕ → Answer Doc → Type 0
+Carried tree' (accepted d) = Carries tree' (d .slots)
+Carried tree' (refused f section line) = Unit
+
 pub record Cleared (store tree store' tree' : List ℕ) (m : Answer Doc) (r : Read) : Type 0 where
-  pub says : r ≡ readOf m
+  pub told : Told 65536 m r
   pub store-is : store' ≡ storeOf store m
   pub tree-is : tree' ≡ treeOf tree m
+  pub carried : Carried tree' m
+
+-- ---- whole texts
+-- both rooms are empty, and large enough for every text within the limits
+pub record Ready (limits : Limits) (scratch store tree : List ℕ) : Type 0 where
+  pub fits : limits .text < length scratch
+  pub store-fits : limits .text ≤ length store
+  pub tree-fits : 32 * limits .values ≤ length tree
+  pub few : limits .values < 65000
+  pub segs : limits .segments ≤ 16
+  pub low : limits .text < 65535
+  pub store-empty : store ≡ zeros (length store)
+  pub tree-empty : tree ≡ zeros (length tree)
+
+-- the same for 01's limits
+pub record Roomy (store tree : List ℕ) : Type 0 where
+  pub store-fits : 32768 ≤ length store
+  pub tree-fits : 65536 ≤ length tree
+  pub store-empty : store ≡ zeros (length store)
+  pub tree-empty : tree ≡ zeros (length tree)
+
+-- "17: a lent room is too small", before all else
+unfoldable pub judged : List ℕ → ℕ → ℕ → Answer Doc
+judged s store tree = pick (ltb store 32768) (atNoLine 17) (pick (ltb tree 65536) (atNoLine 17) (documentS of01 s))

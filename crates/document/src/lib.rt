@@ -2,7 +2,9 @@
 
 use meaning::Limits;
 use scalar::key::Verdict;
+use text::Checked;
 use text::Next;
+use text::Place;
 use toml_lite::Reply;
 use toml_lite::State;
 use toml_lite::form::Form;
@@ -12,8 +14,10 @@ ghost use Prim.Native.Nat.{_+_};
 ghost use lib.ListN.{length};
 ghost use Rattle.meaning.specs.Document as meant;
 ghost use Rattle.meaning.specs.Space as space;
-ghost use Rattle.toml_lite.specs.Doc.{lineS, setS};
-ghost use Rattle.document.specs.Rooms.{verdictNumber, settled, docOf, hangK, Taking, Hanging, Lined, wholeOf, Begun, Reads, Cleared};
+ghost use Rattle.meaning.specs.Base.{zeros};
+ghost use Rattle.meaning.specs.Limits.{of01};
+ghost use Rattle.toml_lite.specs.Doc.{lineS, setS, documentS};
+ghost use Rattle.document.specs.Rooms.{verdictNumber, settled, docOf, hangK, Taking, Hanging, Lined, wholeOf, Behind, behindFault, Told, Begun, Reads, Cleared, Ready, Roomy, judged};
 
 // What a line comes to: the state behind it and the place where assignments go; or the number of its fault.
 pub enum LineRead {
@@ -224,7 +228,23 @@ pub fn read_line(
     read_form(&l[from..end], store, tree, st, here, limits)
 }
 
-// All joined lines of a laid text whose joined lines are known to be whole.
+// A refused line: 3 and 4 come before it, wherever they stand, so the lines behind it are checked for them.
+fn first_fault(s: &[u8], behind: Place, number: u32, line: usize) -> Read
+    requires { ⌜ Behind (now s) behind line ⌝ }
+    ensures { λ r. ⌜ Told (length (now (s .entry))) (behindFault (now (s .entry)) behind number line) r ⌝ }
+{
+    let c = text::check(s, behind.at, behind.line);
+    match c {
+        Checked::Fine(_) => Read::Fault {
+            number: number,
+            line: line,
+        },
+        Checked::Over(l) => Read::Fault { number: 3, line: l },
+        Checked::Open(l) => Read::Fault { number: 4, line: l },
+    }
+}
+
+// All joined lines of a laid text.
 pub fn read_lines(s: &[u8], store: &mut [u8], tree: &mut [u8], limits: Limits) -> Read
     requires { ⌜ Begun limits (now s) (now store) (now tree) ⌝ }
     ensures { λ r. ⌜ Reads limits (length (now (s .entry))) (now (store .entry)) (now (tree .entry)) (now (store .exit)) (now (tree .exit)) (wholeOf limits (now (s .entry))) r ⌝ }
@@ -247,10 +267,7 @@ pub fn read_lines(s: &[u8], store: &mut [u8], tree: &mut [u8], limits: Limits) -
             } => {
                 let r = read_line(&s[from..end], store, tree, cur, here, limits);
                 match r {
-                    LineRead::Fault(number) => return Read::Fault {
-                        number: number,
-                        line: l,
-                    },
+                    LineRead::Fault(number) => return first_fault(s, p, number, l),
                     LineRead::Fine { st, here: place } => {
                         cur = st;
                         here = place;
@@ -281,4 +298,55 @@ pub fn read_laid(s: &[u8], store: &mut [u8], tree: &mut [u8], limits: Limits) ->
             }
         }
     }
+}
+
+// A text for which both rooms, which hold zeros, are large enough: 1, 2, then its lines.
+fn read_text(
+    text: &[u8],
+    scratch: &mut [u8],
+    store: &mut [u8],
+    tree: &mut [u8],
+    limits: Limits,
+) -> Read
+    requires { ⌜ Ready limits (now scratch) (now store) (now tree) ⌝ }
+    ensures { λ r. ⌜ Cleared (now (store .entry)) (now (tree .entry)) (now (store .exit)) (now (tree .exit)) (documentS limits (now (text .entry))) r ⌝ }
+{
+    if limits.text < text.len() {
+        return Read::Fault { number: 1, line: 0 };
+    }
+    if chars::valid(text) {
+        let used = text::lay(text, scratch);
+        return read_laid(&scratch[..used], store, tree, limits);
+    }
+    Read::Fault { number: 2, line: 0 }
+}
+
+// The same within 01's limits: the text is laid into a scratch first.
+fn read_roomy(text: &[u8], store: &mut [u8], tree: &mut [u8]) -> Read
+    requires { ⌜ Roomy (now store) (now tree) ⌝ }
+    ensures { λ r. ⌜ Cleared (now (store .entry)) (now (tree .entry)) (now (store .exit)) (now (tree .exit)) (documentS of01 (now (text .entry))) r ⌝ }
+{
+    let mut scratch = [0u8; 32769];
+    read_text(text, &mut scratch, store, tree, meaning::of01())
+}
+
+// A text into both rooms, whatever they hold: 17 first, by their lengths alone.
+pub fn read_tree(text: &[u8], store: &mut [u8], tree: &mut [u8]) -> Read
+    ensures { λ r. ⌜ Cleared (zeros (length (now (store .entry)))) (zeros (length (now (tree .entry)))) (now (store .exit)) (now (tree .exit)) (judged (now (text .entry)) (length (now (store .entry))) (length (now (tree .entry)))) r ⌝ }
+{
+    slices::zero(store);
+    slices::zero(tree);
+    if store.len() < 32768 {
+        return Read::Fault {
+            number: 17,
+            line: 0,
+        };
+    }
+    if tree.len() < 65536 {
+        return Read::Fault {
+            number: 17,
+            line: 0,
+        };
+    }
+    read_roomy(text, store, tree)
 }

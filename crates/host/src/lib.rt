@@ -1,5 +1,6 @@
 // The boundary for hosts: what C and Rust call. No export has a `requires`.
 
+mod documents;
 mod values;
 
 use text::Next;

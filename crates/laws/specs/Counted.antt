@@ -10,7 +10,7 @@ use Rattle.meaning.specs.declared.Limits.{Limits}
 use Rattle.meaning.specs.Base.{nil?, final, concat}
 use Rattle.meaning.specs.Refusal.{R, ok, bad, Answer, accepted, refused, after}
 use Rattle.meaning.specs.Reading.{Grown, grown, stuck, Got, got, not, then, turn, storing, adding, onward, change, having, grows, make}
-use Rattle.meaning.specs.Tree.{Value, Items, Table, str, array, table, none′, item, empty, Grow, lookup, insert, snoc, hang, down, toLast, known, stands, within, inLast, atArray, underLast, put, enter, orMake, ensure, pushTo, addTo, pushOne, push, assign, asTable, asArray, seen}
+use Rattle.meaning.specs.Tree.{Value, Items, Table, str, array, table, none′, item, empty, Grow, lookup, insert, snoc, hang, down, toLast, known, stands, within, inLast, atArray, atKey, underLast, put, enter, orMake, ensure, pushTo, addTo, pushOne, push, assign, asTable, asArray, seen}
 use Rattle.meaning.specs.Keys.{keys}
 use Rattle.meaning.specs.Space.{trim}
 use Rattle.meaning.specs.Values.{Reader, each, aString, aPlain, one, anArray, brackets, value, stringOf, plain, itemsOf}
@@ -75,7 +75,8 @@ module _ (limit : ℕ) where
 
   known-to : (o : Option Value) → Keeps (known o)
   unfolding known
-  known-to o m h = stands-to (seen asTable o) m h
+  known-to none m h = tt
+  known-to (some v) m h = stands-to (asTable v) m h
 
   orMake-to : (o : Option Table) → Keeps (orMake limit o)
   orMake-to none m h = make-to empty m
@@ -120,9 +121,13 @@ module _ (limit : ℕ) where
     atArray-to k t none m h = tt
     atArray-to k t (some a) m h = turn-to (λ b. insert t k (array b)) (inLast f a m) (inLast-to a m h)
 
+    atKey-to : (k : List ℕ) (t : Table) (o : Option Value) → Keeps (atKey f k t o)
+    atKey-to k t none m h = tt
+    atKey-to k t (some v) m h = atArray-to k t (asArray v) m h
+
     here-to : (u : Under) (t : Table) → Keeps (here u f t)
     here-to (tables p) t m h = down-to known known-to f keeps p t m h
-    here-to (arrays p) t m h = toLast-to known known-to (underLast f) (λ k u n l. atArray-to k u (seen asArray (lookup u k)) n l) p t m h
+    here-to (arrays p) t m h = toLast-to known known-to (underLast f) (λ k u n l. atKey-to k u (lookup u k) n l) p t m h
 
   assign-to : (p : List (List ℕ)) (v : Value) (t : Table) → Keeps (assign limit p v t)
   assign-to p v t m h = toLast-to (enter limit) enter-to (put v) (λ k u n l. l) p t m h

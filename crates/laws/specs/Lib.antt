@@ -7,5 +7,9 @@ pub mod Scans
 pub mod Stored
 pub mod Splits
 pub mod Never
+pub mod Blanks
+pub mod Segments
 pub mod Fits
 pub mod Counted
+pub mod Order
+pub mod Once

@@ -1,8 +1,8 @@
-// Reads one preset from standard input. For now it says how many joined lines there are, or the refusal.
+// Reads one preset from standard input. For now it says how many values its tree has, or the refusal.
 
+use document::Read;
 use libc::STDIN_FILENO;
 use libc::STDOUT_FILENO;
-use text::Reading;
 
 // A space and a number.
 fn field(n: u64) {
@@ -31,17 +31,14 @@ fn drain() {
     }
 }
 
-fn report(r: Reading) {
+fn report(r: Read) {
     match r {
-        Reading::Fine { lines, used: _ } => {
-            io::write_all(STDOUT_FILENO, b"lines");
-            field(lines as u64);
+        Read::Fine(st) => {
+            io::write_all(STDOUT_FILENO, b"read");
+            field(st.made as u64);
             io::write_all(STDOUT_FILENO, b"\n");
         }
-        Reading::TooLong => refuse(1, 0),
-        Reading::NotUtf8 => refuse(2, 0),
-        Reading::Over(n) => refuse(3, n as u64),
-        Reading::Open(n) => refuse(4, n as u64),
+        Read::Fault { number, line } => refuse(number as u64, line as u64),
     }
 }
 
@@ -51,6 +48,7 @@ fn main() {
     if n == 32769 {
         drain();
     }
-    let mut scratch = [0u8; 32769];
-    report(text::lines(&input[..n], &mut scratch, meaning::of01()));
+    let mut store = [0u8; 32768];
+    let mut tree = [0u8; 65536];
+    report(document::read_tree(&input[..n], &mut store, &mut tree));
 }

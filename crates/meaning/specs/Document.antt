@@ -1,5 +1,5 @@
 -- Headers and assignments, line by line: from a text to its tree, the store's bytes and the count of values made. Refusals 1 to 16.
-use Prim.Native.Nat.{ℕ, suc, _-_}
+use Prim.Native.Nat.{ℕ, suc, _-_, _*_}
 use mathlib.Core.Bool.{Bool, false}
 use mathlib.Core.List.{List, [], _∷_, _++_}
 use lib.Dec.{eqb, ltb}
@@ -105,6 +105,10 @@ module _ (lim : Limits) where
       (pick (valid s) (after (joined s) (λ ls. lines (record { root = empty; under = tables [] }) ls 0))
       (atNoLine 2))
 
+  -- 17: "a lent room is too small", by its length alone: a store for the longest text, and a tree room for the most values of so many bytes each
+  unfoldable pub inRooms : ℕ → ℕ → ℕ → List ℕ → Answer Parsed
+  inRooms width store tree s = pick (ltb store (lim .text)) (atNoLine 17) (pick (ltb tree (width * lim .values)) (atNoLine 17) (document s))
+
 unfoldable pub computes : Unit {0}
-unfolding double single form setting act document Rattle.meaning.specs.Utf8.computes Rattle.meaning.specs.Lines.computes Rattle.meaning.specs.Keys.computes Rattle.meaning.specs.Tree.computes Rattle.meaning.specs.Values.computes
+unfolding double single form setting act document inRooms Rattle.meaning.specs.Utf8.computes Rattle.meaning.specs.Lines.computes Rattle.meaning.specs.Keys.computes Rattle.meaning.specs.Tree.computes Rattle.meaning.specs.Values.computes
 computes = tt

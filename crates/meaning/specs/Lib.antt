@@ -12,7 +12,11 @@ pub mod Reading
 pub mod Tree
 pub mod Values
 pub mod Document
+pub mod Order
+pub mod Samples
 pub mod Table
+pub mod Example
 pub mod Corners
 pub mod CornersKeys
 pub mod CornersValues
+pub mod CornersDocument

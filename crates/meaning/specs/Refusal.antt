@@ -1,17 +1,30 @@
 -- 01, "Refusal numbers": what a refusal says.
 use Prim.Native.Nat.{ℕ}
 
--- a number of 01's table; or one of the Rust's other parser errors, "met by no text"
+-- "The Rust's other parser errors (unknown table, empty path, array without elements) are met by no text"
+pub data Unmet : Type 0 where
+  -- "unknown table": nothing stands on the way to where assignments go
+  unknown : Unmet
+  -- what stands there is no table
+  notTable : Unmet
+  -- or no array
+  notArray : Unmet
+  -- "empty path"
+  pathless : Unmet
+  -- "array without elements"
+  hollow : Unmet
+  -- its last element is no table
+  notLast : Unmet
+
+-- a number of 01's table; or one of the errors met by no text
 pub data Fault : Type 0 where
   numbered : ℕ → Fault
-  unknown pathless hollow : Fault
+  unmet : Unmet → Fault
 
 -- 01's number; the others have none
 abbrev pub numberOf : Fault → ℕ
 numberOf (numbered n) = n
-numberOf unknown = 0
-numberOf pathless = 0
-numberOf hollow = 0
+numberOf (unmet e) = 0
 
 -- the answer of a reader that knows no place: a value or a number
 pub data R (X : Type 0) : Type 0 where

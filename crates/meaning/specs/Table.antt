@@ -1,17 +1,17 @@
 -- 01, "Either side of the line": the table P, as far as the definitions go.
-use Prim.Native.Nat.{ℕ}
-use mathlib.Core.List.{List, [], _∷_, _++_}
+use mathlib.Core.List.{[]}
 use mathlib.Core.Path.{_≡_, refl}
 use lib.IntN.{pos, negsuc}
 use Rattle.meaning.specs.Base.{ascii}
 use Rattle.meaning.specs.Limits.{of01}
-use Rattle.meaning.specs.Refusal.{Answer, atLine, R, ok, bad}
-use Rattle.meaning.specs.Lines.{lines, computes}
+use Rattle.meaning.specs.Refusal.{accepted, atLine, ok, bad}
 use Rattle.meaning.specs.Integers.{integer}
 use Rattle.meaning.specs.Keys as keyed
 use Rattle.meaning.specs.Reading.{got}
-use Rattle.meaning.specs.Tree.{int, array, none′, item}
+use Rattle.meaning.specs.Tree.{int, array, table, none′, item, empty}
 use Rattle.meaning.specs.Values as valued
+use Rattle.meaning.specs.Document.{document, computes}
+use Rattle.meaning.specs.Samples.{_≔_⨾_}
 
 -- P1 "`0x-5` is -5"
 pub p1 : integer (ascii "0x-5") ≡ ok (negsuc 4)
@@ -48,7 +48,12 @@ pub p7 : keyed.keys (of01 .segments) (ascii "\"a.b\"") ≡ bad 9
 unfolding keyed.computes
 p7 = refl
 
+-- P8 "`[[a]]` then `[a]` leaves an empty table"; the array, its table and this one are made
+pub p8 : document of01 (ascii "[[a]]\n[a]") ≡ accepted (record { root = "a" ≔ table empty ⨾ empty; bytes = ascii "aa"; made = 3 })
+unfolding computes
+p8 = refl
+
 -- P11 "line `x`, then `]`, is 3 at line 2"
-pub p11 : lines of01 (ascii "x" ++ 10 ∷ ascii "]") ≡ atLine 3 2
+pub p11 : document of01 (ascii "x\n]") ≡ atLine 3 2
 unfolding computes
 p11 = refl

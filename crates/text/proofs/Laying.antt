@@ -11,14 +11,15 @@ use mir.Syntax.{w64}
 use mir.Val.{Fits}
 use lib.Dec.{eqb, ltb}
 use lib.ListN.{length, getD, take, drop, set, length-drop, length-append, length-take, drop-of-length-le}
-use lib.Seq.{length-take-le, take-all, take-take, take-at, drop-at, drop-drop, getD-take, drop-cons, set-at}
+use lib.Seq.{length-take-le, take-all, take-nil, take-take, take-at, drop-at, drop-drop, getD-take, drop-cons, set-at}
 use Rattle.meaning.specs.Base.{pick, before}
-use Rattle.meaning.specs.Quote.{upTo}
+use Rattle.meaning.specs.Quote.{quote, hits, upTo}
 use Rattle.meaning.specs.Lines.{dropCr, kept, physical}
 use Rattle.laws.specs.Cases.{on, picked}
 use Rattle.laws.specs.Parts.{rest-of, back-of}
 use Rattle.laws.specs.Scans.{up-to-fits}
-use Rattle.text.specs.Laid.{flat, laid, over, ended, firstLine, laidLine, Begins, Keeps, Fitting, Lays1, Lays}
+use Rattle.slices.specs.Found.{Found}
+use Rattle.text.specs.Laid.{flat, laid, over, ended, firstLine, laidLine, Begins, Code, Keeps, Fitting, Lays1, Lays}
 use Rattle.text.specs.declared.Piece.{Piece}
 use Rattle.text.proofs.Cuts.{before-fits, laid-there, laid-last}
 
@@ -54,8 +55,21 @@ module _ (s : List ℕ) (n : ℕ) where
         record { fits = omega arith; is = rw (lt-ltb n (length s) l, ends-so z, ne-eqb (getD s (n - 1) 0) 13 e) }
 
 -- ---- its kept bytes
-pub prefix-count : (s : List ℕ) (n m : ℕ) → n ≤ length s → Begins n s m → m ≡ length (take m s)
-prefix-count s n m h b = sym (length-take-le m s (omega (arith, b .fits)))
+module _ (c : ℕ) where
+  up-short : (st m : ℕ) (s : List ℕ) → m ≤ upTo c st s → upTo c st (take m s) ≡ m
+  up-short st zero s h = refl
+  up-short st (suc m) [] h = absurd (omega arith)
+  up-short st (suc m) (b ∷ s) h =
+      on (hits c st b)
+      (λ e. absurd (omega (arith, rw e at h)))
+      (λ e. let k : suc m ≤ suc (upTo c (quote st b) s) = rw e at h in rw e (ap suc (up-short (quote st b) m s (omega arith))))
+
+  up-long : (st m : ℕ) (s : List ℕ) → upTo c st s ≤ m → upTo c st (take m s) ≡ upTo c st s
+  up-long st m [] h = rw (take-nil m)
+  up-long st zero (b ∷ s) h = omega arith
+  up-long st (suc m) (b ∷ s) h =
+      on (hits c st b) (λ e. rw e)
+      (λ e. let k : suc (upTo c (quote st b) s) ≤ suc m = rw e at h in rw e (ap suc (up-long (quote st b) m s (omega arith))))
 
 pub keeps : (s : List ℕ) (n m r : ℕ) → n ≤ length s → Begins n s m → r ≡ upTo 35 0 (take m s) → Keeps n s r
 unfolding kept
@@ -66,6 +80,20 @@ keeps s n m r h b e =
       fits = omega (arith, b .fits);
       is = sym (rw (← (b .is), ← e) (take-take r m s f));
     }
+
+module _ (s : List ℕ) (n e m : ℕ) (f : Found 10 s n) (c : Code s e) (b : Begins n s m) where
+  code-is : e ≡ upTo 35 0 (take n s)
+  code-is = rw (f .is) (c .is)
+
+  part-is : take m (take n s) ≡ take m s
+  part-is = take-take m n s (b .fits)
+
+  -- the line has no comment, and the CR goes
+  pub keeps-line : m < e → Keeps n s m
+  keeps-line l = keeps s n m m (f .fits) b (sym (rw part-is at (up-short 35 0 m (take n s) (omega (arith, code-is)))))
+
+  pub keeps-code : e ≤ m → Keeps n s e
+  keeps-code l = keeps s n m e (f .fits) b (code-is ∙ sym (rw part-is at (up-long 35 0 m (take n s) (omega (arith, code-is)))))
 
 -- ---- a line and its LF
 pub put : (l o d : List ℕ) → length l < length o → d ≡ l ++ drop (length l) o → set d (length l) 10 ≡ over (ended l) o

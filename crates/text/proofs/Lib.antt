@@ -1,5 +1,7 @@
 pub mod Scans
+pub mod Runs
 pub mod Cuts
+pub mod Coding
 pub mod Laying
 pub mod Joining
 pub mod Walking

@@ -1,15 +1,17 @@
 -- The string state along a text: what each loop keeps, and one law for each way on and out.
-use Prim.Native.Nat.{ℕ, suc, _+_, _≤_, _<_}
-use mathlib.Core.Bool.{Bool, true, false}
-use mathlib.Core.List.{List, [], _∷_, _++_}
-use mathlib.Core.Path.{_≡_, refl, sym, ap, _∙_}
+use Prim.Native.Nat.{ℕ, suc, _+_, _-_, _≤_, _<_}
+use mathlib.Core.List.{List}
+use mathlib.Core.Path.{_≡_, refl}
 use native.Mathlib.Omega.{arith}
 use native.Mathlib.Numerals.{add-one}
-use lib.ListN.{length, getD, take, drop, drop-of-length-le}
-use lib.Seq.{drop-cons}
+use borrow.Author.Tests.{eq-eqb, ne-eqb}
+use lib.ListN.{length, getD, take, drop, length-drop, drop-of-length-le}
+use lib.Seq.{drop-cons, drop-drop}
 use Rattle.meaning.specs.declared.Scan.{Scan}
 use Rattle.meaning.specs.Quote.{quote, hits, tally, step, scan, fresh, upTo}
+use Rattle.laws.specs.Parts.{rest-of}
 use Rattle.laws.specs.Scans.{step-opens, step-closes}
+use Rattle.text.specs.Runs.{Quoted}
 
 pub step-is : (c : Scan) (b n o k : ℕ) → n ≡ quote (c .st) b → o ≡ tally 91 (c .st) b (c .opens) → k ≡ tally 93 (c .st) b (c .closes)
     → _≡_ {A = Scan} (record { st = n; opens = o; closes = k }) (step c b)
@@ -39,24 +41,68 @@ scan-on s i x y k h e =
 pub scan-end : (s : List ℕ) (i : ℕ) (x : Scan) → Scanning s i x → length s ≤ i → x ≡ scan fresh s
 scan-end s i x k h = rw (drop-of-length-le s h) at (k .left)
 
--- ---- the first byte c outside a string
-pub record Seeking (s : List ℕ) (c i st : ℕ) : Type 0 where
+-- ---- a string from behind its opening quote on
+pub record Quoting (s : List ℕ) (i st : ℕ) : Type 0 where
   pub high : i ≤ length s
-  pub left : i + upTo c st (drop i s) ≡ upTo c 0 s
+  pub inside : st ≡ 0 → ⊥
+  pub left : (c : ℕ) → upTo c 1 s ≡ i + upTo c st (drop i s)
 
-module _ (s : List ℕ) (c i st : ℕ) where
-  module _ (r : Bool) (k : Seeking s c i st) (h : i < length s) (e : r ≡ hits c st (getD s i 0)) where
-    pub seek-on : (n : ℕ) → r ≡ false → n ≡ quote st (getD s i 0) → Seeking s c (i + 1) n
-    seek-on n f g =
-        let t : upTo c st (drop i s) ≡ suc (upTo c n (drop (i + 1) s)) = rw (drop-cons s i 0 h, add-one, ← e, f, ← g) in
-        record { high = omega arith; left = omega (arith, k .left) }
+pub quoted-start : (s : List ℕ) → Quoting s 0 1
+quoted-start s = record { high = omega arith; inside = λ z. omega arith; left = λ c. omega arith }
 
-    pub seek-hit : r ≡ true → i ≡ upTo c 0 s
-    seek-hit f =
-        let t : upTo c st (drop i s) ≡ 0 = rw (drop-cons s i 0 h, ← e, f) in
+module _ (s : List ℕ) (i st : ℕ) (k : Quoting s i st) where
+  module _ (h : i < length s) (n : ℕ) (g : n ≡ quote st (getD s i 0)) where
+    quoted-left : (c : ℕ) → upTo c 1 s ≡ i + 1 + upTo c n (drop (i + 1) s)
+    unfolding hits
+    quoted-left c =
+        let t : upTo c st (drop i s) ≡ suc (upTo c n (drop (i + 1) s)) = rw (drop-cons s i 0 h, add-one, ne-eqb st 0 (k .inside), ← g) in
+        omega (arith, k .left c)
+
+    pub quoted-on : (n ≡ 0 → ⊥) → Quoting s (i + 1) n
+    quoted-on z = record { high = omega arith; inside = z; left = quoted-left }
+
+    pub quoted-out : n ≡ 0 → Quoted s (i + 1)
+    quoted-out z = record { fits = omega arith; is = rw z at quoted-left }
+
+  pub quoted-end : length s ≤ i → Quoted s i
+  quoted-end h = record { fits = k .high; is = λ c. rw (drop-of-length-le s h) (rw (drop-of-length-le s h) at (k .left c)) }
+
+-- ---- the first byte c outside a string
+pub record Seeking (s : List ℕ) (c i : ℕ) : Type 0 where
+  pub high : i ≤ length s
+  pub left : i + upTo c 0 (drop i s) ≡ upTo c 0 s
+
+module _ (s : List ℕ) (c i : ℕ) (k : Seeking s c i) where
+  module _ (h : i < length s) where
+    pub seek-hit : getD s i 0 ≡ c → i ≡ upTo c 0 s
+    unfolding hits
+    seek-hit e =
+        let t : upTo c 0 (drop i s) ≡ 0 = rw (drop-cons s i 0 h, eq-eqb (getD s i 0) c e) in
         omega (arith, k .left)
 
-  pub seek-end : Seeking s c i st → length s ≤ i → i ≡ upTo c 0 s
-  seek-end k h =
-      let t : upTo c st (drop i s) ≡ 0 = rw (drop-of-length-le s h) in
+    module _ (n : getD s i 0 ≡ c → ⊥) where
+      pub seek-on : (getD s i 0 ≡ 34 → ⊥) → Seeking s c (i + 1)
+      unfolding hits quote
+      seek-on q =
+          let t : upTo c 0 (drop i s) ≡ suc (upTo c 0 (drop (i + 1) s)) =
+          rw (drop-cons s i 0 h, add-one, ne-eqb (getD s i 0) c n, ne-eqb (getD s i 0) 34 q) in
+          record { high = omega arith; left = omega (arith, k .left) }
+
+      module _ (q : getD s i 0 ≡ 34) (m : ℕ) (p : Quoted (take (length s - (i + 1)) (drop (i + 1) s)) m) where
+        there : Quoted (drop (i + 1) s) m
+        there = rw (rest-of s (i + 1)) at p
+
+        string-bound : i + 1 + m ≤ length s
+        string-bound = omega (arith, there .fits, length-drop (i + 1) s)
+
+        pub seek-string : Seeking s c (i + 1 + m)
+        unfolding hits quote
+        seek-string =
+            let t : upTo c 0 (drop i s) ≡ suc (upTo c 1 (drop (i + 1) s)) =
+            rw (drop-cons s i 0 h, add-one, ne-eqb (getD s i 0) c n, eq-eqb (getD s i 0) 34 q) in
+            record { high = string-bound; left = rw (← (drop-drop m (i + 1) s)) (omega (arith, k .left, there .is c)) }
+
+  pub seek-end : length s ≤ i → i ≡ upTo c 0 s
+  seek-end h =
+      let t : upTo c 0 (drop i s) ≡ 0 = rw (drop-of-length-le s h) in
       omega (arith, k .left)

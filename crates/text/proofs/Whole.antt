@@ -23,7 +23,7 @@ use Rattle.text.specs.declared.Checked.the-variants as checks
 use Rattle.text.specs.declared.Reading.{Reading}
 use Rattle.text.specs.declared.Reading.the-variants as readings
 use Rattle.text.specs.Laid.{linesOf, laid, over, firstLine, Begins, Keeps, Lays}
-use Rattle.text.specs.Answers.{answerOf, checkedOf, counted, measured, Most, Checks, Small, Roomy, Reads}
+use Rattle.text.specs.Answers.{answerOf, checkedOf, counted, measured, Most, Between, Checks, Small, Roomy, Reads}
 use Rattle.text.proofs.Cuts.{before-fits, physical-there, physical-last, laid-there, laid-last, lines-there, lines-none}
 use Rattle.text.proofs.Laying.{whole-line, empty-line, cr-line, plain-line, keeps, laid-short}
 
@@ -106,7 +106,7 @@ laid-lines (suc k) s h = go s h (laid-lines k)
         ap linesOf (laid-last (b ∷ s) n refl m (omega arith)) ∙ lines-cons l [] (clean (b ∷ s))
         ∙ sym (ap keptLines (physical-last b s m) ∙ first-last n (b ∷ s) m))
 
-checked-joined : (s : List ℕ) → join closed 1 (linesOf (laid s)) ≡ joined s
+pub checked-joined : (s : List ℕ) → join closed 1 (linesOf (laid s)) ≡ joined s
 unfolding joined
 checked-joined s = ap (join closed 1) (laid-lines (length s) s (omega arith))
 
@@ -122,8 +122,8 @@ module _ (limits : Limits) (s room : List ℕ) where
     not-utf8 f = record { says = rw (le-ltb (limits .text) (length s) h, ← e, f); small = tt; left = rw (le-ltb (limits .text) (length s) h, ← e, f) }
 
     module _ (t : v ≡ true) (room' : List ℕ) (used : ℕ) (y : Lays s room room' used) where
-      pub small-enough : Roomy limits room → length (take used room') < 4294967295
-      small-enough r = omega (arith, r .small, y .most, length-take used room')
+      pub from-start : Roomy limits room → Between (take used room') 0 1
+      from-start r = record { high = omega arith; number = omega arith; small = omega (arith, r .small, y .most, length-take used room') }
 
       pub prefix-count : used ≡ length (take used room')
       prefix-count = sym (length-take-le used room' (y .fits))
@@ -138,7 +138,7 @@ module _ (limits : Limits) (s room : List ℕ) where
       left-is : room' ≡ pick (ltb (limits .text) (length s)) room (pick (valid s) (over (laid s) room) room)
       left-is = rw (le-ltb (limits .text) (length s) h, ← e, t) (y .left)
 
-      module _ (c : Checked) (k : Checks (take used room') c) where
+      module _ (c : Checked) (k : Checks (take used room') 0 1 c) where
         counts : checkedOf c ≡ counted (joined s)
         counts = k .says ∙ ap (λ (x : List ℕ). counted (join closed 1 (linesOf x))) prefix-is ∙ ap counted (checked-joined s)
 

@@ -48,9 +48,15 @@ Most k (checks.Fine n) = n ≤ k
 Most k (checks.Over n) = n ≤ k
 Most k (checks.Open n) = n ≤ k
 
--- what `check` leaves of a laid text
-pub record Checks (s : List ℕ) (r : Checked) : Type 0 where
-  pub says : checkedOf r ≡ counted (lines.join lines.closed 1 (linesOf s))
+-- a place between joined lines: there is no more than a line to each byte before it
+pub record Between (s : List ℕ) (at line : ℕ) : Type 0 where
+  pub high : at ≤ length s
+  pub number : line ≤ at + 1
+  pub small : length s < 4294967295
+
+-- what `check` leaves of a laid text from such a place on
+pub record Checks (s : List ℕ) (at line : ℕ) (r : Checked) : Type 0 where
+  pub says : checkedOf r ≡ counted (lines.join lines.closed line (linesOf (drop at s)))
   pub most : Most (length s + 1) r
 
 -- the same of a reading

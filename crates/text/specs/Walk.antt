@@ -1,6 +1,6 @@
 -- The walk over joined lines, each told by its place in a laid text.
 use Prim.Native.Nat.{ℕ, _+_, _≤_, _<_}
-use mathlib.Core.Bool.{Bool}
+use mathlib.Core.Bool.{Bool, false}
 use mathlib.Core.List.{List, [], _∷_, _++_}
 use mathlib.Core.Path.{_≡_}
 use lib.Dec.{ltb}
@@ -32,7 +32,7 @@ gather t m (l ∷ ls) = byFate (fate (scan fresh t)) (gather (t ++ (10 ∷ l)) (
 
 -- the joined line that starts at the head of lines
 abbrev pub jointIn : List (List ℕ) → Joint
-jointIn [] = joints.Open
+jointIn [] = joints.Nothing
 jointIn (l ∷ ls) = gather l 1 ls
 
 unfoldable pub joint : List ℕ → Joint
@@ -40,6 +40,7 @@ joint s = jointIn (linesOf s)
 
 -- the same, told by the place where it starts and the number n of its first line
 abbrev pub placed : ℕ → ℕ → Joint → Next
+placed at n joints.Nothing = nexts.End
 placed at n joints.Over = nexts.Over n
 placed at n joints.Open = nexts.Open n
 placed at n (joints.Whole e m) = nexts.Line at (at + e) n (record { at = at + e + 1; line = n + m })
@@ -59,6 +60,7 @@ pub record Within (s : List ℕ) (e m : ℕ) : Type 0 where
   pub lines : m ≤ e + 1
 
 abbrev pub Fit : List ℕ → Joint → Type 0
+Fit s joints.Nothing = Unit
 Fit s joints.Over = Unit
 Fit s joints.Open = Unit
 Fit s (joints.Whole e m) = Within s e m
@@ -68,15 +70,21 @@ pub record Joined (s : List ℕ) (r : Joint) : Type 0 where
   pub is : r ≡ joint s
   pub fit : Fit s r
 
+-- no line that begins with b is blank
+pub record Dark (b : ℕ) : Type 0 where
+  pub line : b ≡ 10 → ⊥
+  pub plain : (l : List ℕ) → blank (b ∷ l) ≡ false
+
 -- where blank lines end
 pub record Skipped (s : List ℕ) (at n : ℕ) (p : Place) : Type 0 where
   pub on : at ≤ p .at
   pub count : p .line + at ≤ n + p .at
   pub is : next s at n ≡ pick (ltb (p .at) (length s)) (placed (p .at) (p .line) (joint (drop (p .at) s))) nexts.End
 
--- a joined line lies behind at, and the place behind it in s; a line number grows by no more than the bytes passed
-pub record Onward (s : List ℕ) (at n from end : ℕ) (p : Place) : Type 0 where
+-- joined line l lies behind at, and the place behind it in s; a line number grows by no more than the bytes passed
+pub record Onward (s : List ℕ) (at n from end l : ℕ) (p : Place) : Type 0 where
   pub on : at ≤ from
+  pub number : l + at ≤ n + from
   pub low : from ≤ end
   pub high : end < p .at
   pub fits : p .at ≤ length s
@@ -86,7 +94,7 @@ abbrev pub Advance : List ℕ → ℕ → ℕ → Next → Type 0
 Advance s at n nexts.End = Unit
 Advance s at n (nexts.Over l) = l + at ≤ n + length s
 Advance s at n (nexts.Open l) = l + at ≤ n + length s
-Advance s at n (nexts.Line from end l p) = Onward s at n from end p
+Advance s at n (nexts.Line from end l p) = Onward s at n from end l p
 
 -- what `next_line` leaves
 pub record Follows (s : List ℕ) (at n : ℕ) (r : Next) : Type 0 where

@@ -3,16 +3,19 @@
 use meaning::Fate;
 use meaning::Limits;
 use meaning::Scan;
+ghost use mathlib.Core.Bool.{true};
 ghost use mathlib.Core.Path.{_≡_};
 ghost use Prim.Native.Nat.{_+_, _≤_, _<_};
 ghost use lib.ListN.{length};
 ghost use Rattle.meaning.specs.Quote as quotes;
 ghost use Rattle.meaning.specs.Lines as meant;
 ghost use Rattle.meaning.specs.Values as values;
-ghost use Rattle.text.specs.Laid.{Begins, Keeps, Fitting, Lays1, Lays, ended, over};
+ghost use Rattle.slices.specs.Found.{Found};
+ghost use Rattle.text.specs.Laid.{Begins, Code, Keeps, Fitting, Lays1, Lays, ended, over};
 ghost use Rattle.text.specs.Walk as walk;
-ghost use Rattle.text.specs.Answers.{Checks, Roomy, Reads};
+ghost use Rattle.text.specs.Answers.{Between, Checks, Roomy, Reads};
 ghost use Rattle.text.specs.Item.{Item};
+ghost use Rattle.text.specs.Runs.{Quiet, Run, Quoted};
 
 // A place between joined lines of a laid text: an offset, and the number of the line there.
 pub struct Place {
@@ -26,8 +29,9 @@ pub struct Piece {
     pub written: usize,
 }
 
-// What the joined line at the head of a laid text comes to.
+// What the joined line at the head of a laid text comes to; nothing where it has no LF, and so no line.
 pub enum Joint {
+    Nothing,
     Over,
     Open,
     Whole { end: usize, lines: usize },
@@ -115,6 +119,50 @@ fn step(c: Scan, b: u8) -> Scan
     }
 }
 
+// Whether b is surely one that a pass may leave out. Most bytes are letters, digits and spaces.
+fn quiet(st: u8, b: u8) -> bool
+    ensures { λ r. ⌜ (r ≡ true → Quiet st b) ⌝ }
+{
+    if st == 0 {
+        if b == 32 {
+            return true;
+        }
+        if 93 < b {
+            return true;
+        }
+        if 35 < b {
+            return b < 91;
+        }
+        return false;
+    }
+    if st == 1 {
+        if 92 < b {
+            return true;
+        }
+        if 34 < b {
+            return b < 92;
+        }
+        return b == 32;
+    }
+    false
+}
+
+// How many bytes at the head of s a pass may leave out.
+fn run(s: &[u8], st: u8) -> usize
+    ensures { λ r. ⌜ Run st (now (s .entry)) r ⌝ }
+{
+    let mut i = 0;
+    while i < s.len() {
+        let b = s[i];
+        if quiet(st, b) {
+            i += 1;
+        } else {
+            return i;
+        }
+    }
+    i
+}
+
 // The string state and the brackets outside strings of s.
 pub fn scan(s: &[u8]) -> Scan
     ensures { λ r. ⌜ r ≡ quotes.scan quotes.fresh (now (s .entry)) ⌝ }
@@ -133,19 +181,39 @@ pub fn scan(s: &[u8]) -> Scan
     x
 }
 
+// How many bytes a string has from behind its opening quote on, with the closing one; or all of them.
+fn quoted(s: &[u8]) -> usize
+    ensures { λ r. ⌜ Quoted (now (s .entry)) r ⌝ }
+{
+    let mut i = 0;
+    let mut st: u8 = 1;
+    while i < s.len() {
+        st = quote(st, s[i]);
+        i += 1;
+        if st == 0 {
+            return i;
+        }
+    }
+    i
+}
+
 // How many bytes stand before the first c outside a string, or all of them.
 pub fn outside(s: &[u8], c: u8) -> usize
     ensures { λ r. ⌜ r ≡ quotes.upTo c 0 (now (s .entry)) ⌝ }
 {
     let mut i = 0;
-    let mut st: u8 = 0;
     while i < s.len() {
         let b = s[i];
-        if hits(c, st, b) {
+        if b == c {
             return i;
         }
-        st = quote(st, b);
-        i += 1;
+        if b == 34 {
+            i += 1;
+            let n = quoted(&s[i..]);
+            i += n;
+        } else {
+            i += 1;
+        }
     }
     i
 }
@@ -214,13 +282,44 @@ fn line_bytes(s: &[u8], n: usize) -> usize
     n
 }
 
+// How many bytes of the first line of s stand before its comment or its LF, or all of s. A string does not go on behind the LF.
+fn code(s: &[u8]) -> usize
+    ensures { λ r. ⌜ Code (now (s .entry)) r ⌝ }
+{
+    let mut i = 0;
+    let mut st: u8 = 0;
+    while i < s.len() {
+        let b = s[i];
+        if b == 10 {
+            return i;
+        }
+        if hits(35, st, b) {
+            return i;
+        }
+        st = quote(st, b);
+        i += 1;
+        let n = run(&s[i..], st);
+        i += n;
+    }
+    i
+}
+
+// How many bytes stand before the LF of that line, or all of s; it is not among the e bytes of its code.
+fn line_end(s: &[u8], e: usize) -> usize
+    requires { ⌜ Code (now s) e ⌝ }
+    ensures { λ r. ⌜ Found 10 (now (s .entry)) r ⌝ }
+{
+    let d = slices::find(&s[e..], 10);
+    e + d
+}
+
 // How many bytes of that line are kept: those before its comment.
-fn keep(s: &[u8], n: usize) -> usize
-    requires { ⌜ n ≤ length (now s) ⌝ }
+fn keep(s: &[u8], n: usize, e: usize) -> usize
+    requires { ⌜ (Found 10 (now s) n) × (Code (now s) e) ⌝ }
     ensures { λ r. ⌜ Keeps n (now (s .entry)) r ⌝ }
 {
     let m = line_bytes(s, n);
-    outside(&s[..m], 35)
+    if m < e { m } else { e }
 }
 
 // Lays a line and an LF at the head of out.
@@ -238,8 +337,9 @@ fn lay_line(rest: &[u8], out: &mut [u8]) -> Piece
     requires { ⌜ Fitting (now rest) (now out) ⌝ }
     ensures { λ r. ⌜ Lays1 (now (rest .entry)) (now (out .entry)) (now (out .exit)) r ⌝ }
 {
-    let n = slices::find(rest, 10);
-    let k = keep(rest, n);
+    let e = code(rest);
+    let n = line_end(rest, e);
+    let k = keep(rest, n, e);
     put_line(&rest[..k], out);
     if n < rest.len() {
         return Piece {
@@ -299,12 +399,24 @@ fn join_line(s: &[u8]) -> Joint
         } else {
             c = step(c, b);
             i += 1;
+            let n = run(&s[i..], c.st);
+            i += n;
         }
+    }
+    if m == 1 {
+        return Joint::Nothing;
     }
     Joint::Open
 }
 
-// Passes blank lines; where no line is left, to the end.
+// Whether a line that begins with b is surely not blank.
+fn dark(b: u8) -> bool
+    ensures { λ r. ⌜ (r ≡ true → walk.Dark b) ⌝ }
+{
+    if 32 < b { b < 128 } else { false }
+}
+
+// Passes blank lines; where no line is left, to the end or to what is behind the last LF.
 fn skip(s: &[u8], at: usize, line: usize) -> Place
     requires { ⌜ line < 4294967296 ⌝ }
     ensures { λ r. ⌜ walk.Skipped (now (s .entry)) at line r ⌝ }
@@ -312,6 +424,9 @@ fn skip(s: &[u8], at: usize, line: usize) -> Place
     let mut i = at;
     let mut n = line;
     while i < s.len() {
+        if dark(s[i]) {
+            return Place { at: i, line: n };
+        }
         let k = slices::find(&s[i..], 10);
         let e = i + k;
         if s.len() <= e {
@@ -343,6 +458,7 @@ pub fn next_line(s: &[u8], at: usize, line: usize) -> Next
     }
     let j = join_line(&s[from..]);
     match j {
+        Joint::Nothing => Next::End,
         Joint::Over => Next::Over(n),
         Joint::Open => Next::Open(n),
         Joint::Whole { end, lines } => Next::Line {
@@ -357,16 +473,16 @@ pub fn next_line(s: &[u8], at: usize, line: usize) -> Next
     }
 }
 
-// 3 and 4 over a whole laid text: how many joined lines it has, or the first fault.
-pub fn check(s: &[u8]) -> Checked
-    requires { ⌜ length (now s) < 4294967295 ⌝ }
-    ensures { λ r. ⌜ Checks (now (s .entry)) r ⌝ }
+// 3 and 4 over a laid text from a place between joined lines on: how many joined lines it has, or the first fault.
+pub fn check(s: &[u8], at: usize, line: usize) -> Checked
+    requires { ⌜ Between (now s) at line ⌝ }
+    ensures { λ r. ⌜ Checks (now (s .entry)) at line r ⌝ }
 {
-    let mut at = 0;
-    let mut line = 1;
+    let mut i = at;
+    let mut n = line;
     let mut found = 0;
-    while at < s.len() {
-        let r = next_line(s, at, line);
+    while i < s.len() {
+        let r = next_line(s, i, n);
         match r {
             Next::End => {
                 return Checked::Fine(found);
@@ -383,8 +499,8 @@ pub fn check(s: &[u8]) -> Checked
                 line: _,
                 next: p,
             } => {
-                at = p.at;
-                line = p.line;
+                i = p.at;
+                n = p.line;
                 found += 1;
             }
         }
@@ -402,7 +518,7 @@ pub fn lines(text: &[u8], scratch: &mut [u8], limits: Limits) -> Reading
     }
     if chars::valid(text) {
         let used = lay(text, scratch);
-        let c = check(&scratch[..used]);
+        let c = check(&scratch[..used], 0, 1);
         match c {
             Checked::Fine(n) => Reading::Fine {
                 lines: n,

@@ -9,7 +9,7 @@ use borrow.Author.Tests.{eq-eqb, ne-eqb}
 use lib.Dec.{eqb, ltb, leb}
 use lib.ListN.{length, getD, take, drop, length-append}
 use Rattle.meaning.specs.Base.{pick, ascii, same, final, split, nil?}
-use Rattle.meaning.specs.Refusal.{R, ok, bad, via, Fault, numbered, unknown, pathless, hollow}
+use Rattle.meaning.specs.Refusal.{R, ok, bad, via, Fault, numbered, Unmet, unmet}
 use Rattle.meaning.specs.Space.{blank, trim}
 use Rattle.meaning.specs.Quote.{fresh, step}
 use Rattle.meaning.specs.Strings.{Ending, closed, escape, unended, decode, byEnd}
@@ -52,9 +52,7 @@ pub record Refused (n : ℕ) (o : Out) : Type 0 where
 abbrev pub Meets : {X : Type 0} → (X → List ℕ → ℕ → Out → Type 0) → Got X → Out → Type 0
 Meets L (got x bs m) o = L x bs m o
 Meets L (not (numbered n)) o = Refused n o
-Meets L (not unknown) o = ⊥
-Meets L (not pathless) o = ⊥
-Meets L (not hollow) o = ⊥
+Meets L (not (unmet u)) o = ⊥
 
 -- ---- a fault of an integer is 12
 
@@ -164,9 +162,7 @@ module _ (limit : ℕ) where
           kinds = (a .kinds, b .kinds);
         }
     read-then p v bs m a (not (numbered n)) b = record { is = b .is; some = b .some }
-    read-then p v bs m a (not unknown) b = b
-    read-then p v bs m a (not pathless) b = b
-    read-then p v bs m a (not hollow) b = b
+    read-then p v bs m a (not (unmet u)) b = b
 
     then-meets : (k : ℕ → ℕ → Out) (rest : ℕ → Got Items) (g : Got Value) → Meets (Lays parent used made) g o
         → ((u m : ℕ) → Meets (LaysAll parent u m) (rest m) (k u m))
@@ -176,9 +172,7 @@ module _ (limit : ℕ) where
         let n : ℕ = made + length (o .slots) in
         rw (eq-eqb (o .fault) 0 (a .fault), a .count) (read-then (k u n) v bs m a (rest n) (b u n))
     then-meets k rest (not (numbered n)) a b = rw (ne-eqb (o .fault) 0 (λ z. a .some (sym (a .is) ∙ z))) a
-    then-meets k rest (not unknown) a b = absurd a
-    then-meets k rest (not pathless) a b = absurd a
-    then-meets k rest (not hollow) a b = absurd a
+    then-meets k rest (not (unmet u)) a b = absurd a
 
   module _ (parent : ℕ) (read : List ℕ → Reader Value) (v : ℕ → ℕ → List ℕ → Out) (h : (u m : ℕ) (l : List ℕ) → Meets (Lays parent u m) (read l m) (v u m l)) where
     pub items-meet : (ls : List (List ℕ)) (used made : ℕ) → Meets (LaysAll parent used made) (each read (nonblank ls) made) (itemsOut limit v used made ls)
@@ -201,9 +195,7 @@ module _ (limit : ℕ) where
       kinds = a .kinds;
     }
     boxed (not (numbered n)) p a = record { is = a .is; some = a .some }
-    boxed (not unknown) p a = a
-    boxed (not pathless) p a = a
-    boxed (not hollow) p a = a
+    boxed (not (unmet u)) p a = a
 
   -- ---- values
 
@@ -264,9 +256,7 @@ pub record Agrees (parent used made : ℕ) (g : Got Value) (o : Out) : Type 0 wh
   pub read : (v : Value) (bs : List ℕ) (m : ℕ) → g ≡ got v bs m → Lays parent used made v bs m o
   pub refused : (n : ℕ) → g ≡ not (numbered n) → Refused n o
   pub told : (f : Fault) → g ≡ not f → f ≡ numbered (o .fault)
-  pub never-unknown : g ≡ not unknown → ⊥
-  pub never-pathless : g ≡ not pathless → ⊥
-  pub never-hollow : g ≡ not hollow → ⊥
+  pub never : (u : Unmet) → g ≡ not (unmet u) → ⊥
   pub fine : o .fault ≡ 0 → Reads parent used made g o
   pub wrong : (n : ℕ) → o .fault ≡ n → (n ≡ 0 → ⊥) → g ≡ not (numbered n)
 
@@ -276,9 +266,7 @@ module _ (parent used made : ℕ) (o : Out) where
 
   fault-told : (f : Fault) → Met (not f) → f ≡ numbered (o .fault)
   fault-told (numbered n) h = ap numbered (sym (h .is))
-  fault-told unknown h = absurd h
-  fault-told pathless h = absurd h
-  fault-told hollow h = absurd h
+  fault-told (unmet u) h = absurd h
 
   fine-reads : (g : Got Value) → Met g → o .fault ≡ 0 → Reads parent used made g o
   fine-reads (got v bs m) h z = record {
@@ -294,25 +282,19 @@ module _ (parent used made : ℕ) (o : Out) where
     };
   }
   fine-reads (not (numbered n)) h z = absurd (h .some (sym (h .is) ∙ z))
-  fine-reads (not unknown) h z = absurd h
-  fine-reads (not pathless) h z = absurd h
-  fine-reads (not hollow) h z = absurd h
+  fine-reads (not (unmet u)) h z = absurd h
 
   wrong-refuses : (g : Got Value) → Met g → (n : ℕ) → o .fault ≡ n → (n ≡ 0 → ⊥) → g ≡ not (numbered n)
   wrong-refuses (got v bs m) h n e z = absurd (z (sym e ∙ h .fault))
   wrong-refuses (not (numbered k)) h n e z = ap (λ (i : ℕ). not (numbered i)) (sym (h .is) ∙ e)
-  wrong-refuses (not unknown) h n e z = absurd h
-  wrong-refuses (not pathless) h n e z = absurd h
-  wrong-refuses (not hollow) h n e z = absurd h
+  wrong-refuses (not (unmet u)) h n e z = absurd h
 
   pub by-meeting : (g : Got Value) → Meets (Lays parent used made) g o → Agrees parent used made g o
   by-meeting g h = record {
     read = λ v bs m e. rw e at h;
     refused = λ n e. rw e at h;
     told = λ f e. fault-told f (rw e at h);
-    never-unknown = λ e. rw e at h;
-    never-pathless = λ e. rw e at h;
-    never-hollow = λ e. rw e at h;
+    never = λ u e. rw e at h;
     fine = fine-reads g h;
     wrong = wrong-refuses g h;
   }

@@ -1,2 +1,3 @@
 pub mod Cells
 pub mod Walks
+pub mod Ranking

@@ -7,6 +7,7 @@ use Rattle.slices.specs.Numbers.{little, number}
 use Rattle.tree.specs.declared.Slot.{Slot}
 use Rattle.tree.specs.declared.Found.{Found}
 use Rattle.tree.specs.declared.Found.the-variants.{At, Nothing}
+use Rattle.tree.specs.Order.{hasKey, before, follows, better, next}
 use Rattle.tree.specs.Room.{place, body, cell, slotAt, keyed, under, mine, look, first, child, count}
 
 -- an integer 65543 under value number 256, its key the 4 bytes at 3 of the store
@@ -43,3 +44,14 @@ past-the-store = refl
 items : (child small 5 3 0 ≡ At 2) × (child small 5 3 3 ≡ At 4) × (child small 5 3 5 ≡ Nothing) × (count small 5 3 ≡ 2)
 unfolding small cell place body slotAt under child
 items = (refl, refl, refl, refl)
+
+-- a, its newest value; then b; then nothing. An older value of a leads on like the newest
+in-order : (next (slotAt small) (ascii "ab") 5 1 Nothing ≡ At 3) × (next (slotAt small) (ascii "ab") 5 1 (At 3) ≡ At 1) × (next (slotAt small) (ascii "ab") 5 1 (At 0) ≡ At 1)
+    × (next (slotAt small) (ascii "ab") 5 1 (At 1) ≡ Nothing)
+unfolding small cell place body slotAt hasKey before follows better next
+in-order = (refl, refl, refl, refl)
+
+-- a key that runs past the store is passed over, and leads nowhere; nor does a value that is not made
+odd-keys : (next (slotAt small) (ascii "a") 5 1 (At 3) ≡ Nothing) × (next (slotAt small) (ascii "a") 5 1 (At 1) ≡ Nothing) × (next (slotAt small) (ascii "ab") 3 1 (At 3) ≡ Nothing)
+unfolding small cell place body slotAt hasKey before follows better next
+odd-keys = (refl, refl, refl)

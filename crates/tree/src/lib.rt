@@ -7,6 +7,8 @@ ghost use lib.ListN.{length};
 ghost use Rattle.laws.specs.Stored.{stored};
 ghost use Rattle.tree.specs.Room as room;
 ghost use Rattle.tree.specs.Room.{Holds, Finds, Counts, cell, slotAt, hung};
+ghost use Rattle.tree.specs.Order as order;
+ghost use Rattle.tree.specs.Order.{Stands};
 
 // A value. Its kind: 1 string, 2 integer, 3 boolean, 4 array, 5 table, 6 integer with a minus. Its parent: 0 none yet, 1 the root, n + 2 value number n.
 // Its key is len bytes of the text store. Its data: an integer's magnitude; start + 65536 * length of a string; 0 or 1; else 0.
@@ -176,4 +178,120 @@ pub fn count(tree: &[u8], made: usize, parent: u16) -> usize
         }
     }
     n
+}
+
+// Whether the value has a key.
+fn has_key(store: &[u8], v: Slot) -> bool
+    ensures { λ r. ⌜ r ≡ order.hasKey (now (store .entry)) v ⌝ }
+{
+    let from = v.key as usize;
+    let end = from + v.len as usize;
+    end <= store.len()
+}
+
+// Whether v's key comes before w's.
+fn before(store: &[u8], v: Slot, w: Slot) -> bool
+    ensures { λ r. ⌜ r ≡ order.before (now (store .entry)) v w ⌝ }
+{
+    let from = v.key as usize;
+    let to = from + v.len as usize;
+    if store.len() < to {
+        return false;
+    }
+    let start = w.key as usize;
+    let stop = start + w.len as usize;
+    if store.len() < stop {
+        return false;
+    }
+    slices::less(&store[from..to], &store[start..stop])
+}
+
+// Whether v has a key above that of the value found before.
+fn above(tree: &[u8], store: &[u8], after: Found, v: Slot) -> bool
+    requires { ⌜ Stands (now tree) after ⌝ }
+    ensures { λ r. ⌜ r ≡ order.above (slotAt (now (tree .entry))) (now (store .entry)) after v ⌝ }
+{
+    match after {
+        Found::At(n) => {
+            let w = get(tree, n);
+            before(store, w, v)
+        }
+        Found::Nothing => has_key(store, v),
+    }
+}
+
+// Whether v has a key below that of the best so far.
+fn nearer(tree: &[u8], store: &[u8], best: Found, v: Slot) -> bool
+    requires { ⌜ Stands (now tree) best ⌝ }
+    ensures { λ r. ⌜ r ≡ order.nearer (slotAt (now (tree .entry))) (now (store .entry)) best v ⌝ }
+{
+    match best {
+        Found::At(n) => {
+            let w = get(tree, n);
+            before(store, v, w)
+        }
+        Found::Nothing => true,
+    }
+}
+
+// Whether value number n hangs under the parent with a key above.
+fn follows(tree: &[u8], store: &[u8], parent: u16, after: Found, n: usize) -> bool
+    requires { ⌜ Holds (now tree) (n + 1) × Stands (now tree) after ⌝ }
+    ensures { λ r. ⌜ r ≡ order.follows (slotAt (now (tree .entry))) (now (store .entry)) parent after n ⌝ }
+{
+    if under(tree, n, parent) {
+        let v = get(tree, n);
+        return above(tree, store, after, v);
+    }
+    false
+}
+
+// The nearer of the best so far and value number m.
+fn better(tree: &[u8], store: &[u8], parent: u16, after: Found, best: Found, m: usize) -> Found
+    requires { ⌜ Holds (now tree) (m + 1) × Stands (now tree) after × Stands (now tree) best ⌝ }
+    ensures { λ r. ⌜ r ≡ order.better (slotAt (now (tree .entry))) (now (store .entry)) parent after best m ⌝ }
+{
+    if follows(tree, store, parent, after, m) {
+        let v = get(tree, m);
+        if nearer(tree, store, best, v) {
+            return Found::At(m);
+        }
+        return best;
+    }
+    best
+}
+
+// One pass from the newest down: of values with one key the first met stays.
+fn nearest(tree: &[u8], store: &[u8], made: usize, parent: u16, after: Found) -> Found
+    requires { ⌜ Holds (now tree) made × Stands (now tree) after ⌝ }
+    ensures { λ r. ⌜ Finds 0 made (order.nearest (slotAt (now (tree .entry))) (now (store .entry)) parent after made Found.Nothing) r ⌝ }
+{
+    let mut best = Found::Nothing;
+    let mut i = made;
+    while 0 < i {
+        i -= 1;
+        best = better(tree, store, parent, after, best, i);
+    }
+    best
+}
+
+fn is_made(made: usize, after: Found) -> bool
+    ensures { λ r. ⌜ r ≡ order.isMade made after ⌝ }
+{
+    match after {
+        Found::At(n) => n < made,
+        Found::Nothing => true,
+    }
+}
+
+// The next key under the parent behind that of the value found before, from nothing the first: of the keys above it the least, and of its values the newest.
+// Behind a value that is not made, or whose key runs past the store, comes nothing.
+pub fn next(tree: &[u8], store: &[u8], made: usize, parent: u16, after: Found) -> Found
+    requires { ⌜ Holds (now tree) made ⌝ }
+    ensures { λ r. ⌜ Finds 0 made (order.next (slotAt (now (tree .entry))) (now (store .entry)) made parent after) r ⌝ }
+{
+    if is_made(made, after) {
+        return nearest(tree, store, made, parent, after);
+    }
+    Found::Nothing
 }

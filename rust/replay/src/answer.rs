@@ -23,6 +23,9 @@ pub struct Answer {
 impl Answer {
     /// Where two answers part: the field with its two values.
     pub fn difference(&self, other: &Self) -> Option<String> {
+        if self == other {
+            return None;
+        }
         let pairs = [
             ("trim", shown(&self.trim), shown(&other.trim)),
             ("kept", shown(&self.kept), shown(&other.kept)),

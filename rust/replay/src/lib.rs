@@ -1,6 +1,7 @@
 //! The port's answers in the form in which the original's are recorded, and what all tests share.
 pub mod answer;
 pub mod ask;
+pub mod document;
 pub mod model;
 pub mod random;
 pub mod value;

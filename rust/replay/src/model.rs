@@ -8,18 +8,22 @@ pub const WHITE: &str = "\u{9}\u{A}\u{B}\u{C}\u{D}\u{20}\u{85}\u{A0}\u{1680}\u{2
 /// Takes encoded White_Space off both ends.
 pub fn trim(s: &[u8]) -> (usize, usize) {
     let mut from = 0;
-    while let Some(n) = white(|w| s[from..].starts_with(w)) {
+    while let Some(n) = white(s[from..].first(), |w| s[from..].starts_with(w)) {
         from += n;
     }
     let mut end = s.len();
-    while let Some(n) = white(|w| s[from..end].ends_with(w)) {
+    while let Some(n) = white(s[from..end].last(), |w| s[from..end].ends_with(w)) {
         end -= n;
     }
     (from, end)
 }
 
-// The length of the White_Space character whose bytes fit.
-fn white(fits: impl Fn(&[u8]) -> bool) -> Option<usize> {
+// The length of the White_Space character whose bytes fit. None begins or ends in a visible
+// character of ASCII.
+fn white(outermost: Option<&u8>, fits: impl Fn(&[u8]) -> bool) -> Option<usize> {
+    if outermost.is_some_and(u8::is_ascii_graphic) {
+        return None;
+    }
     let mut room = [0; 4];
     let mut found = WHITE
         .chars()

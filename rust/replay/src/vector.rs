@@ -113,37 +113,50 @@ impl<'a> Reader<'a> {
     }
 
     pub(crate) fn quoted(&mut self) -> Result<String, String> {
+        let bytes = self.quoted_bytes()?;
+        self.0 = self.0.strip_prefix(' ').unwrap_or(self.0);
+        String::from_utf8(bytes).map_err(|e| e.to_string())
+    }
+
+    /// Up to the closing quote.
+    pub(crate) fn quoted_bytes(&mut self) -> Result<Vec<u8>, String> {
         let mut rest = self.0.strip_prefix('"').ok_or("no quote")?;
-        let mut out = String::new();
+        let mut out = Vec::new();
         loop {
             let c = rest.chars().next().ok_or("a quoted text does not end")?;
             rest = &rest[c.len_utf8()..];
             match c {
                 '"' => break,
-                '\\' => out.push(escaped(&mut rest)?),
-                _ => out.push(c),
+                '\\' if rest.starts_with('x') => out.push(code(&mut rest)? as u8),
+                '\\' => out.extend(escaped(&mut rest)?.to_string().bytes()),
+                _ => out.extend(c.to_string().bytes()),
             }
         }
-        self.0 = rest.strip_prefix(' ').unwrap_or(rest);
+        self.0 = rest;
         Ok(out)
     }
+}
+
+// The number in the braces of `x{..}` or `u{..}`.
+fn code(rest: &mut &str) -> Result<u32, String> {
+    let (digits, after) = rest[2..].split_once('}').ok_or("no end of an escape")?;
+    *rest = after;
+    u32::from_str_radix(digits, 16).map_err(|e| e.to_string())
 }
 
 // The character that an escape names, without its backslash.
 fn escaped(rest: &mut &str) -> Result<char, String> {
     let c = rest.chars().next().ok_or("a backslash ends the line")?;
+    if c == 'u' {
+        let code = code(rest)?;
+        return char::from_u32(code).ok_or(format!("\\u{{{code:x}}} is no character"));
+    }
     *rest = &rest[c.len_utf8()..];
     match c {
         'n' => Ok('\n'),
         'r' => Ok('\r'),
         't' => Ok('\t'),
         '"' | '\\' => Ok(c),
-        'u' => {
-            let (digits, after) = rest[1..].split_once('}').ok_or("no end of \\u")?;
-            *rest = after;
-            let code = u32::from_str_radix(digits, 16).map_err(|e| e.to_string())?;
-            char::from_u32(code).ok_or(format!("\\u{{{digits}}} is no character"))
-        }
         _ => Err(format!("unknown escape {c:?}")),
     }
 }

@@ -1,5 +1,5 @@
 //! The port against the recorded answers of the original.
-use replay::{ask, value, vector};
+use replay::{ask, document, value, vector};
 
 fn lines(name: &str) -> Vec<String> {
     let all = std::fs::read_to_string(vector::file(name)).expect(name);
@@ -31,5 +31,19 @@ fn every_recorded_value() {
         if let Some(difference) = got.difference(&want) {
             panic!("{text:?}: port against record, {difference}");
         }
+    }
+}
+
+#[test]
+fn every_recorded_document() {
+    let mut host = document::ask::Host::default();
+    for line in lines("document.txt") {
+        let (text, want) =
+            document::vector::read(&line).unwrap_or_else(|e| panic!("{e} in {line}"));
+        let again = document::vector::write(&text, &want);
+        assert_eq!(again, line, "read and written again");
+        let got = host.judge_fully(&document::vector::joined(&text), &want);
+        got.map_err(|e| panic!("{line}: port against record, {e}"))
+            .ok();
     }
 }

@@ -1,6 +1,6 @@
-use Rattle.chars.proofs.Spaces.{check-fits}
 use borrow.Author.Needs.{needs}
-use Rattle.chars.proofs.Spaces.{Checking, check-bound, check-on, check-stop, check-end}
+use Rattle.chars.proofs.Eights.{check-eight}
+use Rattle.chars.proofs.Spaces.{Checking, check-fits, check-on, check-stop, check-end}
 use lib.ListN.{length}
 use Prim.Native.Nat.{_-_}
 use Rattle.chars.proofs.valid.Statement.{statement}
@@ -14,6 +14,18 @@ abbrev μ-loop : tie.MeasureT-loop
 
 loop-holds : tie.Need-loop-holds Inv-loop μ-loop
 loop-holds c = search needs
+
+eight-requires : tie.Need-eight-requires Inv-loop μ-loop
+eight-requires c κs = search needs
+
+add-i : tie.Need-add-i Inv-loop μ-loop
+add-i c = search needs
+
+loop-less : tie.Need-loop-less Inv-loop μ-loop
+loop-less c = search needs
+
+loop-again : tie.Need-loop-again Inv-loop μ-loop
+loop-again c = search (needs, check-eight)
 
 sub-width : tie.Need-sub-width Inv-loop μ-loop
 sub-width c = search needs
@@ -30,14 +42,14 @@ width-requires c κs = search needs
 returns : tie.Need-returns Inv-loop μ-loop
 returns c = search (needs, check-stop)
 
-add-i : tie.Need-add-i Inv-loop μ-loop
-add-i c = search (needs, check-fits)
+add-i-2 : tie.Need-add-i-2 Inv-loop μ-loop
+add-i-2 c = search (needs, check-fits)
 
-loop-less : tie.Need-loop-less Inv-loop μ-loop
-loop-less c = search needs
+loop-less-2 : tie.Need-loop-less-2 Inv-loop μ-loop
+loop-less-2 c = search needs
 
-loop-again : tie.Need-loop-again Inv-loop μ-loop
-loop-again c = search (needs, check-on)
+loop-again-2 : tie.Need-loop-again-2 Inv-loop μ-loop
+loop-again-2 c = search (needs, check-on)
 
 returns-2 : tie.Need-returns-2 Inv-loop μ-loop
 returns-2 c = search (needs, check-end)
@@ -49,12 +61,16 @@ valid-spec =
     Inv-loop
     μ-loop
     loop-holds
+    eight-requires
+    add-i
+    loop-less
+    loop-again
     sub-width
     part-width-start
     part-width-end
     width-requires
     returns
-    add-i
-    loop-less
-    loop-again
+    add-i-2
+    loop-less-2
+    loop-again-2
     returns-2)

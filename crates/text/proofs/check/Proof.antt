@@ -7,10 +7,10 @@ use Rattle.text.proofs.check.Statement.{statement}
 use Rattle.text.proofs.check.Tie as tie
 
 abbrev Inv-loop : tie.InvT-loop
-Inv-loop s at₀ line₀ found₀ at line found = Checking s at line found
+Inv-loop s at line i₀ n₀ found₀ i n found = Checking s at line i n found
 
 abbrev μ-loop : tie.MeasureT-loop
-μ-loop s at₀ line₀ found₀ at line found = length s - at
+μ-loop s at line i₀ n₀ found₀ i n found = length s - i
 
 loop-holds : tie.Need-loop-holds Inv-loop μ-loop
 loop-holds c = search (needs, check-start)

@@ -1,5 +1,5 @@
 use borrow.Author.Needs.{needs}
-use Rattle.text.proofs.Joining.{Gathering, gather-start, gather-byte, gather-on, over-here, whole-here, open-here}
+use Rattle.text.proofs.Joining.{Gathering, gather-start, gather-past, gather-on, over-here, whole-here, nothing-here, open-here}
 use lib.ListN.{length}
 use Prim.Native.Nat.{_-_}
 use Rattle.text.proofs.join_line.Statement.{statement}
@@ -56,14 +56,32 @@ step-requires-2 c κs = search needs
 add-i-2 : tie.Need-add-i-2 Inv-loop μ-loop
 add-i-2 c = search needs
 
+sub-run : tie.Need-sub-run Inv-loop μ-loop
+sub-run c = search needs
+
+part-run-start : tie.Need-part-run-start Inv-loop μ-loop
+part-run-start c = search needs
+
+part-run-end : tie.Need-part-run-end Inv-loop μ-loop
+part-run-end c = search needs
+
+run-requires : tie.Need-run-requires Inv-loop μ-loop
+run-requires c κs = search needs
+
+add-i-3 : tie.Need-add-i-3 Inv-loop μ-loop
+add-i-3 c = search needs
+
 loop-less-2 : tie.Need-loop-less-2 Inv-loop μ-loop
 loop-less-2 c = search needs
 
 loop-again-2 : tie.Need-loop-again-2 Inv-loop μ-loop
-loop-again-2 c = search (needs, gather-byte)
+loop-again-2 c = search (needs, gather-past)
 
 returns-3 : tie.Need-returns-3 Inv-loop μ-loop
-returns-3 c = search (needs, open-here)
+returns-3 c = search (needs, nothing-here)
+
+returns-4 : tie.Need-returns-4 Inv-loop μ-loop
+returns-4 c = search (needs, open-here)
 
 pub join-line-spec : {M : Type 1} → statement M
 join-line-spec =
@@ -86,6 +104,12 @@ join-line-spec =
     loop-again
     step-requires-2
     add-i-2
+    sub-run
+    part-run-start
+    part-run-end
+    run-requires
+    add-i-3
     loop-less-2
     loop-again-2
-    returns-3)
+    returns-3
+    returns-4)

@@ -1,4 +1,4 @@
-use Rattle.text.proofs.Whole.{too-long, not-utf8, small-enough, prefix-count, read-fine, read-over, read-open}
+use Rattle.text.proofs.Whole.{too-long, not-utf8, from-start, prefix-count, read-fine, read-over, read-open}
 use borrow.Author.Needs.{needs}
 use Rattle.text.proofs.lines.Statement.{statement}
 use Rattle.text.proofs.lines.Tie as tie
@@ -19,7 +19,7 @@ slice-aggregate-check : tie.Need-slice-aggregate-check
 slice-aggregate-check c = search (needs, prefix-count)
 
 check-requires : tie.Need-check-requires
-check-requires c κs = search (needs, small-enough)
+check-requires c κs = search (needs, from-start)
 
 enum-known-c : tie.Need-enum-known-c
 enum-known-c c = search needs

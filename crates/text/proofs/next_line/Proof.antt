@@ -1,4 +1,5 @@
-use Rattle.text.proofs.Walking.{at-end, over-there, open-there, end-within, place-within, lines-within, line-there}
+use borrow.Author.Needs.{needs}
+use Rattle.text.proofs.Walking.{at-end, none-there, over-there, open-there, end-within, place-within, lines-within, line-there}
 use borrow.Author.Needs.{needs}
 use Rattle.text.proofs.next_line.Statement.{statement}
 use Rattle.text.proofs.next_line.Tie as tie
@@ -27,6 +28,9 @@ enum-told c = search needs
 enum-told-2 : tie.Need-enum-told-2
 enum-told-2 c = search needs
 
+enum-told-3 : tie.Need-enum-told-3
+enum-told-3 c = search needs
+
 enum-known-j : tie.Need-enum-known-j
 enum-known-j c = search needs
 
@@ -43,13 +47,16 @@ add-t19 : tie.Need-add-t19
 add-t19 c = search (needs, lines-within)
 
 returns-2 : tie.Need-returns-2
-returns-2 c = search (needs, over-there)
+returns-2 c = search (needs, none-there)
 
 returns-3 : tie.Need-returns-3
-returns-3 c = search (needs, open-there)
+returns-3 c = search (needs, over-there)
 
 returns-4 : tie.Need-returns-4
-returns-4 c = search (needs, line-there)
+returns-4 c = search (needs, open-there)
+
+returns-5 : tie.Need-returns-5
+returns-5 c = search (needs, line-there)
 
 pub next-line-spec : {M : Type 1} → statement M
 next-line-spec =
@@ -63,6 +70,7 @@ next-line-spec =
     join-line-requires
     enum-told
     enum-told-2
+    enum-told-3
     enum-known-j
     add-t16
     add-t17
@@ -70,4 +78,5 @@ next-line-spec =
     add-t19
     returns-2
     returns-3
-    returns-4)
+    returns-4
+    returns-5)

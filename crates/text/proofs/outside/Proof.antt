@@ -1,15 +1,15 @@
 use borrow.Author.Needs.{needs}
-use Rattle.text.proofs.Scans.{Seeking, seek-on, seek-hit, seek-end}
+use Rattle.text.proofs.Scans.{Seeking, seek-hit, seek-on, seek-string, seek-end}
 use lib.ListN.{length}
 use Prim.Native.Nat.{_-_}
 use Rattle.text.proofs.outside.Statement.{statement}
 use Rattle.text.proofs.outside.Tie as tie
 
 abbrev Inv-loop : tie.InvT-loop
-Inv-loop s c i₀ st₀ i st = Seeking s c i st
+Inv-loop s c i₀ i = Seeking s c i
 
 abbrev μ-loop : tie.MeasureT-loop
-μ-loop s c i₀ st₀ i st = length s - i
+μ-loop s c i₀ i = length s - i
 
 loop-holds : tie.Need-loop-holds Inv-loop μ-loop
 loop-holds c = search needs
@@ -17,23 +17,41 @@ loop-holds c = search needs
 shared-slice-read-b : tie.Need-shared-slice-read-b Inv-loop μ-loop
 shared-slice-read-b c = search needs
 
-hits-requires : tie.Need-hits-requires Inv-loop μ-loop
-hits-requires c κs = search needs
-
 returns : tie.Need-returns Inv-loop μ-loop
 returns c = search (needs, seek-hit)
 
-quote-requires : tie.Need-quote-requires Inv-loop μ-loop
-quote-requires c κs = search needs
-
 add-i : tie.Need-add-i Inv-loop μ-loop
 add-i c = search needs
+
+sub-quoted : tie.Need-sub-quoted Inv-loop μ-loop
+sub-quoted c = search needs
+
+part-quoted-start : tie.Need-part-quoted-start Inv-loop μ-loop
+part-quoted-start c = search needs
+
+part-quoted-end : tie.Need-part-quoted-end Inv-loop μ-loop
+part-quoted-end c = search needs
+
+quoted-requires : tie.Need-quoted-requires Inv-loop μ-loop
+quoted-requires c κs = search needs
+
+add-i-2 : tie.Need-add-i-2 Inv-loop μ-loop
+add-i-2 c = search needs
 
 loop-less : tie.Need-loop-less Inv-loop μ-loop
 loop-less c = search needs
 
 loop-again : tie.Need-loop-again Inv-loop μ-loop
-loop-again c = search (needs, seek-on)
+loop-again c = search (needs, seek-string)
+
+add-i-3 : tie.Need-add-i-3 Inv-loop μ-loop
+add-i-3 c = search needs
+
+loop-less-2 : tie.Need-loop-less-2 Inv-loop μ-loop
+loop-less-2 c = search needs
+
+loop-again-2 : tie.Need-loop-again-2 Inv-loop μ-loop
+loop-again-2 c = search (needs, seek-on)
 
 returns-2 : tie.Need-returns-2 Inv-loop μ-loop
 returns-2 c = search (needs, seek-end)
@@ -46,10 +64,16 @@ outside-spec =
     μ-loop
     loop-holds
     shared-slice-read-b
-    hits-requires
     returns
-    quote-requires
     add-i
+    sub-quoted
+    part-quoted-start
+    part-quoted-end
+    quoted-requires
+    add-i-2
     loop-less
     loop-again
+    add-i-3
+    loop-less-2
+    loop-again-2
     returns-2)

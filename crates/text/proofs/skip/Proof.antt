@@ -1,5 +1,5 @@
 use borrow.Author.Needs.{needs}
-use Rattle.text.proofs.Walking.{Skipping, skip-start, skip-end, end-fits, skip-out, skip-on, skip-found}
+use Rattle.text.proofs.Walking.{Skipping, skip-start, skip-dark, skip-end, skip-out, skip-on, skip-found}
 use lib.ListN.{length}
 use Prim.Native.Nat.{_-_}
 use Rattle.text.proofs.skip.Statement.{statement}
@@ -13,6 +13,15 @@ abbrev μ-loop : tie.MeasureT-loop
 
 loop-holds : tie.Need-loop-holds Inv-loop μ-loop
 loop-holds c = search (needs, skip-start)
+
+shared-slice-read-dark : tie.Need-shared-slice-read-dark Inv-loop μ-loop
+shared-slice-read-dark c = search needs
+
+dark-requires : tie.Need-dark-requires Inv-loop μ-loop
+dark-requires c κs = search needs
+
+returns : tie.Need-returns Inv-loop μ-loop
+returns c = search (needs, skip-dark)
 
 sub-find : tie.Need-sub-find Inv-loop μ-loop
 sub-find c = search needs
@@ -29,8 +38,8 @@ find-requires c κs = search needs
 add-e : tie.Need-add-e Inv-loop μ-loop
 add-e c = search needs
 
-returns : tie.Need-returns Inv-loop μ-loop
-returns c = search (needs, skip-out)
+returns-2 : tie.Need-returns-2 Inv-loop μ-loop
+returns-2 c = search (needs, skip-out)
 
 sub-blank : tie.Need-sub-blank Inv-loop μ-loop
 sub-blank c = search needs
@@ -56,13 +65,14 @@ loop-less c = search needs
 loop-again : tie.Need-loop-again Inv-loop μ-loop
 loop-again c = search (needs, skip-on)
 
-returns-2 : tie.Need-returns-2 Inv-loop μ-loop
-returns-2 c = let b = c .before .before .before in
-    skip-found _ _ _ _ _ (b .before .before .before .before .loop .inv) (b .before .before .before .loop-test .taken) _ (b .before .find .ensures)
-    (b .if1 .left) _ (c .before .blank .ensures) (c .if2 .left)
-
 returns-3 : tie.Need-returns-3 Inv-loop μ-loop
-returns-3 c = search (needs, skip-end)
+returns-3 c =
+    let b = c .before .before .before in
+    let l = b .before .before .before .before .before .before in
+    skip-found _ _ _ _ _ (l .before .loop .inv) (l .loop-test .taken) _ (b .before .find .ensures) (b .if2 .left) _ (c .before .blank .ensures) (c .if3 .left)
+
+returns-4 : tie.Need-returns-4 Inv-loop μ-loop
+returns-4 c = search (needs, skip-end)
 
 pub skip-spec : {M : Type 1} → statement M
 skip-spec =
@@ -71,12 +81,15 @@ skip-spec =
     Inv-loop
     μ-loop
     loop-holds
+    shared-slice-read-dark
+    dark-requires
+    returns
     sub-find
     part-find-start
     part-find-end
     find-requires
     add-e
-    returns
+    returns-2
     sub-blank
     part-blank-start
     part-blank-end
@@ -85,5 +98,5 @@ skip-spec =
     add-n
     loop-less
     loop-again
-    returns-2
-    returns-3)
+    returns-3
+    returns-4)

@@ -1,6 +1,7 @@
 //! The original and the port side by side.
 pub mod compare;
 pub mod corners;
+pub mod document;
 pub mod original;
 pub mod record;
 pub mod value;

@@ -46,17 +46,18 @@ fn scan(text: &str) -> (u8, usize, usize) {
     let closes = |end: &&str| rust::quotes_closed(&format!("{text}{end}"));
     let state = closing.iter().position(closes).expect("two quotes end it");
     let end = closing[state];
-    let opens = net(&text.replace(']', "a"), end, "]");
-    let closes = net(&text.replace('[', "a"), end, "[");
+    let opens = net(&text.replace(']', "a"), '[', end, "]");
+    let closes = net(&text.replace('[', "a"), ']', end, "[");
     (state as u8, opens, closes)
 }
 
-// How many brackets must follow for the original to call the text balanced, by halving.
-fn net(text: &str, end: &str, bracket: &str) -> usize {
+// How many brackets must follow for the original to call the text balanced, by halving; the text
+// has brackets of one kind alone.
+fn net(text: &str, kind: char, end: &str, bracket: &str) -> usize {
     let judge = |n| rust::brackets_balanced(&format!("{text}{end}{}", bracket.repeat(n)));
     // too few leave the text as it was: short of `]`, or of `[`
     let few = if bracket == "]" { Some(false) } else { None };
-    let (mut low, mut high) = (0, text.len());
+    let (mut low, mut high) = (0, text.matches(kind).count());
     while low < high {
         let middle = (low + high) / 2;
         match judge(middle).ok() == few {

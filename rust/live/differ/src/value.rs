@@ -2,4 +2,3 @@
 pub mod compare;
 pub mod corners;
 pub mod original;
-pub mod record;

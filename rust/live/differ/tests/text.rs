@@ -82,7 +82,7 @@ fn trims(s: &str) {
 fn every_scalar_value_at_both_ends() {
     let mut batch = String::new();
     for c in '\0'..=char::MAX {
-        let (alone, around) = (format!("{c}"), format!("{c}a{c}"));
+        let (alone, around) = (String::from(c), String::from_iter([c, 'a', c]));
         trims(&alone);
         trims(&around);
         if "\"\\[]#\n\r".contains(c) {
@@ -91,7 +91,7 @@ fn every_scalar_value_at_both_ends() {
             check(&format!("{c} = [\n{c}]\n{c}"));
             continue;
         }
-        batch.push_str(&format!("{alone}\n{around}\n"));
+        batch.extend([&alone, "\n", &around, "\n"]);
         if batch.len() > TEXT_MAX - 20 {
             closed_lines(&batch);
             batch.clear();

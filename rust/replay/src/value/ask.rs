@@ -170,7 +170,7 @@ fn rebuild(slots: &[Slot], store: &[u8]) -> Result<Value, String> {
     for (n, slot) in slots.iter().enumerate().rev() {
         let mut own = std::mem::take(&mut items[n]);
         own.reverse();
-        let value = single(slot, own, store).ok_or(format!("value {n}: {slot:?}"))?;
+        let value = single(slot, own, store).ok_or_else(|| format!("value {n}: {slot:?}"))?;
         match slot.parent as usize {
             0 if n == 0 => return Ok(value),
             p if (2..n + 2).contains(&p) => items[p - 2].push(value),

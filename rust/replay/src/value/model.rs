@@ -57,7 +57,8 @@ fn escaped(b: u8) -> Option<u8> {
     }
 }
 
-fn trimmed(s: &[u8]) -> &[u8] {
+/// `s` without White_Space at both ends.
+pub fn trimmed(s: &[u8]) -> &[u8] {
     let (from, end) = trim(s);
     &s[from..end]
 }
@@ -99,13 +100,14 @@ pub fn value(s: &[u8]) -> Read {
     }
 }
 
-struct Reader {
-    made: usize,
+/// How many values were made so far.
+pub struct Reader {
+    pub made: usize,
 }
 
 impl Reader {
-    // 16 is the last thing that a value can be refused with.
-    fn make(&mut self) -> Result<(), u32> {
+    /// Counts a value; 16 is the last thing that it can be refused with.
+    pub fn make(&mut self) -> Result<(), u32> {
         self.made += 1;
         match self.made > VALUES_MAX {
             true => Err(16),
@@ -113,8 +115,8 @@ impl Reader {
         }
     }
 
-    // `around` arrays stand around it.
-    fn value(&mut self, s: &[u8], around: usize) -> Read {
+    /// A value with `around` arrays around it.
+    pub fn value(&mut self, s: &[u8], around: usize) -> Read {
         let value = match trimmed(s) {
             [b'"', rest @ ..] => {
                 let (used, decoded) = string(rest).map_err(|(number, _)| number)?;

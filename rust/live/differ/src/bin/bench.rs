@@ -1,5 +1,7 @@
-//! Times both sides on the same texts: `cargo run --release --bin bench`.
-use oracle::toml_lite::{Value, probe as rust};
+//! Times both sides on the same texts: `cargo run --release --bin bench [text|value|document]`.
+use differ::document::original;
+use oracle::toml_lite::{self, Value, probe as rust};
+use port::document;
 use port::text::{self, SCRATCH_MIN, TEXT_MAX};
 use port::value::{self, STORE_MIN, TREE_MIN};
 use std::hint::black_box;
@@ -26,17 +28,110 @@ const VALUES_NOTE: &str = "
 The port's time is `value_read`, which zeroes its store of 32768 bytes and its tree room of 65536. The
 original's time is `parse_value`, with the value it makes dropped again.";
 
+const DOCUMENTS_HEAD: &str = "\
+| whole text | bytes | physical lines | values made | runs | port | original | port / original |
+|---|---|---|---|---|---|---|---|";
+const DOCUMENTS_NOTE: &str = "
+The port's time is `preset_read`, which checks that the bytes are UTF-8 and zeroes its store of 32768
+bytes and its tree room of 65536. The original's time is `parse`, with the tree it makes dropped again.";
+
 fn main() {
+    let only = std::env::args().nth(1);
+    let wanted = |name: &str| only.as_deref().is_none_or(|o| o == name);
+    let parts: [(&str, fn()); 3] = [("text", texts), ("value", values), ("document", documents)];
+    let chosen = parts.iter().filter(|(name, _)| wanted(name));
+    chosen.for_each(|(_, run)| run());
+}
+
+fn texts() {
     println!("{HEAD}");
     row("preset of 2 KiB", &preset(2_048));
     row("preset of 32 KiB", &preset(TEXT_MAX));
     row("one array over many lines", &array(TEXT_MAX));
     println!("{NOTE}");
+}
+
+fn values() {
     println!("{VALUES_HEAD}");
     value_row("one string", &format!("\"{}\"", "profile\\n".repeat(3_555)));
     value_row("200 items, arrays 10 deep", &nested(20, 10));
     value_row("2,000 integers", &integers(2_000));
     println!("{VALUES_NOTE}");
+}
+
+fn documents() {
+    println!("\n{DOCUMENTS_HEAD}");
+    for name in ["example.toml", "stage-d13x.toml", "tour-d21x.toml"] {
+        let path = replay::vector::file("../presets").join(name);
+        document_row(name, &std::fs::read_to_string(path).expect(name));
+    }
+    document_row("preset of 32 KiB", &preset(TEXT_MAX));
+    for (name, text) in headers().into_iter().chain(lists()) {
+        document_row(name, &text);
+    }
+    println!("{DOCUMENTS_NOTE}");
+}
+
+// The worst texts for looking keys up: what is looked for is old, or under many values.
+fn headers() -> [(&'static str, String); 7] {
+    let path = ["a"; 16].join(".");
+    let (header, key) = (format!("[{path}]\n"), format!("{path} = 1\n"));
+    let below = key.replacen("a.", "", 1);
+    let list = |count| format!("z = [{}]\n", "1,".repeat(count));
+    let first = |line: &str, count| format!("{line}[z]\n{}", list(count));
+    let (one, four) = ("b=1\n".repeat(2_046), "aaab=1\n".repeat(2_046));
+    [
+        (
+            "headers of 16 segments behind 2,032 values",
+            filled(&list(2_031), &header, 2_000),
+        ),
+        (
+            "the same, the tables made first",
+            filled(&first(&header, 2_030), &header, 2_000),
+        ),
+        (
+            "keys of 16 segments behind 1,151 values",
+            filled(&list(1_150), &key, 850),
+        ),
+        (
+            "the same, the tables made first",
+            filled(&(first(&key, 1_150) + "[a]\n"), &below, 850),
+        ),
+        (
+            "one old key among 2,048 values",
+            filled(&format!("a.x=1\n{one}"), "[a]\n", 9_000),
+        ),
+        (
+            "the same, longer keys",
+            filled(&format!("aaaa.x=1\n{four}"), "[aaaa]\n", 9_000),
+        ),
+        (
+            "2,048 keys in one table",
+            (0..2_048).map(|i| format!("k{i:04} = 1\n")).collect(),
+        ),
+    ]
+}
+
+// The worst texts for joining lines and for splitting items.
+fn lists() -> [(&'static str, String); 2] {
+    let (ones, spaced) = ("1,\n".repeat(2_047), "1,           ".repeat(2_032));
+    let (open, close) = ("[".repeat(16), "]".repeat(16));
+    [
+        (
+            "one list over many lines",
+            format!("a = [\n{ones}{}]\n", "\n".repeat(4_000)),
+        ),
+        (
+            "2,032 items, lists 16 deep",
+            format!("a = {open}{spaced}{close}\n"),
+        ),
+    ]
+}
+
+// `line` behind `before` as often as the longest text takes it, and `most` times at most.
+fn filled(before: &str, line: &str, most: usize) -> String {
+    let count = (TEXT_MAX - before.len()) / line.len();
+    before.to_string() + &line.repeat(count.min(most))
 }
 
 fn row(name: &str, text: &str) {
@@ -63,6 +158,22 @@ fn value_row(name: &str, text: &str) {
     println!("| {name} | {} | {made} | {times} |", text.len());
 }
 
+fn document_row(name: &str, text: &str) {
+    let (mut store, mut tree) = (vec![0; STORE_MIN], vec![0; TREE_MIN]);
+    let mut ours = || {
+        let text = black_box(text).as_bytes();
+        let got = document::read(text, b"board", &mut store, &mut tree);
+        assert_eq!(got.number, 0, "{name}: {got:?}");
+        got.made as usize
+    };
+    let made = ours();
+    let times = measured(ours, || toml_lite::parse(black_box(text)).expect("a tree"));
+    let root = document::rebuild(&tree, &store, made).expect("a tree");
+    assert!(original::read(text) == Ok(root), "{name}: trees");
+    let (bytes, physical) = (text.len(), text.lines().count());
+    println!("| {name} | {bytes} | {physical} | {made} | {times} |");
+}
+
 fn count(v: &Value) -> usize {
     match v {
         Value::Array(items) => 1 + items.iter().map(count).sum::<usize>(),
@@ -85,7 +196,7 @@ fn measured<A, B>(mut ours: impl FnMut() -> A, mut theirs: impl FnMut() -> B) ->
 
 fn timed<T>(pass: impl FnOnce() -> T) -> Duration {
     let start = Instant::now();
-    black_box(pass());
+    drop(black_box(pass()));
     start.elapsed()
 }
 

@@ -1,42 +1,96 @@
-//! Compares random texts: `random [text|value] [COUNT [SEED]]`, `text` where neither is named.
+//! Compares random texts: `random [text|value|document] [COUNT [SEED]]`, `text` where none is named.
 //! Ends with 1 and the shortest text on a difference.
-use differ::compare::{compare, shortest};
+use differ::compare::{compare, shortest_difference};
+use differ::document::compare::Judge;
 use differ::value;
 use replay::random::{Rng, text};
+use replay::{document, value as values};
+use std::time::{Duration, Instant};
 
-type Make = fn(&mut Rng) -> String;
-type Compare = fn(&str) -> Result<(), String>;
+/// Texts of one sort and what compares them.
+trait Sides {
+    fn make(&self, r: &mut Rng) -> Vec<u8>;
+    fn compare(&mut self, text: &[u8]) -> Result<(), String>;
+    fn summary(&self) -> String;
+}
+
+impl Sides for Judge {
+    fn make(&self, r: &mut Rng) -> Vec<u8> {
+        document::random::text(r)
+    }
+
+    fn compare(&mut self, text: &[u8]) -> Result<(), String> {
+        Judge::compare(self, text)
+    }
+
+    fn summary(&self) -> String {
+        format!("; {}", Judge::summary(self))
+    }
+}
+
+/// Texts that are UTF-8.
+struct Plain {
+    make: fn(&mut Rng) -> String,
+    compare: fn(&str) -> Result<(), String>,
+}
+
+impl Sides for Plain {
+    fn make(&self, r: &mut Rng) -> Vec<u8> {
+        (self.make)(r).into_bytes()
+    }
+
+    // half a character, as the search for the shortest leaves it, is no difference
+    fn compare(&mut self, text: &[u8]) -> Result<(), String> {
+        std::str::from_utf8(text).map_or(Ok(()), self.compare)
+    }
+
+    fn summary(&self) -> String {
+        String::new()
+    }
+}
 
 fn main() {
     let mut words = std::env::args().skip(1).peekable();
-    let named = words.next_if(|w| w == "text" || w == "value");
-    let (make, compare): (Make, Compare) = match named.as_deref() {
-        Some("value") => (replay::value::random::text, value::compare::all),
-        _ => (text, compare),
+    let named = words.next_if(|w| ["text", "value", "document"].contains(&w.as_str()));
+    let mut sides: Box<dyn Sides> = match named.as_deref() {
+        Some("document") => Box::new(Judge::default()),
+        Some("value") => Box::new(Plain {
+            make: values::random::text,
+            compare: value::compare::all,
+        }),
+        _ => Box::new(Plain {
+            make: text,
+            compare,
+        }),
     };
     let count = number(words.next(), 1_000_000);
     let seed = number(words.next(), 1);
     println!("{count} texts, seed {seed}");
-    let mut r = Rng::new(seed);
+    run(sides.as_mut(), count, seed);
+    println!("{count} texts, no difference{}", sides.summary());
+}
+
+fn run(sides: &mut dyn Sides, count: u64, seed: u64) {
+    const STEP: Duration = Duration::from_secs(5);
+    let (mut r, start) = (Rng::new(seed), Instant::now());
+    let mut told = start;
     for i in 1..=count {
-        let t = make(&mut r);
-        if compare(&t).is_err() {
-            differs(&t, i, compare);
+        let t = sides.make(&mut r);
+        if let Err(first) = sides.compare(&t) {
+            let (short, difference) = shortest_difference(&t, first, |t| sides.compare(t));
+            let shown = short.escape_ascii();
+            println!("text {i} differs; the shortest found: \"{shown}\"");
+            println!("{difference}");
+            std::process::exit(1);
         }
-        if i % 100_000 == 0 {
-            println!("{i} compared");
+        if told.elapsed() > STEP {
+            told = Instant::now();
+            let left = start.elapsed().as_secs_f64() / i as f64 * (count - i) as f64;
+            println!("{i} compared, about {left:.0} s left");
         }
     }
-    println!("{count} texts, no difference");
 }
 
 fn number(word: Option<String>, default: u64) -> u64 {
     word.map_or(default, |w| w.parse().expect("COUNT and SEED are numbers"))
-}
-
-fn differs(text: &str, at: u64, compare: Compare) -> ! {
-    let short = shortest(text, |t| compare(t).is_err());
-    println!("text {at} differs; the shortest found: {short:?}");
-    println!("{}", compare(&short).unwrap_err());
-    std::process::exit(1);
 }

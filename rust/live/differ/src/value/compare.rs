@@ -51,6 +51,9 @@ pub fn value(text: &str) -> Result<(), String> {
     same("value, port against definition", &got, &defined)
 }
 
+// So many items are asked about each by itself, which costs both rooms every time.
+const ITEMS: usize = 64;
+
 // The original's array reader, and its items each by itself through the port.
 fn array(text: &str, got: &Read) -> Result<(), String> {
     same("array, port against original", got, &original::array(text))?;
@@ -58,9 +61,11 @@ fn array(text: &str, got: &Read) -> Result<(), String> {
         return same("array without its end", got, &Err(11));
     };
     let items = original::items(inner);
-    let kept = items.iter().filter(|item| !item.trim().is_empty());
+    if items.len() > ITEMS {
+        return Ok(());
+    }
     let mut read = Vec::new();
-    for item in kept {
+    for item in items.iter().filter(|item| !item.trim().is_empty()) {
         match ask::value(item.as_bytes())? {
             Ok(v) => read.push(v),
             Err(n) => return same("array against its items", got, &Err(n)),

@@ -80,7 +80,8 @@ const MESSAGES: [(&str, u32); 7] = [
     ("invalid integer: ", 12),
 ];
 
-fn number(error: &str) -> u32 {
+/// The number of a message.
+pub fn number(error: &str) -> u32 {
     let known = MESSAGES.iter().find(|(start, _)| error.starts_with(start));
     known
         .unwrap_or_else(|| panic!("unforeseen message: {error}"))

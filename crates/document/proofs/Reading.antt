@@ -1,0 +1,157 @@
+-- Whole texts: the lines behind a refused one, then 17, 1 and 2; one law for each way out.
+use Prim.Native.Nat.{ℕ, _+_, _≤_, _<_}
+use mathlib.Core.Bool.{Bool, true, false}
+use mathlib.Core.List.{List, []}
+use mathlib.Core.Path.{_≡_, refl, sym, ap, _∙_}
+use native.Mathlib.Omega.{arith}
+use borrow.Author.Tests.{lt-ltb, le-ltb}
+use lib.ListN.{length, take, drop}
+use lib.Seq.{take-at, length-take-le}
+use Rattle.meaning.specs.declared.Limits.{Limits}
+use Rattle.meaning.specs.Base.{zeros}
+use Rattle.meaning.specs.Limits.{of01}
+use Rattle.meaning.specs.Refusal.{Answer, accepted, refused, after, inText, atLine}
+use Rattle.meaning.specs.Utf8.{valid}
+use Rattle.meaning.specs.Lines.{Line, closed, join, joined}
+use Rattle.text.specs.declared.Place.{Place}
+use Rattle.text.specs.declared.Checked.{Checked}
+use Rattle.text.specs.declared.Checked.the-variants as checks
+use Rattle.text.specs.Answers.{checkedOf, counted, Checks}
+use Rattle.text.specs.Laid.{linesOf, laid, Lays}
+use Rattle.text.proofs.Whole.{checked-joined}
+use Rattle.toml_lite.specs.Doc.{Doc, linesS, empty, documentS}
+use Rattle.toml_lite.proofs.Carrying.{carries-none, carries-grows}
+use Rattle.document.specs.declared.Read.{Read}
+use Rattle.document.specs.declared.Read.the-variants.{Fine, Fault}
+use Rattle.document.specs.Rooms.{readOf, wholeOf, Behind, behindFault, Told, Begun, Cleared, Ready, Roomy, judged}
+use Rattle.document.proofs.Assigning.{length-zeros}
+
+-- ---- 3 and 4 behind a refused line
+module _ (s : List ℕ) (p : Place) (number line : ℕ) (c : Checked) (k : Checks s (p .at) (p .line) c) where
+  abbrev rest : Answer (List Line)
+  rest = join closed (p .line) (linesOf (drop (p .at) s))
+
+  pub fault-alone : (n : ℕ) → Behind s p line → c ≡ checks.Fine n → Told (length s) (behindFault s p number line) (Fault number line)
+  fault-alone n h e = go rest (ap checkedOf (sym e) ∙ k .says)
+    where
+      go : (j : Answer (List Line)) → accepted n ≡ counted j → Told (length s) (after j (λ _. atLine number line)) (Fault number line)
+      go (accepted ls) q = record { says = refl; small = h .number; text = refl }
+      go (refused f a w) q = let z : _≡_ {A = ℕ} 0 1 = cc in absurd (omega arith)
+
+  -- 3 or 4 at line l
+  sooner : (n l : ℕ) → atLine n l ≡ counted rest → l ≤ length s + 1 → Told (length s) (behindFault s p number line) (Fault n l)
+  sooner n l e h = go rest e
+    where
+      go : (j : Answer (List Line)) → atLine n l ≡ counted j → Told (length s) (after j (λ _. atLine number line)) (Fault n l)
+      go (accepted ls) q = let z : _≡_ {A = ℕ} 0 1 = cc in absurd (omega arith)
+      go (refused f a w) q = record { says = cc; small = h; text = let z : inText ≡ a = cc in sym z }
+
+  pub fault-over : (l : ℕ) → c ≡ checks.Over l → Told (length s) (behindFault s p number line) (Fault 3 l)
+  fault-over l e = sooner 3 l (ap checkedOf (sym e) ∙ k .says) (rw e at (k .most))
+
+  pub fault-open : (l : ℕ) → c ≡ checks.Open l → Told (length s) (behindFault s p number line) (Fault 4 l)
+  fault-open l e = sooner 4 l (ap checkedOf (sym e) ∙ k .says) (rw e at (k .most))
+
+-- ---- 1, 2, then the lines
+module _ (limits : Limits) (s scratch store tree : List ℕ) (h : Ready limits scratch store tree) where
+  -- a refusal leaves the empty rooms
+  refuses : (n : ℕ) → documentS limits s ≡ atLine n 0 → Cleared store tree store tree (documentS limits s) (Fault n 0)
+  refuses n e = rw e (record { told = record { says = refl; small = omega arith; text = refl }; store-is = h .store-empty; tree-is = h .tree-empty; carried = tt })
+
+  pub too-long : limits .text < length s → Cleared store tree store tree (documentS limits s) (Fault 1 0)
+  unfolding documentS
+  too-long l = refuses 1 (rw (lt-ltb (limits .text) (length s) l))
+
+  module _ (l : length s ≤ limits .text) (v : Bool) (e : v ≡ valid s) where
+    pub not-utf8 : v ≡ false → Cleared store tree store tree (documentS limits s) (Fault 2 0)
+    unfolding documentS
+    not-utf8 f = refuses 2 (rw (le-ltb (limits .text) (length s) l, ← e, f))
+
+    module _ (t : v ≡ true) (scratch' : List ℕ) (used : ℕ) (y : Lays s scratch scratch' used) where
+      pub laid-count : used ≡ length (take used scratch')
+      laid-count = sym (length-take-le used scratch' (y .fits))
+
+      laid-is : take used scratch' ≡ laid s
+      laid-is = rw (y .left) (take-at (laid s) (drop (length (laid s)) scratch) used (sym (y .used)))
+
+      pub laid-begun : Begun limits (take used scratch') store tree
+      laid-begun =
+          record {
+            holding = record {
+              grows = carries-grows (limits .values) tree [] 0 (carries-none tree) refl (h .tree-fits) (h .few) (omega arith);
+              within = tt;
+              fits = omega arith;
+              segs = h .segs;
+            };
+            room = omega (arith, laid-count, y .most, h .store-fits);
+            low = omega (arith, laid-count, y .most, h .low);
+          }
+
+      whole-is : wholeOf limits (take used scratch') ≡ documentS limits s
+      unfolding documentS
+      whole-is =
+          ap (wholeOf limits) laid-is ∙ ap (λ (j : Answer (List Line)). after j (λ ls. linesS limits ls (empty limits))) (checked-joined s)
+          ∙ rw (le-ltb (limits .text) (length s) l, ← e, t)
+
+      pub laid-read : (store' tree' : List ℕ) (r : Read) → Cleared store tree store' tree' (wholeOf limits (take used scratch')) r → Cleared store tree store' tree' (documentS limits s) r
+      laid-read store' tree' r c = rw (← whole-is) c
+
+-- ---- 17 first: both rooms are emptied before
+module _ (s store₀ tree₀ store tree : List ℕ) (es : store ≡ zeros (length store₀)) (et : tree ≡ zeros (length tree₀)) where
+  store-long : length store ≡ length store₀
+  store-long = ap length es ∙ length-zeros (length store₀)
+
+  tree-long : length tree ≡ length tree₀
+  tree-long = ap length et ∙ length-zeros (length tree₀)
+
+  same-room : (n : ℕ) → zeros n ≡ zeros (length (zeros n))
+  same-room n = sym (ap zeros (length-zeros n))
+
+  refused-17 : judged s (length store₀) (length tree₀) ≡ atLine 17 0
+      → Cleared (zeros (length store₀)) (zeros (length tree₀)) store tree (judged s (length store₀) (length tree₀)) (Fault 17 0)
+  refused-17 e = rw e (record { told = record { says = refl; small = omega arith; text = refl }; store-is = es ∙ same-room (length store₀); tree-is = et ∙ same-room (length tree₀); carried = tt })
+
+  pub small-store : length store < 32768 → Cleared (zeros (length store₀)) (zeros (length tree₀)) store tree (judged s (length store₀) (length tree₀)) (Fault 17 0)
+  unfolding judged
+  small-store h = refused-17 (let k : length store₀ < 32768 = omega (arith, store-long) in rw (lt-ltb (length store₀) 32768 k))
+
+  module _ (h : 32768 ≤ length store) where
+    large-store : 32768 ≤ length store₀
+    large-store = omega (arith, store-long)
+
+    pub small-tree : length tree < 65536 → Cleared (zeros (length store₀)) (zeros (length tree₀)) store tree (judged s (length store₀) (length tree₀)) (Fault 17 0)
+    unfolding judged
+    small-tree l =
+        refused-17
+        (let k : length tree₀ < 65536 = omega (arith, tree-long) in
+        rw (le-ltb (length store₀) 32768 large-store, lt-ltb (length tree₀) 65536 k))
+
+    module _ (l : 65536 ≤ length tree) where
+      pub rooms-ready : Roomy store tree
+      rooms-ready = record { store-fits = h; tree-fits = l; store-empty = es ∙ ap zeros (sym store-long); tree-empty = et ∙ ap zeros (sym tree-long) }
+
+      pub text-read : (store' tree' : List ℕ) (r : Read) → Cleared store tree store' tree' (documentS of01 s) r
+          → Cleared (zeros (length store₀)) (zeros (length tree₀)) store' tree' (judged s (length store₀) (length tree₀)) r
+      unfolding judged
+      text-read store' tree' r c =
+          let k : 65536 ≤ length tree₀ = omega (arith, tree-long) in
+          rw (le-ltb (length store₀) 32768 large-store, le-ltb (length tree₀) 65536 k, ← es, ← et) c
+
+-- ---- the scratch
+module _ (limits : Limits) (el : limits ≡ of01) (store tree : List ℕ) (h : Roomy store tree) where
+  pub scratch-ready : (scratch : List ℕ) → 32769 ≤ length scratch → Ready limits scratch store tree
+  scratch-ready scratch z =
+      rw el
+      (record {
+        fits = omega arith;
+        store-fits = omega (arith, h .store-fits);
+        tree-fits = omega (arith, h .tree-fits);
+        few = omega arith;
+        segs = omega arith;
+        low = omega arith;
+        store-empty = h .store-empty;
+        tree-empty = h .tree-empty;
+      })
+
+  pub limits-01 : (s store' tree' : List ℕ) (r : Read) → Cleared store tree store' tree' (documentS limits s) r → Cleared store tree store' tree' (documentS of01 s) r
+  limits-01 s store' tree' r c = rw (← el) c

@@ -1,0 +1,68 @@
+-- 01, "What the listing prints": the tree, the store and the count of its example, by computation.
+use Prim.Native.Nat.{ℕ}
+use mathlib.Core.List.{List, [], _∷_}
+use mathlib.Core.Path.{_≡_, refl}
+use Rattle.meaning.specs.Limits.{of01}
+use Rattle.meaning.specs.Refusal.{accepted}
+use Rattle.meaning.specs.Tree.{Items, Table, array, table, none′, empty}
+use Rattle.meaning.specs.Document.{document, computes}
+use Rattle.meaning.specs.Samples.{lined, words, word, number, _≔_⨾_, _⊕_}
+
+-- "Input"; the same text stands in presets/example.toml
+abbrev pub example : List ℕ
+example =
+    lined (
+    "[board]"
+    ∷ "chip = \"d13x\""
+    ∷ "[[partition]]"
+    ∷ "name = \"boot\""
+    ∷ "offset = 0"
+    ∷ "size = 0x40000"
+    ∷ "[[partition]]"
+    ∷ "name = \"profiles\""
+    ∷ "offset = 0x40000"
+    ∷ "size = 0x100000"
+    ∷ "[[component]]"
+    ∷ "name = \"first\""
+    ∷ "package = \"loader\""
+    ∷ "kind = \"app\""
+    ∷ "partition = \"boot;mtd\""
+    ∷ "[apps.desk]"
+    ∷ "partition = \"profiles\""
+    ∷ "features = \"pan tilt\""
+    ∷ []
+    )
+
+abbrev partitions : Items
+partitions =
+    ("name" ≔ word "boot" ⨾ "offset" ≔ number 0 ⨾ "size" ≔ number 0x40000 ⨾ empty)
+    ⊕ ("name" ≔ word "profiles" ⨾ "offset" ≔ number 0x40000 ⨾ "size" ≔ number 0x100000 ⨾ empty)
+    ⊕ none′
+
+abbrev components : Items
+components = ("name" ≔ word "first" ⨾ "package" ≔ word "loader" ⨾ "kind" ≔ word "app" ⨾ "partition" ≔ word "boot;mtd" ⨾ empty) ⊕ none′
+
+abbrev pub tree : Table
+tree =
+    "board" ≔ table ("chip" ≔ word "d13x" ⨾ empty)
+    ⨾ "partition" ≔ array partitions
+    ⨾ "component" ≔ array components
+    ⨾ "apps" ≔ table ("desk" ≔ table ("partition" ≔ word "profiles" ⨾ "features" ≔ word "pan tilt" ⨾ empty) ⨾ empty)
+    ⨾ empty
+
+-- "Header segments go left to right; an assignment stores its value's strings first, then its key's segments"
+abbrev pub store : List ℕ
+store =
+    words (
+    "board" ∷ "d13x" ∷ "chip"
+    ∷ "partition" ∷ "boot" ∷ "name" ∷ "offset" ∷ "size"
+    ∷ "partition" ∷ "profiles" ∷ "name" ∷ "offset" ∷ "size"
+    ∷ "component" ∷ "first" ∷ "name" ∷ "loader" ∷ "package" ∷ "app" ∷ "kind" ∷ "boot;mtd" ∷ "partition"
+    ∷ "apps" ∷ "desk" ∷ "profiles" ∷ "partition" ∷ "pan tilt" ∷ "features"
+    ∷ []
+    )
+
+-- 21 is the last word of the listing's first line
+pub example-read : document of01 example ≡ accepted (record { root = tree; bytes = store; made = 21 })
+unfolding computes
+example-read = refl

@@ -1,0 +1,51 @@
+use borrow.Author.Needs.{needs}
+use Rattle.text.proofs.Scans.{Quoting, quoted-start, quoted-on, quoted-out, quoted-end}
+use lib.ListN.{length}
+use Prim.Native.Nat.{_-_}
+use Rattle.text.proofs.quoted.Statement.{statement}
+use Rattle.text.proofs.quoted.Tie as tie
+
+abbrev Inv-loop : tie.InvT-loop
+Inv-loop s i₀ st₀ i st = Quoting s i st
+
+abbrev μ-loop : tie.MeasureT-loop
+μ-loop s i₀ st₀ i st = length s - i
+
+loop-holds : tie.Need-loop-holds Inv-loop μ-loop
+loop-holds c = search (needs, quoted-start)
+
+shared-slice-read-quote : tie.Need-shared-slice-read-quote Inv-loop μ-loop
+shared-slice-read-quote c = search needs
+
+quote-requires : tie.Need-quote-requires Inv-loop μ-loop
+quote-requires c κs = search needs
+
+add-i : tie.Need-add-i Inv-loop μ-loop
+add-i c = search needs
+
+returns : tie.Need-returns Inv-loop μ-loop
+returns c = search (needs, quoted-out)
+
+loop-less : tie.Need-loop-less Inv-loop μ-loop
+loop-less c = search needs
+
+loop-again : tie.Need-loop-again Inv-loop μ-loop
+loop-again c = search (needs, quoted-on)
+
+returns-2 : tie.Need-returns-2 Inv-loop μ-loop
+returns-2 c = search (needs, quoted-end)
+
+pub quoted-spec : {M : Type 1} → statement M
+quoted-spec =
+    tie.close
+    (tie.spec
+    Inv-loop
+    μ-loop
+    loop-holds
+    shared-slice-read-quote
+    quote-requires
+    add-i
+    returns
+    loop-less
+    loop-again
+    returns-2)

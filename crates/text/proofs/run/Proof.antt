@@ -1,0 +1,52 @@
+use borrow.Author.Needs.{needs}
+use Rattle.text.proofs.Runs.{run-start, run-on}
+use Rattle.text.specs.Runs.{Run}
+use lib.ListN.{length}
+use Prim.Native.Nat.{_-_}
+use Rattle.text.proofs.run.Statement.{statement}
+use Rattle.text.proofs.run.Tie as tie
+
+abbrev Inv-loop : tie.InvT-loop
+Inv-loop s st i₀ i = Run st s i
+
+abbrev μ-loop : tie.MeasureT-loop
+μ-loop s st i₀ i = length s - i
+
+loop-holds : tie.Need-loop-holds Inv-loop μ-loop
+loop-holds c = search (needs, run-start)
+
+shared-slice-read-b : tie.Need-shared-slice-read-b Inv-loop μ-loop
+shared-slice-read-b c = search needs
+
+quiet-requires : tie.Need-quiet-requires Inv-loop μ-loop
+quiet-requires c κs = search needs
+
+add-i : tie.Need-add-i Inv-loop μ-loop
+add-i c = search needs
+
+loop-less : tie.Need-loop-less Inv-loop μ-loop
+loop-less c = search needs
+
+loop-again : tie.Need-loop-again Inv-loop μ-loop
+loop-again c = search (needs, run-on)
+
+returns : tie.Need-returns Inv-loop μ-loop
+returns c = search needs
+
+returns-2 : tie.Need-returns-2 Inv-loop μ-loop
+returns-2 c = search needs
+
+pub run-spec : {M : Type 1} → statement M
+run-spec =
+    tie.close
+    (tie.spec
+    Inv-loop
+    μ-loop
+    loop-holds
+    shared-slice-read-b
+    quiet-requires
+    add-i
+    loop-less
+    loop-again
+    returns
+    returns-2)

@@ -1,0 +1,29 @@
+-- Bytes that a pass over a text need not look at one by one.
+use Prim.Native.Nat.{ℕ, _+_, _≤_}
+use mathlib.Core.Bool.{false}
+use mathlib.Core.List.{List, [], _∷_}
+use mathlib.Core.Path.{_≡_}
+use lib.ListN.{length, take, drop}
+use Rattle.meaning.specs.Quote.{quote, hits, upTo}
+
+-- in string state st the byte b ends no line, begins no comment, opens and closes nothing
+pub record Quiet (st b : ℕ) : Type 0 where
+  pub line : b ≡ 10 → ⊥
+  pub same : quote st b ≡ st
+  pub comment : hits 35 st b ≡ false
+  pub opens : hits 91 st b ≡ false
+  pub closes : hits 93 st b ≡ false
+
+abbrev pub Quiets : ℕ → List ℕ → Type 0
+Quiets st [] = Unit
+Quiets st (b ∷ s) = Quiet st b × Quiets st s
+
+-- each of the first r bytes is such
+pub record Run (st : ℕ) (s : List ℕ) (r : ℕ) : Type 0 where
+  pub fits : r ≤ length s
+  pub all : Quiets st (take r s)
+
+-- s stands inside a string, which ends with its first r bytes, or with all of them: the bytes behind them stand outside, whatever is looked for
+pub record Quoted (s : List ℕ) (r : ℕ) : Type 0 where
+  pub fits : r ≤ length s
+  pub is : (c : ℕ) → upTo c 1 s ≡ r + upTo c 0 (drop r s)

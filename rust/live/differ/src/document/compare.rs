@@ -1,0 +1,71 @@
+//! One whole text through the port, the original and the definitions, which have limits.
+use super::original;
+use crate::compare::shortest_difference;
+use replay::document::answer::shown;
+use replay::document::ask::{Heard, Host};
+use replay::document::model;
+
+/// Reads texts on all sides and counts the refusals by number, 0 being none.
+#[derive(Default)]
+pub struct Judge {
+    host: Host,
+    /// Once there was a difference, every text is read in all sorts of rooms.
+    differed: bool,
+    pub met: [usize; 18],
+}
+
+impl Judge {
+    /// Everything the port leaves against the definitions, its tree or number against the original.
+    pub fn compare(&mut self, text: &[u8]) -> Result<(), String> {
+        let told = self.both(text);
+        self.differed |= told.is_err();
+        told
+    }
+
+    fn both(&mut self, text: &[u8]) -> Result<(), String> {
+        let want = model::read(text);
+        let heard = match self.differed {
+            true => self.host.judge_fully(text, &want),
+            false => self.host.judge(text, &want),
+        };
+        let heard = heard.map_err(|e| format!("port against definition, {e}"))?;
+        let number = heard.as_ref().err().map_or(0, |&n| n);
+        self.met[number as usize] += 1;
+        // the original has none of these limits, and no text that is not UTF-8 can be handed to it
+        if matches!(number, 1 | 2 | 14..=17) {
+            return Ok(());
+        }
+        let text = std::str::from_utf8(text).map_err(|e| format!("not refused with 2: {e}"))?;
+        let theirs = original::read(text);
+        if heard != theirs {
+            let (got, want) = (said(&heard), said(&theirs));
+            return Err(format!("port against original, {got} against {want}"));
+        }
+        Ok(())
+    }
+
+    /// Compares and, on a difference, panics with the shortest failing text.
+    pub fn check(&mut self, text: &[u8]) {
+        if let Err(first) = self.compare(text) {
+            let (short, difference) = shortest_difference(text, first, |t| self.compare(t));
+            panic!("{}: {difference}", short.escape_ascii());
+        }
+    }
+
+    /// How often each number was met, in one line.
+    pub fn summary(&self) -> String {
+        let met = self.met.iter().enumerate().filter(|(_, n)| **n > 0);
+        let all = met.map(|(number, n)| match number {
+            0 => format!("{n} accepted; refused"),
+            _ => format!(" {number}: {n},"),
+        });
+        all.collect()
+    }
+}
+
+fn said(heard: &Heard) -> String {
+    match heard {
+        Ok(root) => shown(root),
+        Err(number) => number.to_string(),
+    }
+}

@@ -1,0 +1,124 @@
+//! Memory to lend: noise in it, guard bytes around it, and a protected page right behind it.
+use std::ffi::{c_int, c_long, c_void};
+
+unsafe extern "C" {
+    fn mmap(
+        at: *mut c_void,
+        n: usize,
+        access: c_int,
+        how: c_int,
+        file: c_int,
+        from: i64,
+    ) -> *mut c_void;
+    fn mprotect(at: *mut c_void, n: usize, access: c_int) -> c_int;
+    fn munmap(at: *mut c_void, n: usize) -> c_int;
+    fn sysconf(name: c_int) -> c_long;
+}
+
+// Linux: PROT_NONE, PROT_READ | PROT_WRITE, MAP_PRIVATE | MAP_ANONYMOUS, _SC_PAGESIZE.
+const NO_ACCESS: c_int = 0;
+const ALL_ACCESS: c_int = 3;
+const OWN_MEMORY: c_int = 0x22;
+const PAGE_SIZE: c_int = 30;
+
+/// Bytes between two pages that nobody may touch.
+pub struct Fenced {
+    base: *mut c_void,
+    page: usize,
+    inside: usize,
+}
+
+impl Fenced {
+    /// At least `least` bytes.
+    pub fn new(least: usize) -> Self {
+        // SAFETY: fresh memory is asked for and only its own first and last page are closed.
+        unsafe {
+            let page = sysconf(PAGE_SIZE) as usize;
+            let inside = least.div_ceil(page) * page;
+            let null = std::ptr::null_mut();
+            let base = mmap(null, inside + 2 * page, ALL_ACCESS, OWN_MEMORY, -1, 0);
+            assert!(base as isize != -1, "mmap");
+            assert_eq!(mprotect(base, page, NO_ACCESS), 0, "mprotect");
+            let last = base.byte_add(page + inside);
+            assert_eq!(mprotect(last, page, NO_ACCESS), 0, "mprotect");
+            Fenced { base, page, inside }
+        }
+    }
+
+    /// All of them; the protected page follows the last.
+    pub fn bytes(&mut self) -> &mut [u8] {
+        // SAFETY: these bytes are mapped for reading and writing, and borrowed with self.
+        unsafe {
+            let first = self.base.byte_add(self.page).cast();
+            std::slice::from_raw_parts_mut(first, self.inside)
+        }
+    }
+
+    /// `text` copied so that it ends at the protected page.
+    pub fn ending(&mut self, text: &[u8]) -> &[u8] {
+        let from = self.inside - text.len();
+        let part = &mut self.bytes()[from..];
+        part.copy_from_slice(text);
+        part
+    }
+}
+
+impl Drop for Fenced {
+    fn drop(&mut self) {
+        // SAFETY: the whole mapping of `new`, which nobody borrows any more.
+        unsafe { munmap(self.base, self.inside + 2 * self.page) };
+    }
+}
+
+const GUARD: [u8; 64] = [0x5A; 64];
+
+/// A room with guard bytes before it; behind it guard bytes, or the protected page.
+pub struct Room {
+    memory: Fenced,
+    from: usize,
+    end: usize,
+}
+
+impl Room {
+    /// Ends at the protected page.
+    pub fn exact(length: usize) -> Self {
+        Room::before(length, 0)
+    }
+
+    /// Has guard bytes behind it too.
+    pub fn guarded(length: usize) -> Self {
+        Room::before(length, GUARD.len())
+    }
+
+    fn before(length: usize, behind: usize) -> Self {
+        let mut memory = Fenced::new(GUARD.len() + length + behind);
+        memory.bytes().fill(GUARD[0]);
+        let end = memory.inside - behind;
+        let from = end - length;
+        Room { memory, from, end }
+    }
+
+    /// Fills the room with noise. Word by word: an emulator copies long parts byte by byte.
+    pub fn fill(&mut self, seed: u64) {
+        let (words, rest) = self.bytes().as_chunks_mut::<8>();
+        let mut noise = seed;
+        for word in words {
+            noise = noise.wrapping_add(0x9E37_79B9_7F4A_7C15);
+            *word = noise.to_le_bytes();
+        }
+        rest.fill(0xAA);
+    }
+
+    pub fn bytes(&mut self) -> &mut [u8] {
+        let (from, end) = (self.from, self.end);
+        &mut self.memory.bytes()[from..end]
+    }
+
+    /// Whether the guard bytes stand as they were.
+    pub fn kept(&mut self) -> bool {
+        let (from, end) = (self.from, self.end);
+        let all = self.memory.bytes();
+        let behind = &all[end..];
+        all[from - GUARD.len()..from] == GUARD && behind == &GUARD[..behind.len()]
+    }
+}
