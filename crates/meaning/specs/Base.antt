@@ -4,6 +4,7 @@ use Prim.Native.Char.{code}
 use Prim.Native.String.{String}
 use mathlib.Core.Bool.{Bool, true, false}
 use mathlib.Core.List.{List, [], _∷_, _++_}
+use mathlib.Core.Option.{Option, none, some}
 use lib.Dec.{eqb, ltb, leb}
 use lib.ListN.{length, getD, take, drop, replicate}
 
@@ -20,6 +21,16 @@ ascii (String._∷_ c s) = code c ∷ ascii s
 abbrev pub nil? {ℓ} : {X : Type ℓ} → List X → Bool
 nil? [] = true
 nil? (x ∷ xs) = false
+
+-- what is there, or d
+abbrev pub else {ℓ} : {X : Type ℓ} → Option X → X → X
+else none d = d
+else (some x) d = x
+
+-- the first of two that is there
+abbrev pub or {ℓ} : {X : Type ℓ} → Option X → Option X → Option X
+or none p = p
+or (some x) p = some x
 
 -- two byte strings are the same
 abbrev pub same : List ℕ → List ℕ → Bool

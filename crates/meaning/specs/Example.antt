@@ -1,11 +1,16 @@
--- 01, "What the listing prints": the tree, the store and the count of its example, by computation.
+-- 01, "What the listing prints": the tree, the store, the count and the records of its example, by computation.
 use Prim.Native.Nat.{ℕ}
+use mathlib.Core.Bool.{false}
 use mathlib.Core.List.{List, [], _∷_}
+use mathlib.Core.Option.{none, some}
 use mathlib.Core.Path.{_≡_, refl}
+use Rattle.meaning.specs.Base.{ascii}
 use Rattle.meaning.specs.Limits.{of01}
 use Rattle.meaning.specs.Refusal.{accepted}
 use Rattle.meaning.specs.Tree.{Items, Table, array, table, none′, empty}
 use Rattle.meaning.specs.Document.{document, computes}
+use Rattle.meaning.specs.Schema.{Board, Image, Partition, Component, Application, Preset, d13x, spiNor, kindApp}
+use Rattle.meaning.specs.Preset as whole
 use Rattle.meaning.specs.Samples.{lined, words, word, number, _≔_⨾_, _⊕_}
 
 -- "Input"; the same text stands in presets/example.toml
@@ -66,3 +71,47 @@ store =
 pub example-read : document of01 example ≡ accepted (record { root = tree; bytes = store; made = 21 })
 unfolding computes
 example-read = refl
+
+-- ---- the records
+
+abbrev board : Board
+board = record { name = ascii "board"; chip = d13x; target = ascii "riscv32imafc-unknown-none-elf"; profile = ascii "release" }
+
+abbrev image : Image
+image = record { platform = ascii "d13x"; product = ascii "unknown"; version = ascii "0.0.0"; media = spiNor; mediaDevId = 0; mediaId = []; bootApp = [] }
+
+abbrev boot : Partition
+boot = record { name = ascii "boot"; offset = 0; size = 262144 }
+
+abbrev profiles : Partition
+profiles = record { name = ascii "profiles"; offset = 262144; size = 1048576 }
+
+abbrev first : Component
+first =
+    record {
+      head = record { kind = kindApp; name = ascii "first"; pack = some (ascii "loader"); bin = none; file = none; filename = ascii "loader" };
+      role = record { features = []; pbpFeatures = []; partition = ascii "boot;mtd"; attr = ascii "mtd;required"; targetAttr = none; targetFilename = none };
+      boot = record { updater = false; ram = none; pbp = none; pbpPack = none; private = none };
+      load = record { loadAddress = none; entryPoint = none; entryOffset = none; headerVersion = none; withExt = false; extReserve = 0 };
+    }
+
+abbrev desk : Application
+desk =
+    record {
+      pack = ascii "desk";
+      name = ascii "desk";
+      partition = ascii "profiles";
+      filename = ascii "desk.aic";
+      attr = ascii "mtd;optional";
+      features = ascii "pan" ∷ ascii "tilt" ∷ [];
+      loadAddress = none;
+      entryOffset = none;
+    }
+
+abbrev pub preset : Preset
+preset = record { board = board; image = image; partitions = boot ∷ profiles ∷ []; components = first ∷ []; applications = desk ∷ [] }
+
+-- "lends `board`"
+pub example-preset : whole.read of01 32 32768 65536 (ascii "board") example ≡ accepted (record { parsed = record { root = tree; bytes = store; made = 21 }; preset = preset })
+unfolding whole.computes
+example-preset = refl

@@ -13,6 +13,12 @@ pub mod Tree
 pub mod Values
 pub mod Document
 pub mod Order
+pub mod Schema
+pub mod Fields
+pub mod Features
+pub mod Files
+pub mod Records
+pub mod Preset
 pub mod Samples
 pub mod Table
 pub mod Example
@@ -20,3 +26,4 @@ pub mod Corners
 pub mod CornersKeys
 pub mod CornersValues
 pub mod CornersDocument
+pub mod CornersRecords

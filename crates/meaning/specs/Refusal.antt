@@ -70,3 +70,8 @@ atLine number line = refused (numbered number) inText line
 -- "0 for 1, 2 and 17"
 abbrev pub atNoLine : {X : Type 0} → ℕ → Answer X
 atNoLine number = refused (numbered number) inText 0
+
+-- "Elsewhere: the entry from 0 .., or 0 outside an entry": what a reader says, told in section s at place p
+abbrev pub told : {X : Type 0} → ℕ → ℕ → R X → Answer X
+told s p (ok x) = accepted x
+told s p (bad n) = refused (numbered n) s p
