@@ -24,17 +24,26 @@ pub fn int(s: &[u8]) -> Result<Int, String> {
     }
 }
 
-/// Asks with the least room, a longer one and a shorter one.
-pub fn string(s: &[u8]) -> Result<Str, String> {
-    let answer = string_in(s, s.len())?;
-    if string_in(s, s.len() + 5)? != answer {
-        return Err("string: another answer in a longer room".into());
+/// Asks with the least room, a longer one, and a shorter one, in which the answer is 17.
+fn in_rooms<T: PartialEq>(
+    what: &str,
+    s: &[u8],
+    ask: impl Fn(&[u8], usize) -> Result<T, String>,
+    seventeen: T,
+) -> Result<T, String> {
+    let answer = ask(s, s.len())?;
+    if ask(s, s.len() + 5)? != answer {
+        return Err(format!("{what}: another answer in a longer room"));
     }
     match s.len() {
         0 => Ok(answer),
-        n if string_in(s, n - 1)? == Err((17, 0)) => Ok(answer),
-        _ => Err("string: a room too short is not 17".into()),
+        n if ask(s, n - 1)? == seventeen => Ok(answer),
+        _ => Err(format!("{what}: a room too short is not 17")),
     }
+}
+
+pub fn string(s: &[u8]) -> Result<Str, String> {
+    in_rooms("string", s, string_in, Err((17, 0)))
 }
 
 /// Asks with a room of that length, filled before.
@@ -62,17 +71,8 @@ pub fn string_in(s: &[u8], room: usize) -> Result<Str, String> {
     })
 }
 
-/// Asks with the least room, a longer one and a shorter one.
 pub fn key(s: &[u8]) -> Result<Key, String> {
-    let answer = key_in(s, s.len())?;
-    if key_in(s, s.len() + 5)? != answer {
-        return Err("key: another answer in a longer room".into());
-    }
-    match s.len() {
-        0 => Ok(answer),
-        n if key_in(s, n - 1)? == Err(17) => Ok(answer),
-        _ => Err("key: a room too short is not 17".into()),
-    }
+    in_rooms("key", s, key_in, Err(17))
 }
 
 /// Asks with a room of that length, filled before.
