@@ -1,18 +1,20 @@
 -- Whole texts: the lines behind a refused one, then 17, 1 and 2; one law for each way out.
-use Prim.Native.Nat.{ℕ, _+_, _≤_, _<_}
+use Prim.Native.Nat.{ℕ, _+_, _/_, _≤_, _<_}
 use mathlib.Core.Bool.{Bool, true, false}
 use mathlib.Core.List.{List, []}
 use mathlib.Core.Path.{_≡_, refl, sym, ap, _∙_}
 use native.Mathlib.Omega.{arith}
-use borrow.Author.Tests.{lt-ltb, le-ltb}
+use borrow.Author.Tests.{lt-ltb, le-ltb, ltb-false}
+use lib.Dec.{ltb}
 use lib.ListN.{length, take, drop}
 use lib.Seq.{take-at, length-take-le}
 use Rattle.meaning.specs.declared.Limits.{Limits}
-use Rattle.meaning.specs.Base.{zeros}
+use Rattle.meaning.specs.Base.{pick, zeros}
 use Rattle.meaning.specs.Limits.{of01}
 use Rattle.meaning.specs.Refusal.{Answer, accepted, refused, after, inText, atLine}
 use Rattle.meaning.specs.Utf8.{valid}
 use Rattle.meaning.specs.Lines.{Line, closed, join, joined}
+use Rattle.laws.specs.Cases.{on}
 use Rattle.text.specs.declared.Place.{Place}
 use Rattle.text.specs.declared.Checked.{Checked}
 use Rattle.text.specs.declared.Checked.the-variants as checks
@@ -23,7 +25,7 @@ use Rattle.toml_lite.specs.Doc.{Doc, linesS, empty, documentS}
 use Rattle.toml_lite.proofs.Carrying.{carries-none, carries-grows}
 use Rattle.document.specs.declared.Read.{Read}
 use Rattle.document.specs.declared.Read.the-variants.{Fine, Fault}
-use Rattle.document.specs.Rooms.{readOf, wholeOf, Behind, behindFault, Told, Begun, Cleared, Ready, Roomy, judged}
+use Rattle.document.specs.Rooms.{readOf, wholeOf, Behind, behindFault, Told, Begun, Cleared, Ready, Roomy, Empty, suffice, judged}
 use Rattle.document.proofs.Assigning.{length-zeros}
 
 -- ---- 3 and 4 behind a refused line
@@ -96,46 +98,61 @@ module _ (limits : Limits) (s scratch store tree : List ℕ) (h : Ready limits s
       pub laid-read : (store' tree' : List ℕ) (r : Read) → Cleared store tree store' tree' (wholeOf limits (take used scratch')) r → Cleared store tree store' tree' (documentS limits s) r
       laid-read store' tree' r c = rw (← whole-is) c
 
--- ---- 17 first: both rooms are emptied before
-module _ (s store₀ tree₀ store tree : List ℕ) (es : store ≡ zeros (length store₀)) (et : tree ≡ zeros (length tree₀)) where
-  store-long : length store ≡ length store₀
-  store-long = ap length es ∙ length-zeros (length store₀)
+-- ---- 17 first
+pub small-store : (n m : ℕ) → n < 32768 → false ≡ suffice n m
+unfolding suffice
+small-store n m h = rw (lt-ltb n 32768 h)
 
-  tree-long : length tree ≡ length tree₀
-  tree-long = ap length et ∙ length-zeros (length tree₀)
+module _ (n m c : ℕ) (ec : c ≡ m / 32) (h : 32768 ≤ n) where
+  pub small-tree : c < 2048 → false ≡ suffice n m
+  unfolding suffice
+  small-tree l = let k : m < 65536 = omega arith in rw (le-ltb n 32768 h, lt-ltb m 65536 k)
 
-  same-room : (n : ℕ) → zeros n ≡ zeros (length (zeros n))
-  same-room n = sym (ap zeros (length-zeros n))
+  pub both-large : 2048 ≤ c → true ≡ suffice n m
+  unfolding suffice
+  both-large l = let k : 65536 ≤ m = omega arith in rw (le-ltb n 32768 h, le-ltb m 65536 k)
 
-  refused-17 : judged s (length store₀) (length tree₀) ≡ atLine 17 0
-      → Cleared (zeros (length store₀)) (zeros (length tree₀)) store tree (judged s (length store₀) (length tree₀)) (Fault 17 0)
-  refused-17 e = rw e (record { told = record { says = refl; small = omega arith; text = refl }; store-is = es ∙ same-room (length store₀); tree-is = et ∙ same-room (length tree₀); carried = tt })
+abbrev Large : ℕ → ℕ → Type 0
+Large n m = (32768 ≤ n) × (65536 ≤ m)
 
-  pub small-store : length store < 32768 → Cleared (zeros (length store₀)) (zeros (length tree₀)) store tree (judged s (length store₀) (length tree₀)) (Fault 17 0)
+pub suffices : (n m : ℕ) → suffice n m ≡ true → Large n m
+unfolding suffice
+suffices n m e =
+    on (ltb n 32768) (λ p. absurd (else (rw p at e)))
+    (λ p. on (ltb m 65536) (λ q. absurd (else (rw (p, q) at e))) (λ q. (ltb-false n 32768 p, ltb-false m 65536 q)))
+  where
+    else : false ≡ true → ⊥
+    else f = let z : _≡_ {A = ℕ} 0 1 = ap (λ (b : Bool). pick b 1 0) f in omega arith
+
+module _ (s store tree : List ℕ) (b : Bool) (e : b ≡ suffice (length store) (length tree)) (h : Empty store tree) where
+  pub too-small : b ≡ false → Cleared store tree store tree (judged s (length store) (length tree)) (Fault 17 0)
   unfolding judged
-  small-store h = refused-17 (let k : length store₀ < 32768 = omega (arith, store-long) in rw (lt-ltb (length store₀) 32768 k))
+  too-small f =
+      let k : judged s (length store) (length tree) ≡ atLine 17 0 = rw (← e, f) in
+      rw k (record { told = record { says = refl; small = omega arith; text = refl }; store-is = h .store-empty; tree-is = h .tree-empty; carried = tt })
 
-  module _ (h : 32768 ≤ length store) where
-    large-store : 32768 ≤ length store₀
-    large-store = omega (arith, store-long)
+  module _ (t : b ≡ true) where
+    pub rooms-ready : Roomy store tree
+    rooms-ready =
+        let k : Large (length store) (length tree) = suffices (length store) (length tree) (sym e ∙ t) in
+        record { store-fits = k .0; tree-fits = k .1; empty = h }
 
-    pub small-tree : length tree < 65536 → Cleared (zeros (length store₀)) (zeros (length tree₀)) store tree (judged s (length store₀) (length tree₀)) (Fault 17 0)
+    pub text-read : (store' tree' : List ℕ) (r : Read) → Cleared store tree store' tree' (documentS of01 s) r
+        → Cleared store tree store' tree' (judged s (length store) (length tree)) r
     unfolding judged
-    small-tree l =
-        refused-17
-        (let k : length tree₀ < 65536 = omega (arith, tree-long) in
-        rw (le-ltb (length store₀) 32768 large-store, lt-ltb (length tree₀) 65536 k))
+    text-read store' tree' r c = rw (← e, t) c
 
-    module _ (l : 65536 ≤ length tree) where
-      pub rooms-ready : Roomy store tree
-      rooms-ready = record { store-fits = h; tree-fits = l; store-empty = es ∙ ap zeros (sym store-long); tree-empty = et ∙ ap zeros (sym tree-long) }
+-- ---- both rooms are emptied before
+module _ (n m : ℕ) (store tree : List ℕ) (es : store ≡ zeros n) (et : tree ≡ zeros m) where
+  long : (room : List ℕ) (k : ℕ) → room ≡ zeros k → length room ≡ k
+  long room k e = ap length e ∙ length-zeros k
 
-      pub text-read : (store' tree' : List ℕ) (r : Read) → Cleared store tree store' tree' (documentS of01 s) r
-          → Cleared (zeros (length store₀)) (zeros (length tree₀)) store' tree' (judged s (length store₀) (length tree₀)) r
-      unfolding judged
-      text-read store' tree' r c =
-          let k : 65536 ≤ length tree₀ = omega (arith, tree-long) in
-          rw (le-ltb (length store₀) 32768 large-store, le-ltb (length tree₀) 65536 k, ← es, ← et) c
+  pub emptied : Empty store tree
+  emptied = record { store-empty = es ∙ ap zeros (sym (long store n es)); tree-empty = et ∙ ap zeros (sym (long tree m et)) }
+
+  pub emptied-read : (s store' tree' : List ℕ) (r : Read) → Cleared store tree store' tree' (judged s (length store) (length tree)) r
+      → Cleared (zeros n) (zeros m) store' tree' (judged s n m) r
+  emptied-read s store' tree' r c = rw (es, et, length-zeros n, length-zeros m) at c
 
 -- ---- the scratch
 module _ (limits : Limits) (el : limits ≡ of01) (store tree : List ℕ) (h : Roomy store tree) where
@@ -149,8 +166,8 @@ module _ (limits : Limits) (el : limits ≡ of01) (store tree : List ℕ) (h : R
         few = omega arith;
         segs = omega arith;
         low = omega arith;
-        store-empty = h .store-empty;
-        tree-empty = h .tree-empty;
+        store-empty = h .empty .store-empty;
+        tree-empty = h .empty .tree-empty;
       })
 
   pub limits-01 : (s store' tree' : List ℕ) (r : Read) → Cleared store tree store' tree' (documentS limits s) r → Cleared store tree store' tree' (documentS of01 s) r

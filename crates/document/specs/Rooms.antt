@@ -1,5 +1,6 @@
 -- What the rooms hold between lines, what reading a line asks of them, and what it leaves.
 use Prim.Native.Nat.{ℕ, _+_, _*_, _≤_, _<_}
+use mathlib.Core.Bool.{Bool, true, false}
 use mathlib.Core.List.{List}
 use mathlib.Core.Path.{_≡_}
 use lib.Dec.{ltb}
@@ -186,13 +187,21 @@ pub record Ready (limits : Limits) (scratch store tree : List ℕ) : Type 0 wher
   pub store-empty : store ≡ zeros (length store)
   pub tree-empty : tree ≡ zeros (length tree)
 
--- the same for 01's limits
-pub record Roomy (store tree : List ℕ) : Type 0 where
-  pub store-fits : 32768 ≤ length store
-  pub tree-fits : 65536 ≤ length tree
+-- both rooms hold only zeros
+pub record Empty (store tree : List ℕ) : Type 0 where
   pub store-empty : store ≡ zeros (length store)
   pub tree-empty : tree ≡ zeros (length tree)
 
+-- and are large enough for every text within 01's limits
+pub record Roomy (store tree : List ℕ) : Type 0 where
+  pub store-fits : 32768 ≤ length store
+  pub tree-fits : 65536 ≤ length tree
+  pub empty : Empty store tree
+
+-- both rooms take every text within 01's limits
+unfoldable pub suffice : ℕ → ℕ → Bool
+suffice store tree = pick (ltb store 32768) false (pick (ltb tree 65536) false true)
+
 -- "17: a lent room is too small", before all else
 unfoldable pub judged : List ℕ → ℕ → ℕ → Answer Doc
-judged s store tree = pick (ltb store 32768) (atNoLine 17) (pick (ltb tree 65536) (atNoLine 17) (documentS of01 s))
+judged s store tree = pick (suffice store tree) (documentS of01 s) (atNoLine 17)

@@ -17,7 +17,7 @@ ghost use Rattle.meaning.specs.Space as space;
 ghost use Rattle.meaning.specs.Base.{zeros};
 ghost use Rattle.meaning.specs.Limits.{of01};
 ghost use Rattle.toml_lite.specs.Doc.{lineS, setS, documentS};
-ghost use Rattle.document.specs.Rooms.{verdictNumber, settled, docOf, hangK, Taking, Hanging, Lined, wholeOf, Behind, behindFault, Told, Begun, Reads, Cleared, Ready, Roomy, judged};
+ghost use Rattle.document.specs.Rooms.{verdictNumber, settled, docOf, hangK, Taking, Hanging, Lined, wholeOf, Behind, behindFault, Told, Begun, Reads, Cleared, Ready, Roomy, Empty, suffice, judged};
 
 // What a line comes to: the state behind it and the place where assignments go; or the number of its fault.
 pub enum LineRead {
@@ -330,23 +330,38 @@ fn read_roomy(text: &[u8], store: &mut [u8], tree: &mut [u8]) -> Read
     read_text(text, &mut scratch, store, tree, meaning::of01())
 }
 
-// A text into both rooms, whatever they hold: 17 first, by their lengths alone.
+// Whether both rooms take every text within 01's limits, by their lengths alone.
+pub fn large(store: &[u8], tree: &[u8]) -> bool
+    ensures { λ r. ⌜ r ≡ suffice (length (now (store .entry))) (length (now (tree .entry))) ⌝ }
+{
+    if store.len() < 32768 {
+        return false;
+    }
+    if tree::capacity(tree) < 2048 {
+        return false;
+    }
+    true
+}
+
+// A text into empty rooms: 17 first.
+fn read_empty(text: &[u8], store: &mut [u8], tree: &mut [u8]) -> Read
+    requires { ⌜ Empty (now store) (now tree) ⌝ }
+    ensures { λ r. ⌜ Cleared (now (store .entry)) (now (tree .entry)) (now (store .exit)) (now (tree .exit)) (judged (now (text .entry)) (length (now (store .entry))) (length (now (tree .entry)))) r ⌝ }
+{
+    if large(store, tree) {
+        return read_roomy(text, store, tree);
+    }
+    Read::Fault {
+        number: 17,
+        line: 0,
+    }
+}
+
+// A text into both rooms, whatever they hold.
 pub fn read_tree(text: &[u8], store: &mut [u8], tree: &mut [u8]) -> Read
     ensures { λ r. ⌜ Cleared (zeros (length (now (store .entry)))) (zeros (length (now (tree .entry)))) (now (store .exit)) (now (tree .exit)) (judged (now (text .entry)) (length (now (store .entry))) (length (now (tree .entry)))) r ⌝ }
 {
     slices::zero(store);
     slices::zero(tree);
-    if store.len() < 32768 {
-        return Read::Fault {
-            number: 17,
-            line: 0,
-        };
-    }
-    if tree.len() < 65536 {
-        return Read::Fault {
-            number: 17,
-            line: 0,
-        };
-    }
-    read_roomy(text, store, tree)
+    read_empty(text, store, tree)
 }

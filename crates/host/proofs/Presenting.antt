@@ -28,7 +28,7 @@ use Rattle.tree.specs.Room.{Finds, slotAt}
 use Rattle.tree.specs.Order.{next}
 use Rattle.document.specs.declared.Read.{Read}
 use Rattle.document.specs.declared.Read.the-variants.{Fine, Fault}
-use Rattle.document.specs.Rooms.{readOf, Small, Cleared, judged, treeOf}
+use Rattle.document.specs.Rooms.{readOf, Small, Cleared, suffice, judged, treeOf}
 use Rattle.host.specs.declared.documents.Outcome.{Outcome}
 use Rattle.host.specs.declared.documents.At.{At}
 use Rattle.host.specs.Documents.{outcomeOf, storeOf, Presented, atOf, within, behindOf, walking}
@@ -36,7 +36,7 @@ use Rattle.host.proofs.Exports.{length-zeros}
 
 -- both levels judge the rooms alike
 pub judged-agrees : (s : List ℕ) (n m : ℕ) → Doc-agrees [] (inRooms of01 32 n m s) (judged s n m)
-unfolding inRooms judged
+unfolding inRooms judged suffice
 judged-agrees s n m =
     on (ltb n 32768) (λ p. rw p (refl, refl, refl))
     (λ p. on (ltb m 65536) (λ q. rw (p, q) (refl, refl, refl)) (λ q. rw (p, q) (agreement of01 s)))
@@ -105,16 +105,16 @@ presented-decides s store tree store₁ tree₁ store₂ tree₂ r₁ r₂ a b =
 pub at-told : (f g : Found) → f ≡ g → atOf g ≡ atOf f
 at-told f g e = ap atOf (sym e)
 
-module _ (tree : List ℕ) (made : ℕ) where
-  pub none-there : (f : Found) (r : At) → length tree / 32 < made → r ≡ atOf Nothing → r ≡ within tree made f
-  none-there f r h e = rw (lt-ltb (length tree / 32) made h) e
+module _ (tree : List ℕ) (made takes : ℕ) (e : takes ≡ length tree / 32) where
+  pub none-there : (f : Found) (r : At) → takes < made → r ≡ atOf Nothing → r ≡ within tree made f
+  none-there f r h q = rw (← e, lt-ltb takes made h) q
 
-  pub found-there : (low : ℕ) (m f : Found) (r : At) → made ≤ length tree / 32 → Finds low made m f → r ≡ atOf f → r ≡ within tree made m
-  found-there low m f r h k e = rw (le-ltb (length tree / 32) made h) (e ∙ ap atOf (k .is))
+  pub found-there : (low : ℕ) (m f : Found) (r : At) → made ≤ takes → Finds low made m f → r ≡ atOf f → r ≡ within tree made m
+  found-there low m f r h k q = rw (← e, le-ltb takes made h) (q ∙ ap atOf (k .is))
 
-  pub next-there : (store : List ℕ) (parent begun after : ℕ) (b f : Found) (r : At) → made ≤ length tree / 32 → b ≡ behindOf begun after
+  pub next-there : (store : List ℕ) (parent begun after : ℕ) (b f : Found) (r : At) → made ≤ takes → b ≡ behindOf begun after
       → Finds 0 made (next (slotAt tree) store made parent b) f → r ≡ atOf f → r ≡ walking tree store made parent begun after
-  next-there store parent begun after b f r h e k q = found-there 0 (next (slotAt tree) store made parent (behindOf begun after)) f r h (rw (← e) k) q
+  next-there store parent begun after b f r h d k q = found-there 0 (next (slotAt tree) store made parent (behindOf begun after)) f r h (rw (← d) k) q
 
 pub behind-start : (begun after : ℕ) → begun ≡ 0 → Nothing ≡ behindOf begun after
 behind-start begun after e = rw (eq-eqb begun 0 e)

@@ -15,6 +15,8 @@ use Rattle.toml_lite.specs.declared.State.{State}
 use Rattle.toml_lite.specs.declared.Reply.{Reply}
 use Rattle.toml_lite.specs.declared.Reply.the-variants.{Fine, Fault}
 use Rattle.toml_lite.specs.Out.{Out, moved, replyOf, cells, Ready, Filled}
+use Rattle.document.specs.Rooms.{suffice}
+use Rattle.document.proofs.Reading.{suffices}
 use Rattle.host.specs.declared.values.ValueRead.{ValueRead}
 use Rattle.host.specs.Values.{sizedOf, outOf, told, Readout}
 use Rattle.host.proofs.Exports.{length-zeros}
@@ -28,10 +30,23 @@ record Sizes (s store tree : List ℕ) : Type 0 where
 sizes : (s store tree : List ℕ) → sizedOf s store tree ≡ 0 → Sizes s store tree
 unfolding sizedOf
 sizes s store tree e =
-    on (ltb (length store) 32768) (λ p. absurd (omega (arith, rw p at e)))
-    (λ p. on (ltb (length tree) 65536) (λ q. absurd (omega (arith, rw (p, q) at e)))
-    (λ q. on (ltb 32768 (length s)) (λ r. absurd (omega (arith, rw (p, q, r) at e)))
-    (λ r. record { bytes = ltb-false (length store) 32768 p; slots = ltb-false (length tree) 65536 q; text = ltb-false 32768 (length s) r })))
+    on (suffice (length store) (length tree))
+    (λ p. on (ltb 32768 (length s)) (λ r. absurd (omega (arith, rw (p, r) at e)))
+    (λ r. let k : (32768 ≤ length store) × (65536 ≤ length tree) = suffices (length store) (length tree) p in record { bytes = k .0; slots = k .1; text = ltb-false 32768 (length s) r }))
+    (λ p. absurd (omega (arith, rw p at e)))
+
+module _ (s store tree : List ℕ) (b : Bool) (e : b ≡ suffice (length store) (length tree)) where
+  pub sized-large : b ≡ true → 32768 < length s → 1 ≡ sizedOf s store tree
+  unfolding sizedOf
+  sized-large t h = rw (← e, t, lt-ltb 32768 (length s) h)
+
+  pub sized-well : b ≡ true → length s ≤ 32768 → 0 ≡ sizedOf s store tree
+  unfolding sizedOf
+  sized-well t h = rw (← e, t, le-ltb 32768 (length s) h)
+
+  pub sized-small : b ≡ false → 17 ≡ sizedOf s store tree
+  unfolding sizedOf
+  sized-small f = rw (← e, f)
 
 pub ready : (s z t : List ℕ) (n : ℕ) → n ≡ sizedOf s z t → n ≡ 0 → Ready 2048 s z t (record { used = 0; made = 0 })
 ready s z t n e h =

@@ -87,8 +87,9 @@ module _ (s room z : List ℕ) (ez : z ≡ zeros (length room)) where
           go escape q g = let i : Unended w ≡ Escape (decode 0 s .span) (length (decode 0 s .bytes)) = rw q at g in let z : _≡_ {A = ℕ} 0 1 = cc in absurd (omega arith)
 
 -- ---- tree_slot
-pub slot-there : (room : List ℕ) (n : ℕ) (v : Slot) → n < length room / 32 → v ≡ slotAt room n → valueOf v ≡ slotOf room n
-slot-there room n v h e = rw (lt-ltb n (length room / 32) h, e)
+module _ (room : List ℕ) (n takes : ℕ) (q : takes ≡ length room / 32) where
+  pub slot-there : (v : Slot) → n < takes → v ≡ slotAt room n → valueOf v ≡ slotOf room n
+  slot-there v h e = rw (← q, lt-ltb n takes h, e)
 
-pub slot-none : (room : List ℕ) (n : ℕ) → length room / 32 ≤ n → valueOf (record { kind = 0; parent = 0; key = 0; len = 0; «data» = 0 }) ≡ slotOf room n
-slot-none room n h = rw (le-ltb n (length room / 32) h)
+  pub slot-none : takes ≤ n → valueOf (record { kind = 0; parent = 0; key = 0; len = 0; «data» = 0 }) ≡ slotOf room n
+  slot-none h = rw (← q, le-ltb n takes h)

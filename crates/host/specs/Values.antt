@@ -15,6 +15,7 @@ use Rattle.scalar.specs.declared.key.Verdict.the-variants.{Fine, Malformed, Esc
 use Rattle.scalar.specs.Splits.{flat, endsOf}
 use Rattle.tree.specs.declared.Slot.{Slot}
 use Rattle.tree.specs.Room.{slotAt}
+use Rattle.document.specs.Rooms.{suffice}
 use Rattle.host.specs.declared.values.Number.{Number}
 use Rattle.host.specs.declared.values.Spelling.{Spelling}
 use Rattle.host.specs.declared.values.Value.{Value}
@@ -85,7 +86,7 @@ pub record Ends (s room room' : List ℕ) (i r : ℕ) : Type 0 where
 
 -- 17 where a room is too small, then 1 where the text is too long
 unfoldable pub sizedOf : List ℕ → List ℕ → List ℕ → ℕ
-sizedOf s store tree = pick (ltb (length store) 32768) 17 (pick (ltb (length tree) 65536) 17 (pick (ltb 32768 (length s)) 1 0))
+sizedOf s store tree = pick (suffice (length store) (length tree)) (pick (ltb 32768 (length s)) 1 0) 17
 
 -- what a value leaves under 01's limits in empty rooms
 abbrev pub outOf : List ℕ → Out

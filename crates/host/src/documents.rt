@@ -26,7 +26,7 @@ pub struct At {
 pub extern "C" fn preset_value_size() -> u32
     ensures { λ r. ⌜ r ≡ 32 ⌝ }
 {
-    32
+    tree::width()
 }
 
 // Reads a preset into the two rooms; the board's name is not looked at yet. A refusal leaves both rooms all zero.
@@ -76,7 +76,7 @@ fn told(f: Found) -> At
 pub extern "C" fn tree_find(tree: &[u8], store: &[u8], made: usize, parent: u16, key: &[u8]) -> At
     ensures { λ r. ⌜ r ≡ finding (now (tree .entry)) (now (store .entry)) made parent (now (key .entry)) ⌝ }
 {
-    if tree.len() / 32 < made {
+    if tree::capacity(tree) < made {
         return told(Found::Nothing);
     }
     told(tree::find(tree, store, made, parent, key))
@@ -87,7 +87,7 @@ pub extern "C" fn tree_find(tree: &[u8], store: &[u8], made: usize, parent: u16,
 pub extern "C" fn tree_child(tree: &[u8], made: usize, parent: u16, from: usize) -> At
     ensures { λ r. ⌜ r ≡ stepping (now (tree .entry)) made parent from ⌝ }
 {
-    if tree.len() / 32 < made {
+    if tree::capacity(tree) < made {
         return told(Found::Nothing);
     }
     told(tree::child(tree, made, parent, from))
@@ -115,7 +115,7 @@ pub extern "C" fn tree_next(
 ) -> At
     ensures { λ r. ⌜ r ≡ walking (now (tree .entry)) (now (store .entry)) made parent begun after ⌝ }
 {
-    if tree.len() / 32 < made {
+    if tree::capacity(tree) < made {
         return told(Found::Nothing);
     }
     told(tree::next(tree, store, made, parent, behind(begun, after)))

@@ -100,7 +100,7 @@ pub extern "C" fn value_string(src: &[u8], out: &mut [u8]) -> Spelling
 pub extern "C" fn tree_slot(tree: &[u8], n: usize) -> Value
     ensures { λ r. ⌜ r ≡ slotOf (now (tree .entry)) n ⌝ }
 {
-    if n < tree.len() / 32 {
+    if n < tree::capacity(tree) {
         let v = tree::get(tree, n);
         return Value {
             kind: v.kind as u32,
@@ -218,16 +218,13 @@ fn unread(number: u32) -> ValueRead
 fn sized(text: &[u8], store: &[u8], tree: &[u8]) -> u32
     ensures { λ r. ⌜ r ≡ sizedOf (now (text .entry)) (now (store .entry)) (now (tree .entry)) ⌝ }
 {
-    if store.len() < 32768 {
-        return 17;
+    if document::large(store, tree) {
+        if 32768 < text.len() {
+            return 1;
+        }
+        return 0;
     }
-    if tree.len() < 65536 {
-        return 17;
-    }
-    if 32768 < text.len() {
-        return 1;
-    }
-    0
+    17
 }
 
 // Reads one value under 01's limits into the two rooms. A refusal leaves both all zero.

@@ -2,7 +2,7 @@
 
 ghost use mathlib.Core.Path.{_≡_};
 ghost use mathlib.Core.List.{[], _∷_};
-ghost use Prim.Native.Nat.{_+_, _*_, _≤_};
+ghost use Prim.Native.Nat.{_+_, _*_, _/_, _≤_};
 ghost use lib.ListN.{length};
 ghost use Rattle.laws.specs.Stored.{stored};
 ghost use Rattle.tree.specs.Room as room;
@@ -23,6 +23,20 @@ pub struct Slot {
 pub enum Found {
     At(usize),
     Nothing,
+}
+
+// Bytes per value.
+pub fn width() -> u32
+    ensures { λ r. ⌜ r ≡ 32 ⌝ }
+{
+    32
+}
+
+// How many values a room takes.
+pub fn capacity(tree: &[u8]) -> usize
+    ensures { λ r. ⌜ r ≡ length (now (tree .entry)) / 32 ⌝ }
+{
+    tree.len() / 32
 }
 
 // The kind and the spare byte behind it.

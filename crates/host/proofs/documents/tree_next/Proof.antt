@@ -6,7 +6,12 @@ use Rattle.host.proofs.documents.tree_next.Reads as reads
 use Rattle.host.proofs.documents.tree_next.Lts as lts
 use Rattle.host.proofs.documents.behind.Reads as behind-reads
 use Rattle.host.proofs.documents.told.Reads as told-reads
+use Rattle.tree.proofs.capacity.Reads as capacity-reads
 use Rattle.tree.proofs.next.Reads as next-reads
+
+-- src/documents.rt:118:8
+capacity-requires : tie.Need-capacity-requires
+capacity-requires c κs = search needs
 
 -- src/documents.rt:119:9
 told-requires : tie.Need-told-requires
@@ -35,4 +40,11 @@ returns-2 c = search (needs, next-there)
 pub tree-next-spec : {M : Type 1} → statement M
 tree-next-spec =
     tie.close
-    (tie.spec told-requires returns behind-requires next-requires told-requires-2 returns-2)
+    (tie.spec
+    capacity-requires
+    told-requires
+    returns
+    behind-requires
+    next-requires
+    told-requires-2
+    returns-2)

@@ -1,29 +1,26 @@
-use Rattle.host.specs.Values.{sizedOf}
-use Rattle.laws.specs.Tests.{tests}
+use Rattle.host.proofs.Readouts.{sized-large, sized-well, sized-small}
+use borrow.Author.Needs.{needs}
 use Rattle.host.proofs.values.sized.Statement.{statement}
 use Rattle.host.proofs.values.sized.Tie as tie
 use Rattle.host.proofs.values.sized.Reads as reads
 use Rattle.host.proofs.values.sized.Lts as lts
+use Rattle.document.proofs.large.Reads as large-reads
 
--- src/values.rt:222:9
+-- src/values.rt:221:8
+large-requires : tie.Need-large-requires
+large-requires c κs = search needs
+
+-- src/values.rt:223:13
 returns : tie.Need-returns
-unfolding sizedOf
-returns c = search tests
+returns c = search (needs, sized-large)
 
 -- src/values.rt:225:9
 returns-2 : tie.Need-returns-2
-unfolding sizedOf
-returns-2 c = search tests
-
--- src/values.rt:228:9
-returns-3 : tie.Need-returns-3
-unfolding sizedOf
-returns-3 c = search tests
+returns-2 c = search (needs, sized-well)
 
 -- src/values.rt:218:1
-returns-4 : tie.Need-returns-4
-unfolding sizedOf
-returns-4 c = search tests
+returns-3 : tie.Need-returns-3
+returns-3 c = search (needs, sized-small)
 
 pub sized-spec : {M : Type 1} → statement M
-sized-spec = tie.close (tie.spec returns returns-2 returns-3 returns-4)
+sized-spec = tie.close (tie.spec large-requires returns returns-2 returns-3)
