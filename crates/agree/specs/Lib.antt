@@ -19,4 +19,5 @@ pub mod Theorem
 pub mod Reads
 pub mod Order
 pub mod Rooms
+pub mod Doors
 pub mod Examples

@@ -148,3 +148,6 @@ module _ (bytes : List ℕ) (bits : ℕ) (s : List ℕ) (h : Spells bytes bits s
 
   pub string-long : bits / 65536 ≡ length s
   string-long = long-is
+
+  pub string-in : bits % 65536 + bits / 65536 ≤ length bytes
+  string-in = omega (arith, from-is, long-is, h .fits)

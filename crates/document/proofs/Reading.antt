@@ -55,7 +55,7 @@ module _ (s : List ℕ) (p : Place) (number line : ℕ) (c : Checked) (k : Check
   fault-open l e = sooner 4 l (ap checkedOf (sym e) ∙ k .says) (rw e at (k .most))
 
 -- ---- 1, 2, then the lines
-module _ (limits : Limits) (s scratch store tree : List ℕ) (h : Ready limits scratch store tree) where
+module _ (limits : Limits) (s scratch store tree : List ℕ) (h : Ready limits (length s) scratch store tree) where
   -- a refusal leaves the empty rooms
   refuses : (n : ℕ) → documentS limits s ≡ atLine n 0 → Cleared store tree store tree (documentS limits s) (Fault n 0)
   refuses n e = rw e (record { told = record { says = refl; small = omega arith; text = refl }; store-is = h .store-empty; tree-is = h .tree-empty; carried = tt })
@@ -63,6 +63,9 @@ module _ (limits : Limits) (s scratch store tree : List ℕ) (h : Ready limits s
   pub too-long : limits .text < length s → Cleared store tree store tree (documentS limits s) (Fault 1 0)
   unfolding documentS
   too-long l = refuses 1 (rw (lt-ltb (limits .text) (length s) l))
+
+  pub lay-fits : length s ≤ limits .text → length s < length scratch
+  lay-fits l = h .fits l
 
   module _ (l : length s ≤ limits .text) (v : Bool) (e : v ≡ valid s) where
     pub not-utf8 : v ≡ false → Cleared store tree store tree (documentS limits s) (Fault 2 0)
@@ -156,11 +159,11 @@ module _ (n m : ℕ) (store tree : List ℕ) (es : store ≡ zeros n) (et : tree
 
 -- ---- the scratch
 module _ (limits : Limits) (el : limits ≡ of01) (store tree : List ℕ) (h : Roomy store tree) where
-  pub scratch-ready : (scratch : List ℕ) → 32769 ≤ length scratch → Ready limits scratch store tree
-  scratch-ready scratch z =
+  scratch-ready : (scratch : List ℕ) (n : ℕ) → (n ≤ 32768 → n < length scratch) → Ready limits n scratch store tree
+  scratch-ready scratch n z =
       rw el
       (record {
-        fits = omega arith;
+        fits = z;
         store-fits = omega (arith, h .store-fits);
         tree-fits = omega (arith, h .tree-fits);
         few = omega arith;
@@ -169,6 +172,12 @@ module _ (limits : Limits) (el : limits ≡ of01) (store tree : List ℕ) (h : R
         store-empty = h .empty .store-empty;
         tree-empty = h .empty .tree-empty;
       })
+
+  pub long-ready : (scratch : List ℕ) (n : ℕ) → 32769 ≤ length scratch → Ready limits n scratch store tree
+  long-ready scratch n z = scratch-ready scratch n (λ l. omega arith)
+
+  pub short-ready : (scratch : List ℕ) (n : ℕ) → 4096 ≤ length scratch → n < 4096 → Ready limits n scratch store tree
+  short-ready scratch n z l = scratch-ready scratch n (λ k. omega arith)
 
   pub limits-01 : (s store' tree' : List ℕ) (r : Read) → Cleared store tree store' tree' (documentS limits s) r → Cleared store tree store' tree' (documentS of01 s) r
   limits-01 s store' tree' r c = rw (← el) c

@@ -130,7 +130,7 @@ readOf (refused f section line) = reads.Fault (numberOf f) line
 
 -- no number of an answer is large
 abbrev pub Small : ℕ → Read → Type 0
-Small n (reads.Fine st) = (st .used ≤ n) × (st .made ≤ 65536)
+Small n (reads.Fine st) = (st .used ≤ n) × (st .made ≤ 65000)
 Small n (reads.Fault number line) = line ≤ n + 1
 
 -- a refusal is told of a text, not of an entry
@@ -176,9 +176,9 @@ pub record Cleared (store tree store' tree' : List ℕ) (m : Answer Doc) (r : Re
   pub carried : Carried tree' m
 
 -- ---- whole texts
--- both rooms are empty, and large enough for every text within the limits
-pub record Ready (limits : Limits) (scratch store tree : List ℕ) : Type 0 where
-  pub fits : limits .text < length scratch
+-- both rooms are empty, and large enough for every text within the limits; the scratch takes one of n bytes
+pub record Ready (limits : Limits) (n : ℕ) (scratch store tree : List ℕ) : Type 0 where
+  pub fits : n ≤ limits .text → n < length scratch
   pub store-fits : limits .text ≤ length store
   pub tree-fits : 32 * limits .values ≤ length tree
   pub few : limits .values < 65000

@@ -10,7 +10,7 @@ use toml_lite::State;
 use toml_lite::form::Form;
 use toml_lite::grow::Grown;
 ghost use mathlib.Core.Path.{_≡_};
-ghost use Prim.Native.Nat.{_+_};
+ghost use Prim.Native.Nat.{_+_, _<_};
 ghost use lib.ListN.{length};
 ghost use Rattle.meaning.specs.Document as meant;
 ghost use Rattle.meaning.specs.Space as space;
@@ -308,7 +308,7 @@ fn read_text(
     tree: &mut [u8],
     limits: Limits,
 ) -> Read
-    requires { ⌜ Ready limits (now scratch) (now store) (now tree) ⌝ }
+    requires { ⌜ Ready limits (length (now text)) (now scratch) (now store) (now tree) ⌝ }
     ensures { λ r. ⌜ Cleared (now (store .entry)) (now (tree .entry)) (now (store .exit)) (now (tree .exit)) (documentS limits (now (text .entry))) r ⌝ }
 {
     if limits.text < text.len() {
@@ -321,13 +321,32 @@ fn read_text(
     Read::Fault { number: 2, line: 0 }
 }
 
-// The same within 01's limits: the text is laid into a scratch first.
-fn read_roomy(text: &[u8], store: &mut [u8], tree: &mut [u8]) -> Read
+// A short text within 01's limits, laid into a short scratch: emptying a long one would take longer than reading it.
+fn read_short(text: &[u8], store: &mut [u8], tree: &mut [u8]) -> Read
+    requires { ⌜ Roomy (now store) (now tree) × (length (now text) < 4096) ⌝ }
+    ensures { λ r. ⌜ Cleared (now (store .entry)) (now (tree .entry)) (now (store .exit)) (now (tree .exit)) (documentS of01 (now (text .entry))) r ⌝ }
+{
+    let mut scratch = [0u8; 4096];
+    read_text(text, &mut scratch, store, tree, meaning::of01())
+}
+
+// Any text within 01's limits.
+fn read_long(text: &[u8], store: &mut [u8], tree: &mut [u8]) -> Read
     requires { ⌜ Roomy (now store) (now tree) ⌝ }
     ensures { λ r. ⌜ Cleared (now (store .entry)) (now (tree .entry)) (now (store .exit)) (now (tree .exit)) (documentS of01 (now (text .entry))) r ⌝ }
 {
     let mut scratch = [0u8; 32769];
     read_text(text, &mut scratch, store, tree, meaning::of01())
+}
+
+fn read_roomy(text: &[u8], store: &mut [u8], tree: &mut [u8]) -> Read
+    requires { ⌜ Roomy (now store) (now tree) ⌝ }
+    ensures { λ r. ⌜ Cleared (now (store .entry)) (now (tree .entry)) (now (store .exit)) (now (tree .exit)) (documentS of01 (now (text .entry))) r ⌝ }
+{
+    if text.len() < 4096 {
+        return read_short(text, store, tree);
+    }
+    read_long(text, store, tree)
 }
 
 // Whether both rooms take every text within 01's limits, by their lengths alone.

@@ -29,14 +29,9 @@ pub extern "C" fn preset_value_size() -> u32
     tree::width()
 }
 
-// Reads a preset into the two rooms; the board's name is not looked at yet. A refusal leaves both rooms all zero.
+// Reads a text's tree into the two rooms, whatever its records are. A refusal leaves both rooms all zero.
 #[no_mangle]
-pub extern "C" fn preset_read(
-    text: &[u8],
-    name: &[u8],
-    store: &mut [u8],
-    tree: &mut [u8],
-) -> Outcome
+pub extern "C" fn document_read(text: &[u8], store: &mut [u8], tree: &mut [u8]) -> Outcome
     ensures { λ r. ⌜ Presented (now (text .entry)) (now (store .entry)) (now (tree .entry)) (now (store .exit)) (now (tree .exit)) r ⌝ }
 {
     let r = document::read_tree(text, store, tree);

@@ -1,6 +1,8 @@
 // The boundary for hosts: what C and Rust call. No export has a `requires`.
 
 mod documents;
+mod presets;
+mod records;
 mod values;
 
 use text::Next;

@@ -1,8 +1,9 @@
-// Reads one preset from standard input. For now it says how many values its tree has, or the refusal.
+// Reads one preset from standard input. For now it says what the preset is for and how many entries it has, or the refusal.
 
-use document::Read;
 use libc::STDIN_FILENO;
 use libc::STDOUT_FILENO;
+use parse::Outcome;
+use schema::Word;
 
 // A space and a number.
 fn field(n: u64) {
@@ -10,12 +11,43 @@ fn field(n: u64) {
     io::print_decimal(STDOUT_FILENO, n);
 }
 
+// The first n bytes of a room.
+fn head(room: &[u8], n: usize) {
+    if n <= room.len() {
+        io::write_all(STDOUT_FILENO, &room[0..n]);
+    }
+}
+
+// A space and a word.
+fn word(w: Word) {
+    let mut room = [0u8; 32];
+    let n = w.put(&mut room);
+    io::write_all(STDOUT_FILENO, b" ");
+    head(&room, n);
+}
+
 // `refused`, number, section, place.
-fn refuse(number: u64, place: u64) {
+fn refuse(r: Outcome) {
     io::write_all(STDOUT_FILENO, b"refused");
-    field(number);
-    field(0);
-    field(place);
+    field(r.number as u64);
+    field(r.section as u64);
+    field(r.place as u64);
+    io::write_all(STDOUT_FILENO, b"\n");
+}
+
+// `ok`, chip, media, partitions, components, applications, values made.
+fn accept(store: &[u8], tree: &[u8], made: usize) {
+    let d = parse::view::device_at(tree, store, made);
+    let c = parse::view::counts_at(tree, store, made);
+    let chip = d.chip;
+    let media = d.media;
+    io::write_all(STDOUT_FILENO, b"ok");
+    word(chip.name());
+    word(media.name());
+    field(c.partitions as u64);
+    field(c.components as u64);
+    field(c.applications as u64);
+    field(made as u64);
     io::write_all(STDOUT_FILENO, b"\n");
 }
 
@@ -31,17 +63,6 @@ fn drain() {
     }
 }
 
-fn report(r: Read) {
-    match r {
-        Read::Fine(st) => {
-            io::write_all(STDOUT_FILENO, b"read");
-            field(st.made as u64);
-            io::write_all(STDOUT_FILENO, b"\n");
-        }
-        Read::Fault { number, line } => refuse(number as u64, line as u64),
-    }
-}
-
 fn main() {
     let mut input = [0u8; 32769];
     let n = io::read_full(STDIN_FILENO, &mut input);
@@ -50,5 +71,10 @@ fn main() {
     }
     let mut store = [0u8; 32768];
     let mut tree = [0u8; 65536];
-    report(document::read_tree(&input[..n], &mut store, &mut tree));
+    let r = parse::read(&input[..n], b"board", &mut store, &mut tree);
+    if r.number == 0 {
+        accept(&store, &tree, r.made);
+    } else {
+        refuse(r);
+    }
 }

@@ -7,7 +7,7 @@ use lib.Dec.{leb, ltb}
 use lib.IntN.{ℤ, pos, negsuc}
 use lib.ListN.{length}
 use Rattle.meaning.specs.Base.{pick, else}
-use Rattle.meaning.specs.Refusal.{R, ok, bad, via, Answer, accepted, refused, after, after as _>>=_, told, numbered}
+use Rattle.meaning.specs.Refusal.{R, ok, bad, via, Answer, accepted, refused, after, told, numbered}
 use Rattle.meaning.specs.Tree.{Value, Items, Table, none′, item, empty, entry, asString, asInt, asBool, asArray, asTable, lookup}
 
 -- ---- a value of a kind
@@ -45,89 +45,73 @@ aWord of v = via (aText v) of
 
 -- ---- a field
 
--- a table whose fields are read, and the section and place where their refusals are told
-pub record Fields : Type 0 where
-  pub section : ℕ
-  pub place : ℕ
-  pub held : Table
-
--- "the entry from 0 .."
-abbrev pub inEntry : ℕ → ℕ → Table → Fields
-inEntry section n t = record { section = section; place = n; held = t }
-
--- ".. or 0 outside an entry"
-abbrev pub outside : ℕ → Table → Fields
-outside section t = inEntry section 0 t
-
--- what a reader says, told there
-abbrev pub tell : {X : Type 0} → Fields → R X → Answer X
-tell f r = told (f .section) (f .place) r
-
 -- a value read in one way; none where there is none
 abbrev pub present : {X : Type 0} → (Value → R X) → Option Value → R (Option X)
 present way none = ok none
 present way (some v) = via (way v) (λ x. ok (some x))
 
--- the field k, read in one way; none where it is absent. Every field is read by this
-unfoldable pub field : {X : Type 0} → (Value → R X) → Fields → List ℕ → Answer (Option X)
-field way f k = tell f (present way (lookup (f .held) k))
+-- the field k of a table, read in one way; none where it is absent. Every field is read by this
+unfoldable pub field : {X : Type 0} → (Value → R X) → Table → List ℕ → R (Option X)
+field way t k = present way (lookup t k)
 
 -- "Defaults are the source's."
-abbrev pub defaulted : {X : Type 0} → (Value → R X) → X → Fields → List ℕ → Answer X
-defaulted way d f k = after (field way f k) (λ o. accepted (else o d))
+abbrev pub defaulted : {X : Type 0} → (Value → R X) → X → Table → List ℕ → R X
+defaulted way d t k = via (field way t k) (λ o. ok (else o d))
 
 -- 24: "missing `name`, `offset` or `size`". "A missing field is told at its turn."
-abbrev pub required : {X : Type 0} → (Value → R X) → Fields → List ℕ → Answer X
-required way f k = after (field way f k) (λ o. tell f (need 24 o))
+abbrev pub required : {X : Type 0} → (Value → R X) → Table → List ℕ → R X
+required way t k = via (field way t k) (need 24)
 
 -- ---- tables and lists at the root
 
--- the fields of a table at the root, which has none where it is absent
-unfoldable pub tableAt : ℕ → Table → List ℕ → Answer Fields
-tableAt section root k = after (defaulted aTable empty (outside section root) k) (λ t. accepted (outside section t))
+-- a table at the root, which has no fields where it is absent
+unfoldable pub tableAt : Table → List ℕ → R Table
+tableAt root k = defaulted aTable empty root k
 
--- an entry: its key, which is empty in a list, and its value
+-- an array's items, in its order
+abbrev pub values : Items → List Value
+values none′ = []
+values (item v is) = v ∷ values is
+
+-- an entry of a table: its key and its value
 pub record Row : Type 0 where
   pub key : List ℕ
   pub value : Value
 
--- a list's entries, in its order
-abbrev pub listRows : Items → List Row
-listRows none′ = []
-listRows (item v is) = record { key = []; value = v } ∷ listRows is
-
 -- a table's entries, in its order
-abbrev pub tableRows : Table → List Row
-tableRows empty = []
-tableRows (entry k v t) = record { key = k; value = v } ∷ tableRows t
+abbrev pub rows : Table → List Row
+rows empty = []
+rows (entry k v t) = record { key = k; value = v } ∷ rows t
 
--- what is there, or the other answer
-abbrev pub orThen : {X : Type 0} → Answer (Option X) → Option X → Answer (Option X)
-orThen a none = a
-orThen a (some x) = accepted (some x)
+-- what is there, or the other
+abbrev pub orThen : {X : Type 0} → R (Option X) → Option X → R (Option X)
+orThen r none = r
+orThen r (some x) = ok (some x)
 
 -- "`partitions` and `components` are taken only where the singular is absent."
-unfoldable pub listAt : ℕ → Table → List ℕ → List ℕ → Answer (List Row)
-listAt section root one many = do
-  single ← field anArray (outside section root) one
-  found ← orThen (field anArray (outside section root) many) single
-  accepted (listRows (else found none′))
+unfoldable pub listAt : Table → List ℕ → List ℕ → R (List Value)
+listAt root one many =
+    via (field anArray root one) (λ single. via (orThen (field anArray root many) single) (λ found. ok (values (else found none′))))
 
 -- ---- entries
 
 -- 23: "list entry or application not a table"
-unfoldable pub entryOf : {X : Type 0} → (List ℕ → Fields → Answer X) → ℕ → ℕ → Row → Answer X
-entryOf read section n r = after (told section n (need 23 (asTable (r .value)))) (λ t. read (r .key) (inEntry section n t))
+unfoldable pub tabled : {X : Type 0} → (Table → R X) → Value → R X
+tabled read v = via (need 23 (asTable v)) read
 
--- one entry after the other, the first of which is entry n
-abbrev pub each : {X : Type 0} → (List ℕ → Fields → Answer X) → ℕ → ℕ → List Row → Answer (List X)
+-- one entry after the other, the first of which is entry n; a refusal is told at its entry
+abbrev pub each : {A X : Type 0} → (A → R X) → ℕ → ℕ → List A → Answer (List X)
 each read section n [] = accepted []
-each read section n (r ∷ rs) = after (entryOf read section n r) (λ x. after (each read section (n + 1) rs) (λ xs. accepted (x ∷ xs)))
+each read section n (a ∷ rest) = after (told section n (read a)) (λ x. after (each read section (n + 1) rest) (λ xs. accepted (x ∷ xs)))
 
 -- 25: "list too long (place: first entry over ..)". "List length is checked before entries."
-unfoldable pub listed : {X : Type 0} → (List ℕ → Fields → Answer X) → ℕ → ℕ → List Row → Answer (List X)
-listed read section limit rs = pick (ltb limit (length rs)) (refused (numbered 25) section limit) (each read section 0 rs)
+unfoldable pub listed : {A X : Type 0} → (A → R X) → ℕ → ℕ → List A → Answer (List X)
+listed read section limit all = pick (ltb limit (length all)) (refused (numbered 25) section limit) (each read section 0 all)
+
+-- "or 0 outside an entry": what a reader says of a section
+abbrev pub outside : {X : Type 0} → ℕ → R X → Answer X
+outside section r = told section 0 r
 
 unfoldable pub computes : Unit {0}
-unfolding aText aFlag anArray aTable inRange aNumber field tableAt listAt entryOf listed
+unfolding aText aFlag anArray aTable inRange aNumber field tableAt listAt tabled listed
 computes = tt

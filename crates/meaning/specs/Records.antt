@@ -5,40 +5,38 @@ use mathlib.Core.List.{List, [], _++_}
 use mathlib.Core.Option.{Option, none, some}
 use Rattle.meaning.specs.Base.{pick, nil?, ascii, else, or}
 use Rattle.meaning.specs.Limits.{Limits}
-use Rattle.meaning.specs.Refusal.{Answer, accepted, after as _>>=_, inBoard, inImage, inPartition, inComponent, inApplication}
+use Rattle.meaning.specs.Refusal.{R, ok, via as _>>=_, Answer, accepted, after, inBoard, inImage, inPartition, inComponent, inApplication}
 use Rattle.meaning.specs.Utf8.{valid}
 use Rattle.meaning.specs.Tree.{Table}
 use Rattle.meaning.specs.Order.{sorted}
 use Rattle.meaning.specs.Schema.{Chip, d13x, kindRaw, chipOf, mediaOf, kindOf, chipWord, mediaFor, targetFor, Board, Image, Partition, Head, Role, Boot, Load, Component, Application, Preset}
-use Rattle.meaning.specs.Fields.{Fields, aText, aNumber, aFlag, aWord, tell, field, defaulted, required, tableAt, listAt, tableRows, listed}
+use Rattle.meaning.specs.Fields.{aText, aNumber, aFlag, aWord, field, defaulted, required, tableAt, listAt, Row, rows, tabled, listed, outside}
 use Rattle.meaning.specs.Features.{aFeatures}
 use Rattle.meaning.specs.Files.{fileName}
 
 -- ---- board and image
 
 -- "the chip word": the board's, or the platform's where the board has none; D13x where neither has
-unfoldable pub chosen : Fields → Fields → Option (List ℕ) → Option (List ℕ) → Answer Chip
-chosen board image (some w) platform = tell board (chipOf w)
-chosen board image none (some w) = tell image (chipOf w)
-chosen board image none none = accepted d13x
+unfoldable pub chosen : Option (List ℕ) → Option (List ℕ) → Answer Chip
+chosen (some w) platform = outside inBoard (chipOf w)
+chosen none (some w) = outside inImage (chipOf w)
+chosen none none = accepted d13x
 
 -- "board `chip` and image `platform`; the chip word"
-unfoldable pub chipFrom : Fields → Fields → Answer Chip
-chipFrom board image = do
-  chip ← field aText board (ascii "chip")
-  platform ← field aText image (ascii "platform")
-  chosen board image chip platform
+unfoldable pub chipFrom : Table → Table → Answer Chip
+chipFrom board image =
+    after (outside inBoard (field aText board (ascii "chip"))) (λ chip. after (outside inImage (field aText image (ascii "platform"))) (chosen chip))
 
 -- "board `name`, `target`, `profile`"
-unfoldable pub boardFrom : List ℕ → Chip → Fields → Answer Board
+unfoldable pub boardFrom : List ℕ → Chip → Table → R Board
 boardFrom lent chip f = do
   name ← defaulted aText lent f (ascii "name")
   target ← defaulted aText (targetFor chip) f (ascii "target")
   profile ← defaulted aText (ascii "release") f (ascii "profile")
-  accepted (record { name = name; chip = chip; target = target; profile = profile })
+  ok (record { name = name; chip = chip; target = target; profile = profile })
 
 -- "image `platform`, `product`, `version`, `media`, `media_dev_id`, `media_id`, `app`"
-unfoldable pub imageFrom : Chip → Fields → Answer Image
+unfoldable pub imageFrom : Chip → Table → R Image
 imageFrom chip f = do
   platform ← defaulted aText (chipWord chip) f (ascii "platform")
   product ← defaulted aText (ascii "unknown") f (ascii "product")
@@ -47,7 +45,7 @@ imageFrom chip f = do
   mediaDevId ← defaulted aNumber 0 f (ascii "media_dev_id")
   mediaId ← defaulted aText [] f (ascii "media_id")
   bootApp ← defaulted aText [] f (ascii "app")
-  accepted (record { platform = platform; product = product; version = version; media = media; mediaDevId = mediaDevId; mediaId = mediaId; bootApp = bootApp })
+  ok (record { platform = platform; product = product; version = version; media = media; mediaDevId = mediaDevId; mediaId = mediaId; bootApp = bootApp })
 
 -- the board and the image, which share the chip
 pub record Front : Type 0 where
@@ -56,29 +54,26 @@ pub record Front : Type 0 where
 
 -- "Order: `board`, `image`; board `chip` and image `platform`; the chip word; .."
 unfoldable pub frontOf : List ℕ → Table → Answer Front
-frontOf lent root = do
-  b ← tableAt inBoard root (ascii "board")
-  i ← tableAt inImage root (ascii "image")
-  chip ← chipFrom b i
-  board ← boardFrom lent chip b
-  image ← imageFrom chip i
-  accepted (record { board = board; image = image })
+frontOf lent root =
+    after (outside inBoard (tableAt root (ascii "board"))) (λ b.
+    after (outside inImage (tableAt root (ascii "image"))) (λ i.
+    after (chipFrom b i) (λ chip.
+    after (outside inBoard (boardFrom lent chip b)) (λ board.
+    after (outside inImage (imageFrom chip i)) (λ image. accepted (record { board = board; image = image }))))))
 
 -- ---- partitions
 
 -- "partitions (`name`, `offset`, `size`)"
-unfoldable pub partitionFrom : Fields → Answer Partition
+unfoldable pub partitionFrom : Table → R Partition
 partitionFrom f = do
   name ← required aText f (ascii "name")
   offset ← required aNumber f (ascii "offset")
   size ← required aNumber f (ascii "size")
-  accepted (record { name = name; offset = offset; size = size })
+  ok (record { name = name; offset = offset; size = size })
 
 -- "Partitions 32"
 unfoldable pub partitionsOf : Limits → Table → Answer (List Partition)
-partitionsOf lim root = do
-  rows ← listAt inPartition root (ascii "partition") (ascii "partitions")
-  listed (λ key. partitionFrom) inPartition (lim .partitions) rows
+partitionsOf lim root = after (outside inPartition (listAt root (ascii "partition") (ascii "partitions"))) (listed (tabled partitionFrom) inPartition (lim .partitions))
 
 -- ---- components
 
@@ -92,7 +87,7 @@ unfoldable pub filenameFor : Option (List ℕ) → Option (List ℕ) → Option 
 filenameFor bin file pack = else (or bin (or (nameIn file) pack)) (ascii "component.bin")
 
 -- "Component fields are read as `kind`, `name`, `package`, `bin`, `file`, `filename`, .."
-unfoldable pub headFrom : Fields → Answer Head
+unfoldable pub headFrom : Table → R Head
 headFrom f = do
   kind ← defaulted (aWord kindOf) kindRaw f (ascii "kind")
   name ← required aText f (ascii "name")
@@ -100,10 +95,10 @@ headFrom f = do
   bin ← field aText f (ascii "bin")
   file ← field aText f (ascii "file")
   filename ← defaulted aText (filenameFor bin file pack) f (ascii "filename")
-  accepted (record { kind = kind; name = name; pack = pack; bin = bin; file = file; filename = filename })
+  ok (record { kind = kind; name = name; pack = pack; bin = bin; file = file; filename = filename })
 
 -- ".. `features`, `pbp_features`, `partition`, `attr`, `target_attr`, `target_filename`, .."; "Empty `pbp_features` takes `features`."
-unfoldable pub roleFrom : ℕ → Fields → Answer Role
+unfoldable pub roleFrom : ℕ → Table → R Role
 roleFrom limit f = do
   features ← defaulted (aFeatures limit) [] f (ascii "features")
   own ← defaulted (aFeatures limit) [] f (ascii "pbp_features")
@@ -111,7 +106,7 @@ roleFrom limit f = do
   attr ← defaulted aText (ascii "mtd;required") f (ascii "attr")
   targetAttr ← field aText f (ascii "target_attr")
   targetFilename ← field aText f (ascii "target_filename")
-  accepted (record {
+  ok (record {
     features = features;
     pbpFeatures = pick (nil? own) features own;
     partition = partition;
@@ -121,17 +116,17 @@ roleFrom limit f = do
   })
 
 -- ".. `updater`, `ram`, `pbp`, `pbp_package`, `private`, .."
-unfoldable pub bootFrom : Fields → Answer Boot
+unfoldable pub bootFrom : Table → R Boot
 bootFrom f = do
   updater ← defaulted aFlag false f (ascii "updater")
   ram ← field aNumber f (ascii "ram")
   pbp ← field aText f (ascii "pbp")
   pbpPack ← field aText f (ascii "pbp_package")
   private ← field aText f (ascii "private")
-  accepted (record { updater = updater; ram = ram; pbp = pbp; pbpPack = pbpPack; private = private })
+  ok (record { updater = updater; ram = ram; pbp = pbp; pbpPack = pbpPack; private = private })
 
 -- ".. `load_address`, `entry_point`, `entry_offset`, `header_version`, `with_ext`, `ext_reserve`"
-unfoldable pub loadFrom : Fields → Answer Load
+unfoldable pub loadFrom : Table → R Load
 loadFrom f = do
   loadAddress ← field aNumber f (ascii "load_address")
   entryPoint ← field aNumber f (ascii "entry_point")
@@ -139,7 +134,7 @@ loadFrom f = do
   headerVersion ← field aNumber f (ascii "header_version")
   withExt ← defaulted aFlag false f (ascii "with_ext")
   extReserve ← defaulted aNumber 0 f (ascii "ext_reserve")
-  accepted (record {
+  ok (record {
     loadAddress = loadAddress;
     entryPoint = entryPoint;
     entryOffset = entryOffset;
@@ -149,24 +144,23 @@ loadFrom f = do
   })
 
 -- all 23 fields, group by group
-unfoldable pub componentFrom : ℕ → Fields → Answer Component
+unfoldable pub componentFrom : ℕ → Table → R Component
 componentFrom limit f = do
   head ← headFrom f
   role ← roleFrom limit f
   boot ← bootFrom f
   load ← loadFrom f
-  accepted (record { head = head; role = role; boot = boot; load = load })
+  ok (record { head = head; role = role; boot = boot; load = load })
 
 -- "components 64"; "Items in one feature list ..: 32"
 unfoldable pub componentsOf : Limits → Table → Answer (List Component)
-componentsOf lim root = do
-  rows ← listAt inComponent root (ascii "component") (ascii "components")
-  listed (λ key. componentFrom (lim .features)) inComponent (lim .components) rows
+componentsOf lim root =
+    after (outside inComponent (listAt root (ascii "component") (ascii "components"))) (listed (tabled (componentFrom (lim .features))) inComponent (lim .components))
 
 -- ---- applications
 
 -- "application fields as `name`, `partition`, `filename`, `attr`, `features`, `load_address`, `entry_offset`"
-unfoldable pub applicationFrom : ℕ → List ℕ → Fields → Answer Application
+unfoldable pub applicationFrom : ℕ → List ℕ → Table → R Application
 applicationFrom limit key f = do
   name ← defaulted aText key f (ascii "name")
   partition ← defaulted aText (ascii "app") f (ascii "partition")
@@ -175,7 +169,7 @@ applicationFrom limit key f = do
   features ← defaulted (aFeatures limit) [] f (ascii "features")
   loadAddress ← field aNumber f (ascii "load_address")
   entryOffset ← field aNumber f (ascii "entry_offset")
-  accepted (record {
+  ok (record {
     pack = key;
     name = name;
     partition = partition;
@@ -186,11 +180,14 @@ applicationFrom limit key f = do
     entryOffset = entryOffset;
   })
 
+-- an entry of `apps`
+abbrev pub applicationAt : ℕ → Row → R Application
+applicationAt limit r = tabled (applicationFrom limit (r .key)) (r .value)
+
 -- "applications 64", "in byte order of key"
 unfoldable pub applicationsOf : Limits → Table → Answer (List Application)
-applicationsOf lim root = do
-  apps ← tableAt inApplication root (ascii "apps")
-  listed (applicationFrom (lim .features)) inApplication (lim .applications) (tableRows (sorted (apps .held)))
+applicationsOf lim root =
+    after (outside inApplication (tableAt root (ascii "apps"))) (λ apps. listed (applicationAt (lim .features)) inApplication (lim .applications) (rows (sorted apps)))
 
 -- ---- all
 
@@ -200,12 +197,12 @@ lentName name = pick (valid name) name (ascii "board")
 
 -- ".. partitions ..; components; applications." Each group is read from the root by itself
 unfoldable pub presetOf : Limits → List ℕ → Table → Answer Preset
-presetOf lim name root = do
-  front ← frontOf (lentName name) root
-  partitions ← partitionsOf lim root
-  components ← componentsOf lim root
-  applications ← applicationsOf lim root
-  accepted (record { board = front .board; image = front .image; partitions = partitions; components = components; applications = applications })
+presetOf lim name root =
+    after (frontOf (lentName name) root) (λ front.
+    after (partitionsOf lim root) (λ partitions.
+    after (componentsOf lim root) (λ components.
+    after (applicationsOf lim root) (λ applications.
+    accepted (record { board = front .board; image = front .image; partitions = partitions; components = components; applications = applications })))))
 
 unfoldable pub computes : Unit {0}
 unfolding chosen chipFrom boardFrom imageFrom frontOf partitionFrom partitionsOf filenameFor headFrom roleFrom bootFrom loadFrom componentFrom componentsOf applicationFrom applicationsOf lentName presetOf Rattle.meaning.specs.Utf8.computes Rattle.meaning.specs.Schema.computes Rattle.meaning.specs.Fields.computes Rattle.meaning.specs.Features.computes Rattle.meaning.specs.Files.computes

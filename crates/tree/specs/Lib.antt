@@ -1,4 +1,6 @@
 pub mod Room
+pub mod Doors
+pub mod Spans
 pub mod Laws
 pub mod Order
 pub mod Nearest

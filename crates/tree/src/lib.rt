@@ -7,6 +7,8 @@ ghost use lib.ListN.{length};
 ghost use Rattle.laws.specs.Stored.{stored};
 ghost use Rattle.tree.specs.Room as room;
 ghost use Rattle.tree.specs.Room.{Holds, Finds, Counts, cell, slotAt, hung};
+ghost use Rattle.tree.specs.Doors as doors;
+ghost use Rattle.tree.specs.Doors.{Stood, Spread};
 ghost use Rattle.tree.specs.Order as order;
 ghost use Rattle.tree.specs.Order.{Stands};
 
@@ -23,6 +25,23 @@ pub struct Slot {
 pub enum Found {
     At(usize),
     Nothing,
+}
+
+// What a value is: a string's bytes in the text store, an integer, a boolean, or the place under which an array's items or a table's fields hang.
+pub enum Value {
+    Absent,
+    Text { from: usize, len: usize },
+    Number { negative: bool, magnitude: u64 },
+    Flag(bool),
+    Array(u16),
+    Table(u16),
+}
+
+// A table's place, and where among the values its children stand: from the first to before the end of the newest.
+pub struct Fields {
+    pub place: u16,
+    pub from: usize,
+    pub to: usize,
 }
 
 // Bytes per value.
@@ -306,6 +325,148 @@ pub fn next(tree: &[u8], store: &[u8], made: usize, parent: u16, after: Found) -
 {
     if is_made(made, after) {
         return nearest(tree, store, made, parent, after);
+    }
+    Found::Nothing
+}
+
+// A string's bytes by its data, where they lie in a store of so many bytes.
+fn text(bits: u64, size: usize) -> Value
+    ensures { λ r. ⌜ r ≡ doors.textOf bits size ⌝ }
+{
+    let from = (bits % 65536) as usize;
+    let len = (bits / 65536) as usize;
+    if size < from + len {
+        return Value::Absent;
+    }
+    Value::Text {
+        from: from,
+        len: len,
+    }
+}
+
+fn nonzero(n: u64) -> bool
+    ensures { λ r. ⌜ r ≡ doors.nonzero n ⌝ }
+{
+    if n == 0 {
+        return false;
+    }
+    true
+}
+
+// What a slot is, at its place.
+fn classify(v: Slot, size: usize, place: u16) -> Value
+    ensures { λ r. ⌜ r ≡ doors.valueOf v size place ⌝ }
+{
+    let kind = v.kind;
+    let data = v.data;
+    match kind {
+        1 => text(data, size),
+        2 => Value::Number {
+            negative: false,
+            magnitude: data,
+        },
+        3 => Value::Flag(nonzero(data)),
+        4 => Value::Array(place),
+        5 => Value::Table(place),
+        6 => Value::Number {
+            negative: nonzero(data),
+            magnitude: data,
+        },
+        _ => Value::Absent,
+    }
+}
+
+// What value number n is.
+pub fn value_at(tree: &[u8], store: &[u8], n: usize) -> Value
+    requires { ⌜ Stood (now tree) n ⌝ }
+    ensures { λ r. ⌜ r ≡ doors.valueAt (now (tree .entry)) (now (store .entry)) n ⌝ }
+{
+    let v = get(tree, n);
+    classify(v, store.len(), (n + 2) as u16)
+}
+
+// One behind the newest of the values made that hangs under the parent.
+fn newest(tree: &[u8], made: usize, parent: u16) -> usize
+    requires { ⌜ Holds (now tree) made ⌝ }
+    ensures { λ r. ⌜ r ≡ doors.newest (now (tree .entry)) made parent ⌝ }
+{
+    let mut i = made;
+    while 0 < i {
+        if under(tree, i - 1, parent) {
+            return i;
+        }
+        i -= 1;
+    }
+    0
+}
+
+// Where the children of a place stand, so that its fields are looked for there alone.
+pub fn fields_at(tree: &[u8], made: usize, place: u16) -> Fields
+    requires { ⌜ Holds (now tree) made ⌝ }
+    ensures { λ r. ⌜ r ≡ doors.fieldsOf (now (tree .entry)) made place ⌝ }
+{
+    let to = newest(tree, made, place);
+    let first = child(tree, to, place, 0);
+    match first {
+        Found::At(n) => Fields {
+            place: place,
+            from: n,
+            to: to,
+        },
+        Found::Nothing => Fields {
+            place: place,
+            from: to,
+            to: to,
+        },
+    }
+}
+
+// The newest of a table's fields with the key.
+fn among(tree: &[u8], store: &[u8], f: Fields, key: &[u8]) -> Found
+    requires { ⌜ Spread (now tree) f ⌝ }
+    ensures { λ r. ⌜ Finds (f .from) (f .to) (doors.among (now (tree .entry)) (now (store .entry)) f (now (key .entry))) r ⌝ }
+{
+    let from = f.from;
+    let place = f.place;
+    let mut i = f.to;
+    while from < i {
+        i -= 1;
+        if mine(tree, store, i, place, key) {
+            return Found::At(i);
+        }
+    }
+    Found::Nothing
+}
+
+// A table's field.
+pub fn field(tree: &[u8], store: &[u8], f: Fields, key: &[u8]) -> Value
+    requires { ⌜ Spread (now tree) f ⌝ }
+    ensures { λ r. ⌜ r ≡ doors.field (now (tree .entry)) (now (store .entry)) f (now (key .entry)) ⌝ }
+{
+    let found = among(tree, store, f, key);
+    match found {
+        Found::At(n) => value_at(tree, store, n),
+        Found::Nothing => Value::Absent,
+    }
+}
+
+// Number i of the values made that hang under the parent, in the order of their numbers.
+pub fn nth(tree: &[u8], made: usize, parent: u16, i: usize) -> Found
+    requires { ⌜ Holds (now tree) made ⌝ }
+    ensures { λ r. ⌜ Finds 0 made (doors.nthOf (doors.items (now (tree .entry)) made parent 0) i) r ⌝ }
+{
+    let mut left = i;
+    let mut from = 0;
+    while from < made {
+        if under(tree, from, parent) {
+            if left == 0 {
+                return Found::At(from);
+            }
+            left -= 1;
+            from += 1;
+        } else {
+            from += 1;
+        }
     }
     Found::Nothing
 }

@@ -1,4 +1,4 @@
-//! Whole texts: a preset read into lent rooms, and its tree through the views of the tree room.
+//! Whole texts: a text read into lent rooms, and its tree through the views of the tree room.
 use crate::value::{Slot, slot};
 use std::collections::BTreeMap;
 
@@ -38,11 +38,9 @@ mod sys {
 
     unsafe extern "C" {
         pub fn preset_value_size() -> u32;
-        pub fn preset_read(
+        pub fn document_read(
             text: *const u8,
             n: usize,
-            name: *const u8,
-            name_n: usize,
             store: *mut u8,
             store_room: usize,
             tree: *mut u8,
@@ -84,25 +82,13 @@ pub fn value_size() -> u32 {
     unsafe { sys::preset_value_size() }
 }
 
-/// Reads a preset; `name` is the board's where the text names none.
-pub fn read(text: &[u8], name: &[u8], store: &mut [u8], tree: &mut [u8]) -> Outcome {
+/// Reads a text to its tree; what its keys mean is not looked at.
+pub fn read(text: &[u8], store: &mut [u8], tree: &mut [u8]) -> Outcome {
     let (to, room) = (store.as_mut_ptr(), store.len());
     let (slots, places) = (tree.as_mut_ptr(), tree.len());
-    let (board, letters) = (name.as_ptr(), name.len());
-    // SAFETY: all four are live slices of their lengths and the borrow rules keep the lent rooms
-    // apart from the rest; preset_read has no precondition.
-    unsafe {
-        sys::preset_read(
-            text.as_ptr(),
-            text.len(),
-            board,
-            letters,
-            to,
-            room,
-            slots,
-            places,
-        )
-    }
+    // SAFETY: all three are live slices of their lengths and the borrow rules keep the lent rooms
+    // apart from the text; document_read has no precondition.
+    unsafe { sys::document_read(text.as_ptr(), text.len(), to, room, slots, places) }
 }
 
 fn number(at: sys::At) -> Option<usize> {

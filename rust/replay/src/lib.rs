@@ -4,5 +4,6 @@ pub mod ask;
 pub mod document;
 pub mod model;
 pub mod random;
+pub mod records;
 pub mod value;
 pub mod vector;

@@ -101,7 +101,7 @@ fn lent_rooms() {
     for (store, tree) in stores.iter().flat_map(|s| trees.map(|t| (*s, t))) {
         for (text, (number, place)) in texts.iter().zip(numbers) {
             let (mut held, mut slots) = (vec![0xAA; store], vec![0xAA; tree]);
-            let got = document::read(text, b"board", &mut held, &mut slots);
+            let got = document::read(text, &mut held, &mut slots);
             let small = store < STORE_MIN || tree < TREE_MIN;
             let want = if small {
                 refused(17, 0)
@@ -115,21 +115,6 @@ fn lent_rooms() {
             holds(&held, if some { b"a" } else { b"" }).expect("store");
             holds(&slots[SLOT * made as usize..], b"").expect("tree room");
         }
-    }
-}
-
-// The board's name is used by later layers, whatever it is.
-#[test]
-fn names_of_the_board() {
-    let text = b"a = \"x\"\n[[b]]\nc = [1]";
-    let read = |name: &[u8]| {
-        let (mut store, mut tree) = (vec![0xAA; STORE_MIN], vec![0xAA; TREE_MIN]);
-        let got = document::read(text, name, &mut store, &mut tree);
-        (got, store, tree)
-    };
-    let want = read(b"board");
-    for name in [b"".as_slice(), b"\xFF", &[b'n'; 70_000], b"\0"] {
-        assert!(read(name) == want, "{}", name.escape_ascii());
     }
 }
 
@@ -162,7 +147,7 @@ fn views_of_any_room() {
 fn views_of_a_preset() {
     let (mut store, mut tree) = (vec![0xAA; STORE_MIN], vec![0xAA; TREE_MIN]);
     let text = b"a = 1\nb = [2, 3]\na = 4\n[c]\na = 5\n";
-    let got = document::read(text, b"", &mut store, &mut tree);
+    let got = document::read(text, &mut store, &mut tree);
     assert_eq!((got.number, got.made), (0, 7));
     let child = |parent, from| child(&tree, 7, parent, from);
     let find = |parent, key| find(&tree, &store, 7, parent, key);

@@ -1,5 +1,5 @@
 //! The port against the recorded answers of the original.
-use replay::{ask, document, value, vector};
+use replay::{ask, document, records, value, vector};
 
 fn lines(name: &str) -> Vec<String> {
     let all = std::fs::read_to_string(vector::file(name)).expect(name);
@@ -46,4 +46,24 @@ fn every_recorded_document() {
         got.map_err(|e| panic!("{line}: port against record, {e}"))
             .ok();
     }
+}
+
+// The definitions as well as the port; they alone have sections and places.
+#[test]
+fn every_recorded_preset() {
+    let (mut host, mut met) = (records::ask::Host::default(), [0; 26]);
+    for line in lines("records.txt") {
+        let (name, text, recorded) =
+            records::vector::read(&line).unwrap_or_else(|e| panic!("{e} in {line}"));
+        let again = records::vector::write(&name, &text, &recorded);
+        assert_eq!(again, line, "read and written again");
+        let text = document::vector::joined(&text);
+        let want = records::model::read(&text, &name);
+        let defined = want.clone().map(|answer| (answer.text.made, answer.preset));
+        assert_eq!(defined, recorded, "{line}: definition against record");
+        let got = host.judge_fully(&text, &name, &want);
+        let heard = got.unwrap_or_else(|e| panic!("{line}: port against record, {e}"));
+        met[heard.err().unwrap_or(0) as usize] += 1;
+    }
+    assert!((20..=25).all(|number| met[number] > 0), "{met:?}");
 }

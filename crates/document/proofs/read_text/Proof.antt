@@ -1,4 +1,4 @@
-use Rattle.document.proofs.Reading.{too-long, not-utf8, laid-count, laid-begun, laid-read}
+use Rattle.document.proofs.Reading.{too-long, not-utf8, laid-count, laid-begun, laid-read, lay-fits}
 use borrow.Author.Needs.{needs}
 use Rattle.document.proofs.read_text.Statement.{statement}
 use Rattle.document.proofs.read_text.Tie as tie
@@ -18,7 +18,7 @@ valid-requires c κs = search needs
 
 -- src/lib.rt:318:13
 lay-requires : tie.Need-lay-requires
-lay-requires c κs = search needs
+lay-requires c κs = search (needs, lay-fits)
 
 -- src/lib.rt:319:26
 slice-reshare-prefix-read-laid : tie.Need-slice-reshare-prefix-read-laid

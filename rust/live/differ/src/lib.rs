@@ -4,4 +4,5 @@ pub mod corners;
 pub mod document;
 pub mod original;
 pub mod record;
+pub mod records;
 pub mod value;

@@ -1,5 +1,5 @@
 //! The recorded answers: of each kind picked texts and a fixed number of random ones.
-use crate::{corners, document, original, value};
+use crate::{corners, document, original, records, value};
 use replay::document::vector::{Parts, joined};
 use replay::random::Rng;
 use replay::value::model;
@@ -91,8 +91,39 @@ pub const DOCUMENT: Record = Record {
     line: |t| replay::document::vector::write(t, &document::original::answer(&joined(t))),
 };
 
+pub const RECORDS: Record = Record {
+    file: "records.txt",
+    asked: || {
+        let (corners, limits) = (
+            records::corners::CORNERS.len(),
+            records::corners::LIMITS.len(),
+        );
+        let faults = replay::records::edits::faults().len();
+        format!(
+            "Preset::parse, its records or the number of its message, to {corners} picked presets, \
+             {limits} around the limits, the presets of presets/, {faults} with one fault"
+        )
+    },
+    note: "# Section, place and count of values, and the numbers 1, 2, 14, 15, 16 and 25, which the \
+           original does not have, are those of rust/replay/src/records/model.rs.\n",
+    picked: records::corners::picked,
+    seed: 17,
+    random: 250,
+    make: replay::records::random::text,
+    lengths: 20..=500,
+    within: |_| true,
+    line: |t| {
+        let (text, names) = (joined(t), replay::records::random::NAMES);
+        let name = names[text.len() % names.len()];
+        let answer = records::compare::answer(&text, name);
+        let read = answer.unwrap_or_else(|e| panic!("{}: {e}", text.escape_ascii()));
+        let recorded = read.map(|answer| (answer.text.made, answer.preset));
+        replay::records::vector::write(name, t, &recorded)
+    },
+};
+
 /// All files.
-pub const ALL: [Record; 3] = [TEXT, VALUE, DOCUMENT];
+pub const ALL: [Record; 4] = [TEXT, VALUE, DOCUMENT, RECORDS];
 
 /// Texts in one part each.
 pub fn plain(texts: &[&str]) -> Vec<Parts> {

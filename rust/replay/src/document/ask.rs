@@ -1,19 +1,12 @@
 //! The port's answer to a whole text, with the rooms it was lent looked through.
-use super::answer::{Read, Table, shown};
-use super::rooms::{Fenced, Room};
+use super::answer::{Answer, Read, Table, shown};
+use super::rooms::{EXACT, Fenced, LONG, Rooms, SHORT, TEXT_ROOM};
 use crate::ask::holds;
 use port::document::{self, Outcome};
-use port::text::TEXT_MAX;
-use port::value::{SLOT, STORE_MIN, TREE_MIN};
+use port::value::SLOT;
 
 /// The tree, or the refusal's number.
 pub type Heard = Result<Table, u32>;
-
-/// The two rooms of one reading.
-struct Rooms {
-    store: Room,
-    tree: Room,
-}
 
 /// Every sort of rooms, made once; each reading finds noise in them.
 pub struct Host {
@@ -22,34 +15,14 @@ pub struct Host {
     turn: u64,
 }
 
-// The rooms by number: as small as can be, longer, and one of the two a byte too short.
-const EXACT: usize = 0;
-const LONG: usize = 1;
-const SHORT: [usize; 2] = [2, 3];
-// Texts over the limit are lent up to this length.
-const TEXT_ROOM: usize = TEXT_MAX + 4_096;
 // One reading in so many begins one in all rooms.
 const SELDOM: u64 = 32;
 
 impl Default for Host {
     fn default() -> Self {
-        let exact = |store, tree| Rooms {
-            store: Room::exact(store),
-            tree: Room::exact(tree),
-        };
-        let long = Rooms {
-            store: Room::guarded(STORE_MIN + 4_321),
-            tree: Room::guarded(TREE_MIN + 1_234),
-        };
-        let rooms = [
-            exact(STORE_MIN, TREE_MIN),
-            long,
-            exact(STORE_MIN - 1, TREE_MIN),
-            exact(STORE_MIN, TREE_MIN - 1),
-        ];
         Host {
             text: Fenced::new(TEXT_ROOM),
-            rooms,
+            rooms: Rooms::all(),
             turn: 0,
         }
     }
@@ -85,36 +58,29 @@ impl Host {
     fn read(&mut self, text: &[u8], want: &Read, rooms: usize) -> Result<Heard, String> {
         self.turn += 1;
         let text = self.text.ending(&text[..text.len().min(TEXT_ROOM)]);
-        self.rooms[rooms].read(text, want, self.turn)
-    }
-}
-
-impl Rooms {
-    fn read(&mut self, text: &[u8], want: &Read, noise: u64) -> Result<Heard, String> {
-        self.store.fill(noise);
-        self.tree.fill(noise);
-        let got = document::read(text, b"board", self.store.bytes(), self.tree.bytes());
-        if !self.store.kept() || !self.tree.kept() {
-            return Err("bytes beside the rooms were changed".into());
-        }
+        let rooms = &mut self.rooms[rooms];
+        let got = rooms.reading(self.turn, |store, tree| document::read(text, store, tree))?;
         if got != outcome(want) {
             return Err(format!("{got:?} against {:?}", outcome(want)));
         }
-        let (store, tree) = (&*self.store.bytes(), &*self.tree.bytes());
-        let made = got.made as usize;
-        holds(&tree[SLOT * made..], b"").map_err(|e| format!("tree: {e}"))?;
-        let Ok(want) = want else {
-            holds(store, b"").map_err(|e| format!("store: {e}"))?;
-            return Ok(Err(got.number));
-        };
-        holds(store, &want.store).map_err(|e| format!("store: {e}"))?;
-        let root = document::rebuild(tree, store, made)?;
-        if root != want.root {
-            let (got, want) = (shown(&root), shown(&want.root));
-            return Err(format!("tree {got} against {want}"));
-        }
-        Ok(Ok(root))
+        let (store, tree) = (&*rooms.store.bytes(), &*rooms.tree.bytes());
+        let root = held(store, tree, want.as_ref().ok())?;
+        Ok(want.as_ref().map(|_| root).map_err(|_| got.number))
     }
+}
+
+/// The tree of rooms that hold what an accepted text leaves, or else are all zero.
+pub fn held(store: &[u8], tree: &[u8], want: Option<&Answer>) -> Result<Table, String> {
+    let nothing = Answer::default();
+    let want = want.unwrap_or(&nothing);
+    holds(store, &want.store).map_err(|e| format!("store: {e}"))?;
+    holds(&tree[SLOT * want.made..], b"").map_err(|e| format!("tree: {e}"))?;
+    let root = document::rebuild(tree, store, want.made)?;
+    if root != want.root {
+        let (got, want) = (shown(&root), shown(&want.root));
+        return Err(format!("tree {got} against {want}"));
+    }
+    Ok(root)
 }
 
 fn outcome(want: &Read) -> Outcome {

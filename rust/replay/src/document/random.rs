@@ -243,7 +243,7 @@ fn long(r: &mut Rng) -> String {
 
 const MARKS: &[u8] = b"\"\"\\[[]]==..,,##\n\n\r 1a_-x";
 
-fn damage(r: &mut Rng, text: &mut Vec<u8>) {
+pub(crate) fn damage(r: &mut Rng, text: &mut Vec<u8>) {
     let at = r.below(text.len() + 1);
     match r.below(24) {
         0 => text.truncate(at),
@@ -263,7 +263,7 @@ fn damage(r: &mut Rng, text: &mut Vec<u8>) {
 }
 
 // Two lines swapped, or one written twice or left out.
-fn lines(r: &mut Rng, text: &mut Vec<u8>) {
+pub(crate) fn lines(r: &mut Rng, text: &mut Vec<u8>) {
     let mut all: Vec<_> = text.split_inclusive(|&b| b == b'\n').collect();
     if all.is_empty() {
         return;

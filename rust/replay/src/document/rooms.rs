@@ -1,4 +1,6 @@
 //! Memory to lend: noise in it, guard bytes around it, and a protected page right behind it.
+use port::text::TEXT_MAX;
+use port::value::{STORE_MIN, TREE_MIN};
 use std::ffi::{c_int, c_long, c_void};
 
 unsafe extern "C" {
@@ -120,5 +122,54 @@ impl Room {
         let all = self.memory.bytes();
         let behind = &all[end..];
         all[from - GUARD.len()..from] == GUARD && behind == &GUARD[..behind.len()]
+    }
+}
+
+/// The two rooms of one reading.
+pub struct Rooms {
+    pub store: Room,
+    pub tree: Room,
+}
+
+/// The rooms by number: as small as can be, longer, and one of the two a byte too short.
+pub const EXACT: usize = 0;
+pub const LONG: usize = 1;
+pub const SHORT: [usize; 2] = [2, 3];
+
+/// Texts over the limit are lent up to this length.
+pub const TEXT_ROOM: usize = TEXT_MAX + 4_096;
+
+impl Rooms {
+    /// Every sort of rooms.
+    pub fn all() -> [Rooms; 4] {
+        let exact = |store, tree| Rooms {
+            store: Room::exact(store),
+            tree: Room::exact(tree),
+        };
+        let long = Rooms {
+            store: Room::guarded(STORE_MIN + 4_321),
+            tree: Room::guarded(TREE_MIN + 1_234),
+        };
+        [
+            exact(STORE_MIN, TREE_MIN),
+            long,
+            exact(STORE_MIN - 1, TREE_MIN),
+            exact(STORE_MIN, TREE_MIN - 1),
+        ]
+    }
+
+    /// Fills both with noise, and looks at the bytes beside them once `read` is done.
+    pub fn reading<T>(
+        &mut self,
+        noise: u64,
+        read: impl FnOnce(&mut [u8], &mut [u8]) -> T,
+    ) -> Result<T, String> {
+        self.store.fill(noise);
+        self.tree.fill(noise);
+        let got = read(self.store.bytes(), self.tree.bytes());
+        match self.store.kept() && self.tree.kept() {
+            true => Ok(got),
+            false => Err("bytes beside the rooms were changed".into()),
+        }
     }
 }

@@ -16,11 +16,7 @@ pub fn joined(parts: &Parts) -> Vec<u8> {
 
 /// One line of the file, without its end.
 pub fn write(text: &Parts, answer: &Read) -> String {
-    let parts = text.iter().map(|(part, count)| match count {
-        1 => quoted(part),
-        _ => format!("{}*{count}", quoted(part)),
-    });
-    let text = parts.collect::<Vec<_>>().join("+");
+    let text = parts(text);
     match answer {
         Ok(a) => {
             let (made, store, root) = (a.made, quoted(&a.store), table(&a.root));
@@ -30,8 +26,16 @@ pub fn write(text: &Parts, answer: &Read) -> String {
     }
 }
 
-// Bytes that are no character are written `\x{..}`.
-fn quoted(s: &[u8]) -> String {
+pub(crate) fn parts(text: &Parts) -> String {
+    let parts = text.iter().map(|(part, count)| match count {
+        1 => quoted(part),
+        _ => format!("{}*{count}", quoted(part)),
+    });
+    parts.collect::<Vec<_>>().join("+")
+}
+
+/// Bytes that are no character are written `\x{..}`.
+pub(crate) fn quoted(s: &[u8]) -> String {
     let chunks = s.utf8_chunks().map(|chunk| {
         let good = quote(chunk.valid());
         let bad = chunk.invalid().iter().map(|b| format!("\\x{{{b:x}}}"));
@@ -77,7 +81,7 @@ pub fn read(line: &str) -> Result<(Parts, Read), String> {
 }
 
 impl Reader<'_> {
-    fn parts(&mut self) -> Result<Parts, String> {
+    pub(crate) fn parts(&mut self) -> Result<Parts, String> {
         let mut out = Parts::new();
         loop {
             let part = self.quoted_bytes()?;
@@ -102,7 +106,7 @@ impl Reader<'_> {
         self.0 = self.0.strip_prefix(' ').unwrap_or(self.0);
     }
 
-    fn bytes(&mut self) -> Result<Vec<u8>, String> {
+    pub(crate) fn bytes(&mut self) -> Result<Vec<u8>, String> {
         let bytes = self.quoted_bytes()?;
         self.space();
         Ok(bytes)

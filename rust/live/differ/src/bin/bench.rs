@@ -1,10 +1,12 @@
-//! Times both sides on the same texts: `cargo run --release --bin bench [text|value|document]`.
+//! Times both sides on the same texts: `cargo run --release --bin bench [text|value|document|records]`.
 use differ::document::original;
+use oracle::preset::Preset;
 use oracle::toml_lite::{self, Value, probe as rust};
-use port::document;
 use port::text::{self, SCRATCH_MIN, TEXT_MAX};
 use port::value::{self, STORE_MIN, TREE_MIN};
+use port::{document, preset, records};
 use std::hint::black_box;
+use std::path::Path;
 use std::time::{Duration, Instant};
 
 const RUNS: usize = 301;
@@ -32,13 +34,26 @@ const DOCUMENTS_HEAD: &str = "\
 | whole text | bytes | physical lines | values made | runs | port | original | port / original |
 |---|---|---|---|---|---|---|---|";
 const DOCUMENTS_NOTE: &str = "
-The port's time is `preset_read`, which checks that the bytes are UTF-8 and zeroes its store of 32768
+The port's time is `document_read`, which checks that the bytes are UTF-8 and zeroes its store of 32768
 bytes and its tree room of 65536. The original's time is `parse`, with the tree it makes dropped again.";
+
+const RECORDS_HEAD: &str = "\
+| preset | bytes | partitions | components | applications | runs | port | original | port / original |
+|---|---|---|---|---|---|---|---|---|";
+const RECORDS_NOTE: &str = "
+From text to records. The port's time is `preset_read`, which checks that the bytes are UTF-8, zeroes both
+rooms and judges every field; records are views of the rooms. The original's time is `Preset::parse`, with
+the preset it makes dropped again.";
 
 fn main() {
     let only = std::env::args().nth(1);
     let wanted = |name: &str| only.as_deref().is_none_or(|o| o == name);
-    let parts: [(&str, fn()); 3] = [("text", texts), ("value", values), ("document", documents)];
+    let parts: [(&str, fn()); 4] = [
+        ("text", texts),
+        ("value", values),
+        ("document", documents),
+        ("records", presets),
+    ];
     let chosen = parts.iter().filter(|(name, _)| wanted(name));
     chosen.for_each(|(_, run)| run());
 }
@@ -61,15 +76,56 @@ fn values() {
 
 fn documents() {
     println!("\n{DOCUMENTS_HEAD}");
-    for name in ["example.toml", "stage-d13x.toml", "tour-d21x.toml"] {
-        let path = replay::vector::file("../presets").join(name);
-        document_row(name, &std::fs::read_to_string(path).expect(name));
+    for name in EXAMPLES {
+        document_row(name, &example(name));
     }
     document_row("preset of 32 KiB", &preset(TEXT_MAX));
     for (name, text) in headers().into_iter().chain(lists()) {
         document_row(name, &text);
     }
     println!("{DOCUMENTS_NOTE}");
+}
+
+const EXAMPLES: [&str; 3] = ["example.toml", "stage-d13x.toml", "tour-d21x.toml"];
+
+fn example(name: &str) -> String {
+    let path = replay::vector::file("../presets").join(name);
+    std::fs::read_to_string(path).expect(name)
+}
+
+fn presets() {
+    println!("\n{RECORDS_HEAD}");
+    for name in EXAMPLES {
+        records_row(name, &example(name));
+    }
+    records_row("all lists full", &full());
+    println!("{RECORDS_NOTE}");
+}
+
+// 32 partitions, 64 components and 64 applications, with the fields that presets mostly have.
+fn full() -> String {
+    let board = "[board]\nname = \"bench\"\nchip = \"d13x\"\n[image]\nproduct = \"bench\"\n";
+    let partitions = (0..32).map(|i| {
+        let offset = i * 4_096;
+        format!("[[partition]]\nname = \"part{i}\"\noffset = {offset}\nsize = 0x1000\n")
+    });
+    let components = (0..64).map(|i| {
+        let part = i % 32;
+        format!(
+            "[[component]]\nkind = \"app\"\nname = \"comp{i}\"\npackage = \"package-{i}\"\n\
+             pbp_package = \"pbp\"\nfeatures = [\"pan\", \"tilt\", \"zoom\"]\npartition = \"part{part};mtd\"\n\
+             load_address = 0x4070_0000\nwith_ext = true\next_reserve = 512\n"
+        )
+    });
+    let apps = (0..64).map(|i| {
+        let part = i % 32;
+        format!(
+            "[apps.profile-{i}]\nname = \"profile {i}\"\npartition = \"part{part}\"\n\
+             features = \"pan tilt zoom\"\nload_address = 0x4070_0000\n"
+        )
+    });
+    let lists = partitions.chain(components).chain(apps);
+    board.to_string() + &lists.collect::<String>()
 }
 
 // The worst texts for looking keys up: what is looked for is old, or under many values.
@@ -162,7 +218,7 @@ fn document_row(name: &str, text: &str) {
     let (mut store, mut tree) = (vec![0; STORE_MIN], vec![0; TREE_MIN]);
     let mut ours = || {
         let text = black_box(text).as_bytes();
-        let got = document::read(text, b"board", &mut store, &mut tree);
+        let got = document::read(text, &mut store, &mut tree);
         assert_eq!(got.number, 0, "{name}: {got:?}");
         got.made as usize
     };
@@ -172,6 +228,33 @@ fn document_row(name: &str, text: &str) {
     assert!(original::read(text) == Ok(root), "{name}: trees");
     let (bytes, physical) = (text.len(), text.lines().count());
     println!("| {name} | {bytes} | {physical} | {made} | {times} |");
+}
+
+fn records_row(name: &str, text: &str) {
+    let (mut store, mut tree) = (vec![0; STORE_MIN], vec![0; TREE_MIN]);
+    let mut ours = || {
+        let text = black_box(text).as_bytes();
+        let got = records::read(text, b"board", &mut store, &mut tree);
+        assert_eq!(got.number, 0, "{name}: {got:?}");
+        got.made as usize
+    };
+    let path = Path::new("board.toml");
+    let made = ours();
+    let times = measured(ours, || {
+        Preset::parse(black_box(text), path).expect("records")
+    });
+    let rooms = records::Rooms {
+        tree: &tree,
+        store: &store,
+        made,
+    };
+    let got = preset::rebuild(rooms, b"board").expect("records");
+    let want = differ::records::original::read(text, b"board");
+    let counts = rooms.counts();
+    assert!(want == Ok(got), "{name}: records");
+    let (bytes, p) = (text.len(), counts.partitions);
+    let (c, a) = (counts.components, counts.applications);
+    println!("| {name} | {bytes} | {p} | {c} | {a} | {times} |");
 }
 
 fn count(v: &Value) -> usize {

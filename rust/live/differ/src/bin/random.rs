@@ -1,21 +1,22 @@
-//! Compares random texts: `random [text|value|document] [COUNT [SEED]]`, `text` where none is named.
+//! Compares random texts: `random [text|value|document|records] [COUNT [SEED]]`, `text` where none is
+//! named.
 //! Ends with 1 and the shortest text on a difference.
 use differ::compare::{compare, shortest_difference};
 use differ::document::compare::Judge;
-use differ::value;
+use differ::{records, value};
 use replay::random::{Rng, text};
-use replay::{document, value as values};
+use replay::{document, records as presets, value as values};
 use std::time::{Duration, Instant};
 
 /// Texts of one sort and what compares them.
 trait Sides {
-    fn make(&self, r: &mut Rng) -> Vec<u8>;
+    fn make(&mut self, r: &mut Rng) -> Vec<u8>;
     fn compare(&mut self, text: &[u8]) -> Result<(), String>;
     fn summary(&self) -> String;
 }
 
 impl Sides for Judge {
-    fn make(&self, r: &mut Rng) -> Vec<u8> {
+    fn make(&mut self, r: &mut Rng) -> Vec<u8> {
         document::random::text(r)
     }
 
@@ -28,6 +29,22 @@ impl Sides for Judge {
     }
 }
 
+impl Sides for records::compare::Judge {
+    fn make(&mut self, r: &mut Rng) -> Vec<u8> {
+        self.name = presets::random::name(r);
+        presets::random::text(r)
+    }
+
+    fn compare(&mut self, text: &[u8]) -> Result<(), String> {
+        let told = records::compare::Judge::compare(self, text);
+        told.map_err(|e| format!("lent name \"{}\": {e}", self.name.escape_ascii()))
+    }
+
+    fn summary(&self) -> String {
+        format!("; {}", records::compare::Judge::summary(self))
+    }
+}
+
 /// Texts that are UTF-8.
 struct Plain {
     make: fn(&mut Rng) -> String,
@@ -35,7 +52,7 @@ struct Plain {
 }
 
 impl Sides for Plain {
-    fn make(&self, r: &mut Rng) -> Vec<u8> {
+    fn make(&mut self, r: &mut Rng) -> Vec<u8> {
         (self.make)(r).into_bytes()
     }
 
@@ -51,9 +68,10 @@ impl Sides for Plain {
 
 fn main() {
     let mut words = std::env::args().skip(1).peekable();
-    let named = words.next_if(|w| ["text", "value", "document"].contains(&w.as_str()));
+    let named = words.next_if(|w| ["text", "value", "document", "records"].contains(&w.as_str()));
     let mut sides: Box<dyn Sides> = match named.as_deref() {
         Some("document") => Box::new(Judge::default()),
+        Some("records") => Box::new(records::compare::Judge::default()),
         Some("value") => Box::new(Plain {
             make: values::random::text,
             compare: value::compare::all,

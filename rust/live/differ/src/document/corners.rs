@@ -239,12 +239,16 @@ pub const LIMITS: &[Parts] = &[
 
 /// The limits, the corners and the presets of the repository, which go by name.
 pub fn picked() -> Vec<vector::Parts> {
-    let limits = LIMITS.iter().map(|parts| {
-        let owned = parts.iter().map(|(part, count)| (part.to_vec(), *count));
-        owned.collect()
-    });
     let presets = presets().into_iter().map(|text| vec![(text, 1)]);
+    let limits = owned(LIMITS).into_iter();
     limits.chain(plain(CORNERS)).chain(presets).collect()
+}
+
+/// Fixed texts as those that are read from a file.
+pub fn owned(texts: &[Parts]) -> Vec<vector::Parts> {
+    let part = |(part, count): &(&[u8], usize)| (part.to_vec(), *count);
+    let each = texts.iter().map(|parts| parts.iter().map(part).collect());
+    each.collect()
 }
 
 fn presets() -> Vec<Vec<u8>> {

@@ -50,8 +50,8 @@ const MESSAGES: [(&str, u32); 4] = [
     ("missing key before '=': \"", 6),
 ];
 
-// 13 is told by what follows the name, which is arbitrary text.
-fn number(error: &str) -> u32 {
+/// 13 is told by what follows the name, which is arbitrary text.
+pub fn number(error: &str) -> u32 {
     let known = MESSAGES.iter().find(|(start, _)| error.starts_with(start));
     match known {
         Some((_, number)) => *number,

@@ -1,0 +1,3 @@
+pub mod Gapping
+pub mod Stepping
+pub mod Choosing

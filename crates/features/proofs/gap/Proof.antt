@@ -1,0 +1,17 @@
+use Rattle.laws.specs.Tests.{tests}
+use Rattle.meaning.specs.Features.{gap}
+use Rattle.features.proofs.gap.Statement.{statement}
+use Rattle.features.proofs.gap.Tie as tie
+use Rattle.features.proofs.gap.Reads as reads
+use Rattle.features.proofs.gap.Lts as lts
+
+returns : tie.Need-returns
+unfolding gap
+returns c = search tests
+
+returns-2 : tie.Need-returns-2
+unfolding gap
+returns-2 c = search tests
+
+pub gap-spec : {M : Type 1} → statement M
+gap-spec = tie.close (tie.spec returns returns-2)

@@ -1,0 +1,55 @@
+use borrow.Author.Needs.{needs}
+use Prim.Native.Nat.{_-_}
+use Rattle.features.specs.Pieces.{bound}
+use Rattle.features.proofs.Stepping.{Nearing, near-start, near-on, near-less, near-end}
+use Rattle.features.proofs.next.Statement.{statement}
+use Rattle.features.proofs.next.Tie as tie
+use Rattle.features.proofs.next.Reads as reads
+use Rattle.features.proofs.next.Lts as lts
+use Rattle.features.proofs.better.Reads as better-reads
+use Rattle.features.proofs.raw_next.Reads as raw-next-reads
+
+abbrev Inv-loop : tie.InvT-loop
+Inv-loop tree store made f after best₀ at₀ best at = Nearing tree store made f after best at
+
+abbrev μ-loop : tie.MeasureT-loop
+μ-loop tree store made f after best₀ at₀ best at = bound tree store made f - at
+
+loop-holds : tie.Need-loop-holds Inv-loop μ-loop
+loop-holds c = search (needs, near-start)
+
+raw-next-requires : tie.Need-raw-next-requires Inv-loop μ-loop
+raw-next-requires c κs = search needs
+
+enum-told : tie.Need-enum-told Inv-loop μ-loop
+enum-told c = search needs
+
+returns : tie.Need-returns Inv-loop μ-loop
+returns c = search (needs, near-end)
+
+enum-known-r : tie.Need-enum-known-r Inv-loop μ-loop
+enum-known-r c = search needs
+
+better-requires : tie.Need-better-requires Inv-loop μ-loop
+better-requires c κs = search needs
+
+loop-less : tie.Need-loop-less Inv-loop μ-loop
+loop-less c = search (needs, near-less)
+
+loop-again : tie.Need-loop-again Inv-loop μ-loop
+loop-again c = search (needs, near-on)
+
+pub next-spec : {M : Type 1} → statement M
+next-spec =
+    tie.close
+    (tie.spec
+    Inv-loop
+    μ-loop
+    loop-holds
+    raw-next-requires
+    enum-told
+    returns
+    enum-known-r
+    better-requires
+    loop-less
+    loop-again)

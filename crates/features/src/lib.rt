@@ -1,0 +1,339 @@
+// Feature lists: the words of a stored text or the items of an array, judged, and walked in byte order by a cursor.
+
+use schema::Features;
+use tree::Found;
+use tree::Value;
+ghost use mathlib.Core.Path.{_≡_};
+ghost use Prim.Native.Nat.{_+_, _≤_};
+ghost use lib.ListN.{length, drop};
+ghost use Rattle.meaning.specs.Base.{pick, nil?, less};
+ghost use Rattle.meaning.specs.Features as meant;
+ghost use Rattle.schema.specs.Texts.{clip};
+ghost use Rattle.features.specs.Pieces as piece;
+ghost use Rattle.tree.specs.Doors.{Rooms};
+ghost use Rattle.features.specs.Gaps.{gaps, run};
+
+// A part of the text store.
+pub struct Piece {
+    pub from: usize,
+    pub len: usize,
+}
+
+// Where a walk in byte order stands: at its start, or behind an item.
+pub enum Feature {
+    Nothing,
+    At(Piece),
+}
+
+// An item in the order of the text, and the position behind it.
+pub enum Raw {
+    End,
+    At(Piece, usize),
+}
+
+// fault 25: too many items; 20: something else than text.
+pub struct FeaturesRead {
+    pub fault: u32,
+    pub features: Features,
+}
+
+fn gap(b: u8) -> bool
+    ensures { λ r. ⌜ r ≡ meant.gap b ⌝ }
+{
+    if b == 32 {
+        return true;
+    }
+    b == 44
+}
+
+// The first byte from a position on that is no gap.
+fn skip(s: &[u8], at: usize) -> usize
+    requires { ⌜ at ≤ length (now s) ⌝ }
+    ensures { λ r. ⌜ r ≡ at + gaps (drop at (now (s .entry))) ⌝ }
+{
+    let mut i = at;
+    while i < s.len() {
+        if gap(s[i]) {
+            i += 1;
+        } else {
+            return i;
+        }
+    }
+    i
+}
+
+// The first byte from a position on that is a gap.
+fn stop(s: &[u8], at: usize) -> usize
+    requires { ⌜ at ≤ length (now s) ⌝ }
+    ensures { λ r. ⌜ r ≡ at + run (drop at (now (s .entry))) ⌝ }
+{
+    let mut i = at;
+    while i < s.len() {
+        if gap(s[i]) {
+            return i;
+        }
+        i += 1;
+    }
+    i
+}
+
+// The first word of a stored text from a position on.
+fn raw_word(store: &[u8], from: usize, len: usize, at: usize) -> Raw
+    requires { ⌜ at ≤ length (clip from len (now store)) ⌝ }
+    ensures { λ r. ⌜ piece.Steps (piece.wordsFrom (now (store .entry)) from len) (length (clip from len (now (store .entry)))) at r ⌝ }
+{
+    let s = schema::stored(store, from, len);
+    let a = skip(s, at);
+    if a < s.len() {
+        let b = stop(s, a);
+        return Raw::At(
+            Piece {
+                from: from + a,
+                len: b - a,
+            },
+            b,
+        );
+    }
+    Raw::End
+}
+
+// Where a text stands in the store.
+fn piece_of(v: Value) -> Piece
+    ensures { λ r. ⌜ r ≡ piece.pieceOf v ⌝ }
+{
+    match v {
+        Value::Text { from, len } => Piece {
+            from: from,
+            len: len,
+        },
+        Value::Absent => Piece { from: 0, len: 0 },
+        Value::Number {
+            negative: _,
+            magnitude: _,
+        } => Piece { from: 0, len: 0 },
+        Value::Flag(_) => Piece { from: 0, len: 0 },
+        Value::Array(_) => Piece { from: 0, len: 0 },
+        Value::Table(_) => Piece { from: 0, len: 0 },
+    }
+}
+
+// The first item of an array from a value's number on.
+fn raw_item(tree: &[u8], store: &[u8], made: usize, place: u16, at: usize) -> Raw
+    requires { ⌜ Rooms (now tree) made × (at ≤ made) ⌝ }
+    ensures { λ r. ⌜ piece.Steps (piece.itemsFrom (now (tree .entry)) (now (store .entry)) made place) made at r ⌝ }
+{
+    let found = tree::child(tree, made, place, at);
+    match found {
+        Found::At(n) => Raw::At(piece_of(tree::value_at(tree, store, n)), n + 1),
+        Found::Nothing => Raw::End,
+    }
+}
+
+// The first piece of a feature list from a position on.
+fn raw_next(tree: &[u8], store: &[u8], made: usize, f: Features, at: usize) -> Raw
+    requires { ⌜ Rooms (now tree) made × (at ≤ piece.bound (now tree) (now store) made f) ⌝ }
+    ensures { λ r. ⌜ piece.Steps (piece.piecesFrom (now (tree .entry)) (now (store .entry)) made f) (piece.bound (now (tree .entry)) (now (store .entry)) made f) at r ⌝ }
+{
+    match f {
+        Features::Absent => Raw::End,
+        Features::Words { from, len } => raw_word(store, from, len, at),
+        Features::Items(place) => raw_item(tree, store, made, place, at),
+    }
+}
+
+// Whether a feature list has no item.
+pub fn is_empty(tree: &[u8], store: &[u8], made: usize, f: Features) -> bool
+    requires { ⌜ Rooms (now tree) made ⌝ }
+    ensures { λ r. ⌜ r ≡ nil? (piece.pieces (now (tree .entry)) (now (store .entry)) made f) ⌝ }
+{
+    let r = raw_next(tree, store, made, f, 0);
+    match r {
+        Raw::End => true,
+        Raw::At(_, _) => false,
+    }
+}
+
+// How many words a stored text has.
+fn count_words(store: &[u8], from: usize, len: usize) -> usize
+    ensures { λ r. ⌜ r ≡ length (piece.wordsFrom (now (store .entry)) from len 0) ⌝ }
+{
+    let s = schema::stored(store, from, len);
+    let mut n: usize = 0;
+    let mut at = 0;
+    while at < s.len() {
+        let a = skip(s, at);
+        if s.len() <= a {
+            return n;
+        }
+        at = stop(s, a);
+        n += 1;
+    }
+    n
+}
+
+fn is_text(v: Value) -> bool
+    ensures { λ r. ⌜ r ≡ piece.isText v ⌝ }
+{
+    match v {
+        Value::Text { from: _, len: _ } => true,
+        Value::Absent => false,
+        Value::Number {
+            negative: _,
+            magnitude: _,
+        } => false,
+        Value::Flag(_) => false,
+        Value::Array(_) => false,
+        Value::Table(_) => false,
+    }
+}
+
+// The fault so far, or that of an item of the wrong kind.
+fn kind_fault(fault: u32, v: Value) -> u32
+    ensures { λ r. ⌜ r ≡ pick (piece.isText v) fault 20 ⌝ }
+{
+    if is_text(v) {
+        return fault;
+    }
+    20
+}
+
+// Too many items come before those that are no text; one walk tells both, for a walk looks at every value made.
+fn items_fault(tree: &[u8], store: &[u8], made: usize, place: u16, limit: usize) -> u32
+    requires { ⌜ Rooms (now tree) made ⌝ }
+    ensures { λ r. ⌜ r ≡ piece.itemsFault (now (tree .entry)) (now (store .entry)) made limit place ⌝ }
+{
+    let mut fault: u32 = 0;
+    let mut n: usize = 0;
+    let mut at = 0;
+    while at < made {
+        let found = tree::child(tree, made, place, at);
+        match found {
+            Found::Nothing => return fault,
+            Found::At(m) => {
+                if n == limit {
+                    return 25;
+                }
+                fault = kind_fault(fault, tree::value_at(tree, store, m));
+                n += 1;
+                at = m + 1;
+            }
+        }
+    }
+    fault
+}
+
+fn wrong(fault: u32) -> FeaturesRead
+    ensures { λ r. ⌜ r ≡ record { fault = fault; features = Features.Absent } ⌝ }
+{
+    FeaturesRead {
+        fault: fault,
+        features: Features::Absent,
+    }
+}
+
+fn few_words(store: &[u8], from: usize, len: usize, limit: usize) -> FeaturesRead
+    ensures { λ r. ⌜ r ≡ piece.fewWords (now (store .entry)) limit from len ⌝ }
+{
+    let words = count_words(store, from, len);
+    if limit < words {
+        return wrong(25);
+    }
+    FeaturesRead {
+        fault: 0,
+        features: Features::Words {
+            from: from,
+            len: len,
+        },
+    }
+}
+
+fn few_items(tree: &[u8], store: &[u8], made: usize, place: u16, limit: usize) -> FeaturesRead
+    requires { ⌜ Rooms (now tree) made ⌝ }
+    ensures { λ r. ⌜ r ≡ piece.fewItems (now (tree .entry)) (now (store .entry)) made limit place ⌝ }
+{
+    let fault = items_fault(tree, store, made, place, limit);
+    if fault != 0 {
+        return wrong(fault);
+    }
+    FeaturesRead {
+        fault: 0,
+        features: Features::Items(place),
+    }
+}
+
+// The feature list that a value is, where limit items are allowed.
+pub fn read(tree: &[u8], store: &[u8], made: usize, v: Value, limit: usize) -> FeaturesRead
+    requires { ⌜ Rooms (now tree) made ⌝ }
+    ensures { λ r. ⌜ r ≡ piece.featuresRead (now (tree .entry)) (now (store .entry)) made limit v ⌝ }
+{
+    match v {
+        Value::Absent => wrong(0),
+        Value::Text { from, len } => few_words(store, from, len, limit),
+        Value::Number {
+            negative: _,
+            magnitude: _,
+        } => wrong(20),
+        Value::Flag(_) => wrong(20),
+        Value::Array(place) => few_items(tree, store, made, place, limit),
+        Value::Table(_) => wrong(20),
+    }
+}
+
+// Whether piece p comes before piece q in byte order.
+fn before(store: &[u8], p: Piece, q: Piece) -> bool
+    ensures { λ r. ⌜ r ≡ less (piece.bytesOf (now (store .entry)) p) (piece.bytesOf (now (store .entry)) q) ⌝ }
+{
+    let a = schema::stored(store, p.from, p.len);
+    let b = schema::stored(store, q.from, q.len);
+    slices::less(a, b)
+}
+
+fn behind(store: &[u8], after: Feature, p: Piece) -> bool
+    ensures { λ r. ⌜ r ≡ piece.behind (now (store .entry)) after p ⌝ }
+{
+    match after {
+        Feature::Nothing => true,
+        Feature::At(q) => before(store, q, p),
+    }
+}
+
+fn ahead(store: &[u8], best: Feature, p: Piece) -> bool
+    ensures { λ r. ⌜ r ≡ piece.ahead (now (store .entry)) best p ⌝ }
+{
+    match best {
+        Feature::Nothing => true,
+        Feature::At(q) => before(store, p, q),
+    }
+}
+
+// The better of the best so far and p.
+fn better(store: &[u8], after: Feature, best: Feature, p: Piece) -> Feature
+    ensures { λ r. ⌜ r ≡ piece.better (now (store .entry)) after best p ⌝ }
+{
+    if behind(store, after, p) {
+        if ahead(store, best, p) {
+            return Feature::At(p);
+        }
+        return best;
+    }
+    best
+}
+
+// The next item in byte order behind the last one given, each once.
+pub fn next(tree: &[u8], store: &[u8], made: usize, f: Features, after: Feature) -> Feature
+    requires { ⌜ Rooms (now tree) made ⌝ }
+    ensures { λ r. ⌜ r ≡ piece.nextOf (now (store .entry)) after Feature.Nothing (piece.pieces (now (tree .entry)) (now (store .entry)) made f) ⌝ }
+{
+    let mut best = Feature::Nothing;
+    let mut at = 0;
+    loop {
+        let r = raw_next(tree, store, made, f, at);
+        match r {
+            Raw::End => return best,
+            Raw::At(p, n) => {
+                best = better(store, after, best, p);
+                at = n;
+            }
+        }
+    }
+}

@@ -1,0 +1,23 @@
+use Rattle.host.proofs.Viewing.{head-shown}
+use borrow.Author.Needs.{needs}
+use Rattle.host.proofs.records.component_head.Statement.{statement}
+use Rattle.host.proofs.records.component_head.Tie as tie
+use Rattle.host.proofs.records.component_head.Reads as reads
+use Rattle.host.proofs.records.component_head.Lts as lts
+use Rattle.host.proofs.records.component.Reads as component-reads
+use Rattle.host.proofs.records.head_of.Reads as head-of-reads
+
+-- src/records.rt:481:13
+component-requires : tie.Need-component-requires
+component-requires c κs = search needs
+
+-- src/records.rt:481:5
+head-of-requires : tie.Need-head-of-requires
+head-of-requires c κs = search needs
+
+-- src/records.rt:477:1
+returns : tie.Need-returns
+returns c = search (needs, head-shown)
+
+pub component-head-spec : {M : Type 1} → statement M
+component-head-spec = tie.close (tie.spec component-requires head-of-requires returns)

@@ -1,0 +1,47 @@
+use Rattle.laws.specs.Tests.{calls}
+use Rattle.parse.proofs.Judging.{sound-rooms}
+use Rattle.host.proofs.Viewing.{application-shown}
+use borrow.Author.Needs.{needs}
+use Rattle.host.proofs.records.preset_application.Statement.{statement}
+use Rattle.host.proofs.records.preset_application.Tie as tie
+use Rattle.host.proofs.records.preset_application.Reads as reads
+use Rattle.host.proofs.records.preset_application.Lts as lts
+use Rattle.host.proofs.records.application_of.Reads as application-of-reads
+use Rattle.host.proofs.records.no_application.Reads as no-application-reads
+use Rattle.parse.proofs.view.application.Reads as application-reads
+use Rattle.parse.proofs.view.sound.Reads as sound-reads
+
+-- src/records.rt:659:8
+sound-requires : tie.Need-sound-requires
+sound-requires c κs = search needs
+
+-- src/records.rt:660:31
+application-requires : tie.Need-application-requires
+application-requires c κs = search (needs, sound-rooms)
+
+-- src/records.rt:660:9
+application-of-requires : tie.Need-application-of-requires
+application-of-requires c κs = search needs
+
+-- src/records.rt:660:9
+returns : tie.Need-returns
+returns c = search (needs, application-shown)
+
+-- src/records.rt:662:5
+no-application-requires : tie.Need-no-application-requires
+no-application-requires c κs = search needs
+
+-- src/records.rt:650:1
+returns-2 : tie.Need-returns-2
+returns-2 c = search calls
+
+pub preset-application-spec : {M : Type 1} → statement M
+preset-application-spec =
+    tie.close
+    (tie.spec
+    sound-requires
+    application-requires
+    application-of-requires
+    returns
+    no-application-requires
+    returns-2)

@@ -1,0 +1,51 @@
+-- The export of presets: 01's answer to a text and a lent name, and what the rooms hold then.
+use Prim.Native.Nat.{ℕ}
+use mathlib.Core.Bool.{true}
+use mathlib.Core.List.{List}
+use mathlib.Core.Path.{_≡_}
+use lib.ListN.{length}
+use Rattle.meaning.specs.Base.{zeros}
+use Rattle.meaning.specs.Limits.{of01}
+use Rattle.meaning.specs.Refusal.{Answer, accepted, refused, numberOf}
+use Rattle.meaning.specs.Preset.{Read, read}
+use Rattle.scalar.specs.Stores.{over}
+use Rattle.tree.specs.Doors.{fieldsOf}
+use Rattle.document.specs.Rooms.{judged, treeOf}
+use Rattle.parse.specs.Refused.{lentText, verdict}
+use Rattle.parse.specs.Views.{sound}
+use Rattle.parse.specs.Whole.{presetMeant}
+use Rattle.host.specs.declared.documents.Outcome.{Outcome}
+use Rattle.host.specs.Documents.{Shown}
+
+-- "A refusal returns its number, a section and a place"
+abbrev pub outcomeBy : Answer Read → Outcome
+outcomeBy (accepted p) = record { number = 0; section = 0; place = 0; made = p .parsed .made }
+outcomeBy (refused f section place) = record { number = numberOf f; section = section; place = place; made = 0 }
+
+-- the text's bytes, then zeros; "all lent rooms then hold zero"
+abbrev pub storeBy : ℕ → Answer Read → List ℕ
+storeBy n (accepted p) = over (p .parsed .bytes) (zeros n)
+storeBy n (refused f section place) = zeros n
+
+-- the text's values, then zeros
+abbrev pub treeBy : List ℕ → ℕ → ℕ → Answer Read → List ℕ
+treeBy text store tree (accepted p) = treeOf (zeros tree) (judged text store tree)
+treeBy text store tree (refused f section place) = zeros tree
+
+-- the rooms show 01's tree, and what is read from them is 01's preset, without a refusal
+pub record Recorded (name store tree : List ℕ) (p : Read) : Type 0 where
+  pub shown : Shown store tree (p .parsed)
+  pub sound : sound tree (p .parsed .made) ≡ true
+  pub clear : verdict tree store (p .parsed .made) (fieldsOf tree (p .parsed .made) 1) of01 (lentText name) .number ≡ 0
+  pub records : presetMeant tree store (p .parsed .made) name (fieldsOf tree (p .parsed .made) 1) of01 (lentText name) ≡ p .preset
+
+abbrev pub Records : List ℕ → List ℕ → List ℕ → Answer Read → Type 0
+Records name store tree (accepted p) = Recorded name store tree p
+Records name store tree (refused f section place) = Unit
+
+-- what reading a preset leaves
+pub record Preset (text name store tree store' tree' : List ℕ) (r : Outcome) : Type 0 where
+  pub says : r ≡ outcomeBy (read of01 32 (length store) (length tree) name text)
+  pub store-is : store' ≡ storeBy (length store) (read of01 32 (length store) (length tree) name text)
+  pub tree-is : tree' ≡ treeBy text (length store) (length tree) (read of01 32 (length store) (length tree) name text)
+  pub shows : Records name store' tree' (read of01 32 (length store) (length tree) name text)

@@ -1,0 +1,40 @@
+use Rattle.parse.proofs.Judging.{components-among, components-judged}
+use borrow.Author.Needs.{needs}
+use Rattle.parse.proofs.check_components.Statement.{statement}
+use Rattle.parse.proofs.check_components.Tie as tie
+use Rattle.parse.proofs.check_components.Reads as reads
+use Rattle.parse.proofs.check_components.Lts as lts
+use Rattle.parse.proofs.earlier.Reads as earlier-reads
+use Rattle.parse.proofs.entry.check_components.Reads as check-components-reads
+use Rattle.parse.proofs.in_section.Reads as in-section-reads
+use Rattle.parse.proofs.view.component_list.Reads as component-list-reads
+
+-- src/lib.rt:93:9
+component-list-requires : tie.Need-component-list-requires
+component-list-requires c κs = search needs
+
+-- src/lib.rt:94:9
+check-components-requires : tie.Need-check-components-requires
+check-components-requires c κs = search (needs, components-among)
+
+-- src/lib.rt:95:13
+in-section-requires : tie.Need-in-section-requires
+in-section-requires c κs = search needs
+
+-- src/lib.rt:95:5
+earlier-requires : tie.Need-earlier-requires
+earlier-requires c κs = search needs
+
+-- src/lib.rt:89:1
+returns : tie.Need-returns
+returns c = search (needs, components-judged)
+
+pub check-components-spec : {M : Type 1} → statement M
+check-components-spec =
+    tie.close
+    (tie.spec
+    component-list-requires
+    check-components-requires
+    in-section-requires
+    earlier-requires
+    returns)

@@ -1,0 +1,29 @@
+use Rattle.parse.proofs.Judging.{root-spread, front-root}
+use borrow.Author.Needs.{needs}
+use Rattle.parse.proofs.check_front.Statement.{statement}
+use Rattle.parse.proofs.check_front.Tie as tie
+use Rattle.parse.proofs.check_front.Reads as reads
+use Rattle.parse.proofs.check_front.Lts as lts
+use Rattle.parse.proofs.front.read_front.Reads as read-front-reads
+use Rattle.parse.proofs.lent_name.Reads as lent-name-reads
+use Rattle.tree.proofs.fields_at.Reads as fields-at-reads
+
+-- src/lib.rt:75:9
+fields-at-requires : tie.Need-fields-at-requires
+fields-at-requires c κs = search needs
+
+-- src/lib.rt:76:56
+lent-name-requires : tie.Need-lent-name-requires
+lent-name-requires c κs = search needs
+
+-- src/lib.rt:76:9
+read-front-requires : tie.Need-read-front-requires
+read-front-requires c κs = search (needs, root-spread)
+
+-- src/lib.rt:71:1
+returns : tie.Need-returns
+returns c = search (needs, front-root)
+
+pub check-front-spec : {M : Type 1} → statement M
+check-front-spec =
+    tie.close (tie.spec fields-at-requires lent-name-requires read-front-requires returns)

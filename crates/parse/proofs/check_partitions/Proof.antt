@@ -1,0 +1,40 @@
+use Rattle.parse.proofs.Judging.{partitions-among, partitions-judged}
+use borrow.Author.Needs.{needs}
+use Rattle.parse.proofs.check_partitions.Statement.{statement}
+use Rattle.parse.proofs.check_partitions.Tie as tie
+use Rattle.parse.proofs.check_partitions.Reads as reads
+use Rattle.parse.proofs.check_partitions.Lts as lts
+use Rattle.parse.proofs.earlier.Reads as earlier-reads
+use Rattle.parse.proofs.entry.read_partitions.Reads as read-partitions-reads
+use Rattle.parse.proofs.in_section.Reads as in-section-reads
+use Rattle.parse.proofs.view.partition_list.Reads as partition-list-reads
+
+-- src/lib.rt:84:9
+partition-list-requires : tie.Need-partition-list-requires
+partition-list-requires c κs = search needs
+
+-- src/lib.rt:85:9
+read-partitions-requires : tie.Need-read-partitions-requires
+read-partitions-requires c κs = search (needs, partitions-among)
+
+-- src/lib.rt:86:13
+in-section-requires : tie.Need-in-section-requires
+in-section-requires c κs = search needs
+
+-- src/lib.rt:86:5
+earlier-requires : tie.Need-earlier-requires
+earlier-requires c κs = search needs
+
+-- src/lib.rt:80:1
+returns : tie.Need-returns
+returns c = search (needs, partitions-judged)
+
+pub check-partitions-spec : {M : Type 1} → statement M
+check-partitions-spec =
+    tie.close
+    (tie.spec
+    partition-list-requires
+    read-partitions-requires
+    in-section-requires
+    earlier-requires
+    returns)

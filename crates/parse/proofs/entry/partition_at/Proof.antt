@@ -1,0 +1,35 @@
+use borrow.Author.Needs.{needs}
+use Rattle.parse.proofs.Entering.{partition-at, table-spread}
+use Rattle.parse.proofs.entry.partition_at.Statement.{statement}
+use Rattle.parse.proofs.entry.partition_at.Tie as tie
+use Rattle.parse.proofs.entry.partition_at.Reads as reads
+use Rattle.parse.proofs.entry.partition_at.Lts as lts
+use Rattle.parse.proofs.entry.entry_table.Reads as entry-table-reads
+use Rattle.parse.proofs.entry.read_partition.Reads as read-partition-reads
+use Rattle.parse.proofs.field.first.Reads as first-reads
+use Rattle.tree.proofs.value_at.Reads as value-at-reads
+
+value-at-requires : tie.Need-value-at-requires
+value-at-requires c κs = search needs
+
+entry-table-requires : tie.Need-entry-table-requires
+entry-table-requires c κs = search needs
+
+read-partition-requires : tie.Need-read-partition-requires
+read-partition-requires c κs = search (needs, table-spread)
+
+first-requires : tie.Need-first-requires
+first-requires c κs = search needs
+
+returns : tie.Need-returns
+returns c = search (needs, partition-at)
+
+pub partition-at-spec : {M : Type 1} → statement M
+partition-at-spec =
+    tie.close
+    (tie.spec
+    value-at-requires
+    entry-table-requires
+    read-partition-requires
+    first-requires
+    returns)

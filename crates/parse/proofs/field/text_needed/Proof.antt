@@ -1,0 +1,34 @@
+use borrow.Author.Needs.{needs}
+use Rattle.parse.proofs.Fielding.{text-needs}
+use Rattle.parse.proofs.field.text_needed.Statement.{statement}
+use Rattle.parse.proofs.field.text_needed.Tie as tie
+use Rattle.parse.proofs.field.text_needed.Reads as reads
+use Rattle.parse.proofs.field.text_needed.Lts as lts
+use Rattle.parse.proofs.field.first.Reads as first-reads
+use Rattle.parse.proofs.field.missing.Reads as missing-reads
+use Rattle.parse.proofs.field.text_of.Reads as text-of-reads
+use Rattle.tree.proofs.field.Reads as field-reads
+
+-- src/field.rt:203:9
+field-requires : tie.Need-field-requires
+field-requires c κs = search needs
+
+-- src/field.rt:204:9
+text-of-requires : tie.Need-text-of-requires
+text-of-requires c κs = search needs
+
+-- src/field.rt:207:31
+missing-requires : tie.Need-missing-requires
+missing-requires c κs = search needs
+
+-- src/field.rt:207:16
+first-requires : tie.Need-first-requires
+first-requires c κs = search needs
+
+-- src/field.rt:199:1
+returns : tie.Need-returns
+returns c = search (needs, text-needs)
+
+pub text-needed-spec : {M : Type 1} → statement M
+text-needed-spec =
+    tie.close (tie.spec field-requires text-of-requires missing-requires first-requires returns)

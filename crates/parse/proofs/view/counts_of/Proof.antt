@@ -1,0 +1,51 @@
+use Rattle.parse.proofs.Judging.{partitions-hold, components-hold, applications-hold, counts-are}
+use borrow.Author.Needs.{needs}
+use Rattle.parse.proofs.view.counts_of.Statement.{statement}
+use Rattle.parse.proofs.view.counts_of.Tie as tie
+use Rattle.parse.proofs.view.counts_of.Reads as reads
+use Rattle.parse.proofs.view.counts_of.Lts as lts
+use Rattle.parse.proofs.entry.count_keys.Reads as count-keys-reads
+use Rattle.parse.proofs.view.application_list.Reads as application-list-reads
+use Rattle.parse.proofs.view.component_list.Reads as component-list-reads
+use Rattle.parse.proofs.view.partition_list.Reads as partition-list-reads
+use Rattle.tree.proofs.count.Reads as count-reads
+
+-- src/view.rt:162:9
+partition-list-requires : tie.Need-partition-list-requires
+partition-list-requires c κs = search needs
+
+-- src/view.rt:163:9
+component-list-requires : tie.Need-component-list-requires
+component-list-requires c κs = search needs
+
+-- src/view.rt:164:9
+application-list-requires : tie.Need-application-list-requires
+application-list-requires c κs = search needs
+
+-- src/view.rt:166:21
+count-requires : tie.Need-count-requires
+count-requires c κs = search (needs, partitions-hold)
+
+-- src/view.rt:167:21
+count-requires-2 : tie.Need-count-requires-2
+count-requires-2 c κs = search (needs, components-hold)
+
+-- src/view.rt:168:23
+count-keys-requires : tie.Need-count-keys-requires
+count-keys-requires c κs = search (needs, applications-hold)
+
+-- src/view.rt:158:1
+returns : tie.Need-returns
+returns c = search (needs, counts-are)
+
+pub counts-of-spec : {M : Type 1} → statement M
+counts-of-spec =
+    tie.close
+    (tie.spec
+    partition-list-requires
+    component-list-requires
+    application-list-requires
+    count-requires
+    count-requires-2
+    count-keys-requires
+    returns)

@@ -1,0 +1,174 @@
+// From tree to records: the fields of a preset in 01's order, and `read`.
+
+pub mod application;
+pub mod component;
+pub mod entry;
+pub mod field;
+pub mod file;
+pub mod front;
+pub mod view;
+
+use document::Read;
+use meaning::Limits;
+use schema::Text;
+use schema::Word;
+ghost use mathlib.Core.Path.{_≡_};
+ghost use Prim.Native.Nat.{_≤_};
+ghost use lib.ListN.{length};
+ghost use Rattle.tree.specs.Doors.{Rooms};
+ghost use Rattle.parse.specs.Verdict as verdicts;
+ghost use Rattle.parse.specs.Verdict.{Judging, Kept, Parsed};
+ghost use Rattle.parse.specs.Refused as refused;
+ghost use Rattle.parse.specs.Refusals as refusals;
+
+// A refusal's number, 0 for none, its section and its place.
+pub struct Refusal {
+    pub number: u32,
+    pub section: u32,
+    pub place: usize,
+}
+
+pub fn told(section: u32, number: u32, place: usize) -> Refusal
+    ensures { λ r. ⌜ r ≡ refusals.refusal number section place ⌝ }
+{
+    Refusal {
+        number: number,
+        section: section,
+        place: place,
+    }
+}
+
+// A fault outside an entry.
+pub fn in_section(section: u32, number: u32) -> Refusal
+    ensures { λ r. ⌜ r ≡ refusals.inSection section number ⌝ }
+{
+    Refusal {
+        number: number,
+        section: section,
+        place: 0,
+    }
+}
+
+// The first of two.
+pub fn earlier(a: Refusal, b: Refusal) -> Refusal
+    ensures { λ r. ⌜ r ≡ refusals.earlier a b ⌝ }
+{
+    if a.number == 0 {
+        return b;
+    }
+    a
+}
+
+// "One that is not UTF-8 counts as `board`."
+pub fn lent_name(name: &[u8]) -> Text
+    ensures { λ r. ⌜ r ≡ refused.lentText (now (name .entry)) ⌝ }
+{
+    if chars::valid(name) {
+        return Text::Lent;
+    }
+    Text::Fixed(Word::Board)
+}
+
+fn check_front(tree: &[u8], store: &[u8], made: usize, name: &[u8]) -> Refusal
+    requires { ⌜ Rooms (now tree) made ⌝ }
+    ensures { λ r. ⌜ r ≡ verdicts.frontFault (now (tree .entry)) (now (store .entry)) made (now (name .entry)) ⌝ }
+{
+    let root = tree::fields_at(tree, made, 1);
+    let f = front::read_front(tree, store, made, root, lent_name(name));
+    f.fault
+}
+
+fn check_partitions(tree: &[u8], store: &[u8], made: usize, limits: Limits) -> Refusal
+    requires { ⌜ Judging (now tree) made limits ⌝ }
+    ensures { λ r. ⌜ r ≡ verdicts.partitionFault (now (tree .entry)) (now (store .entry)) made limits ⌝ }
+{
+    let l = view::partition_list(tree, store, made);
+    let r = entry::read_partitions(tree, store, made, l, limits.partitions);
+    earlier(in_section(3, l.fault), r.fault)
+}
+
+fn check_components(tree: &[u8], store: &[u8], made: usize, limits: Limits) -> Refusal
+    requires { ⌜ Judging (now tree) made limits ⌝ }
+    ensures { λ r. ⌜ r ≡ verdicts.componentFault (now (tree .entry)) (now (store .entry)) made limits ⌝ }
+{
+    let l = view::component_list(tree, store, made);
+    let r = entry::check_components(tree, store, made, l, limits.components, limits.features);
+    earlier(in_section(4, l.fault), r)
+}
+
+fn check_applications(tree: &[u8], store: &[u8], made: usize, limits: Limits) -> Refusal
+    requires { ⌜ Judging (now tree) made limits ⌝ }
+    ensures { λ r. ⌜ r ≡ verdicts.applicationFault (now (tree .entry)) (now (store .entry)) made limits ⌝ }
+{
+    let l = view::application_list(tree, store, made);
+    let r = entry::check_applications(tree, store, made, l, limits.applications, limits.features);
+    earlier(in_section(5, l.fault), r)
+}
+
+// The first refusal of the records, in 01's order.
+fn check(tree: &[u8], store: &[u8], made: usize, name: &[u8], limits: Limits) -> Refusal
+    requires { ⌜ Judging (now tree) made limits ⌝ }
+    ensures { λ r. ⌜ r ≡ verdicts.verdict (now (tree .entry)) (now (store .entry)) made (now (name .entry)) limits ⌝ }
+{
+    let a = check_front(tree, store, made, name);
+    if a.number != 0 {
+        return a;
+    }
+    let b = check_partitions(tree, store, made, limits);
+    if b.number != 0 {
+        return b;
+    }
+    let c = check_components(tree, store, made, limits);
+    if c.number != 0 {
+        return c;
+    }
+    check_applications(tree, store, made, limits)
+}
+
+// What reading a preset comes to: number 0 and the count of values made; or 01's number, section and place.
+pub struct Outcome {
+    pub number: u32,
+    pub section: u32,
+    pub place: usize,
+    pub made: usize,
+}
+
+// The records of a tree that was read; a refusal leaves both rooms all zero.
+fn keep(name: &[u8], store: &mut [u8], tree: &mut [u8], made: usize) -> Outcome
+    requires { ⌜ Rooms (now tree) made ⌝ }
+    ensures { λ r. ⌜ Kept (now (name .entry)) (now (store .entry)) (now (tree .entry)) made (now (store .exit)) (now (tree .exit)) r ⌝ }
+{
+    let r = check(tree, store, made, name, meaning::of01());
+    if r.number == 0 {
+        return Outcome {
+            number: 0,
+            section: 0,
+            place: 0,
+            made: made,
+        };
+    }
+    slices::zero(store);
+    slices::zero(tree);
+    Outcome {
+        number: r.number,
+        section: r.section,
+        place: r.place,
+        made: 0,
+    }
+}
+
+// Reads a preset into the two rooms: the text's tree, then its records. A refusal leaves both rooms all zero.
+pub fn read(text: &[u8], name: &[u8], store: &mut [u8], tree: &mut [u8]) -> Outcome
+    ensures { λ r. ⌜ Parsed (now (text .entry)) (now (name .entry)) (now (store .entry)) (now (tree .entry)) (now (store .exit)) (now (tree .exit)) r ⌝ }
+{
+    let r = document::read_tree(text, store, tree);
+    match r {
+        Read::Fine(st) => keep(name, store, tree, st.made),
+        Read::Fault { number, line } => Outcome {
+            number: number,
+            section: 0,
+            place: line,
+            made: 0,
+        },
+    }
+}

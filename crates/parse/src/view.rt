@@ -1,0 +1,222 @@
+// A record by its entry number, read from the rooms when it is wanted.
+
+use crate::entry::List;
+use schema::Application;
+use schema::Chip;
+use schema::Component;
+use schema::Media;
+use schema::Partition;
+use schema::Text;
+use tree::Found;
+ghost use mathlib.Core.Path.{_≡_};
+ghost use Prim.Native.Nat.{_≤_};
+ghost use Rattle.tree.specs.Doors.{Rooms, Stood};
+ghost use Rattle.parse.specs.Views as views;
+
+pub enum PartitionFound {
+    Nothing,
+    At(Partition),
+}
+
+pub enum ComponentFound {
+    Nothing,
+    At(Component),
+}
+
+pub enum ApplicationFound {
+    Nothing,
+    At(Application),
+}
+
+// Where the three lists stand.
+pub fn partition_list(tree: &[u8], store: &[u8], made: usize) -> List
+    requires { ⌜ Rooms (now tree) made ⌝ }
+    ensures { λ r. ⌜ r ≡ views.partitionList (now (tree .entry)) (now (store .entry)) made ⌝ }
+{
+    let root = tree::fields_at(tree, made, 1);
+    crate::entry::list_at(tree, store, made, root, b"partition", b"partitions")
+}
+
+pub fn component_list(tree: &[u8], store: &[u8], made: usize) -> List
+    requires { ⌜ Rooms (now tree) made ⌝ }
+    ensures { λ r. ⌜ r ≡ views.componentList (now (tree .entry)) (now (store .entry)) made ⌝ }
+{
+    let root = tree::fields_at(tree, made, 1);
+    crate::entry::list_at(tree, store, made, root, b"component", b"components")
+}
+
+pub fn application_list(tree: &[u8], store: &[u8], made: usize) -> List
+    requires { ⌜ Rooms (now tree) made ⌝ }
+    ensures { λ r. ⌜ r ≡ views.applicationList (now (tree .entry)) (now (store .entry)) made ⌝ }
+{
+    let root = tree::fields_at(tree, made, 1);
+    crate::entry::keys_at(tree, store, made, root)
+}
+
+// A record without fault.
+fn good_partition(tree: &[u8], store: &[u8], made: usize, n: usize) -> PartitionFound
+    requires { ⌜ Rooms (now tree) made × Stood (now tree) n ⌝ }
+    ensures { λ r. ⌜ r ≡ views.goodPartition (now (tree .entry)) (now (store .entry)) made n ⌝ }
+{
+    let r = crate::entry::partition_at(tree, store, made, n);
+    if r.fault == 0 {
+        let it = r.partition;
+        return PartitionFound::At(it);
+    }
+    PartitionFound::Nothing
+}
+
+fn good_component(tree: &[u8], store: &[u8], made: usize, n: usize, limit: usize) -> ComponentFound
+    requires { ⌜ Rooms (now tree) made × Stood (now tree) n ⌝ }
+    ensures { λ r. ⌜ r ≡ views.goodComponent (now (tree .entry)) (now (store .entry)) made n limit ⌝ }
+{
+    let r = crate::entry::component_at(tree, store, made, n, limit);
+    if r.fault == 0 {
+        let it = r.component;
+        return ComponentFound::At(it);
+    }
+    ComponentFound::Nothing
+}
+
+fn good_application(
+    tree: &[u8],
+    store: &[u8],
+    made: usize,
+    n: usize,
+    limit: usize,
+) -> ApplicationFound
+    requires { ⌜ Rooms (now tree) made × Stood (now tree) n ⌝ }
+    ensures { λ r. ⌜ r ≡ views.goodApplication (now (tree .entry)) (now (store .entry)) made n limit ⌝ }
+{
+    let r = crate::entry::application_at(tree, store, made, n, limit);
+    if r.fault == 0 {
+        let it = r.application;
+        return ApplicationFound::At(it);
+    }
+    ApplicationFound::Nothing
+}
+
+pub fn partition(tree: &[u8], store: &[u8], made: usize, i: usize) -> PartitionFound
+    requires { ⌜ Rooms (now tree) made ⌝ }
+    ensures { λ r. ⌜ r ≡ views.partition (now (tree .entry)) (now (store .entry)) made i ⌝ }
+{
+    let l = partition_list(tree, store, made);
+    let found = tree::nth(tree, l.end, l.place, i);
+    match found {
+        Found::At(n) => good_partition(tree, store, made, n),
+        Found::Nothing => PartitionFound::Nothing,
+    }
+}
+
+pub fn component(tree: &[u8], store: &[u8], made: usize, i: usize, limit: usize) -> ComponentFound
+    requires { ⌜ Rooms (now tree) made ⌝ }
+    ensures { λ r. ⌜ r ≡ views.component (now (tree .entry)) (now (store .entry)) made i limit ⌝ }
+{
+    let l = component_list(tree, store, made);
+    let found = tree::nth(tree, l.end, l.place, i);
+    match found {
+        Found::At(n) => good_component(tree, store, made, n, limit),
+        Found::Nothing => ComponentFound::Nothing,
+    }
+}
+
+pub fn application(
+    tree: &[u8],
+    store: &[u8],
+    made: usize,
+    i: usize,
+    limit: usize,
+) -> ApplicationFound
+    requires { ⌜ Rooms (now tree) made ⌝ }
+    ensures { λ r. ⌜ r ≡ views.application (now (tree .entry)) (now (store .entry)) made i limit ⌝ }
+{
+    let l = application_list(tree, store, made);
+    let found = crate::entry::nth_key(tree, store, l, i);
+    match found {
+        Found::At(n) => good_application(tree, store, made, n, limit),
+        Found::Nothing => ApplicationFound::Nothing,
+    }
+}
+
+// Whether the room has so many values, and not more than reading ever makes.
+pub fn sound(tree: &[u8], made: usize) -> bool
+    ensures { λ r. ⌜ r ≡ views.sound (now (tree .entry)) made ⌝ }
+{
+    if tree::capacity(tree) < made {
+        return false;
+    }
+    if 65000 < made {
+        return false;
+    }
+    true
+}
+
+// How many entries the lists have; of applications no more than 65 are counted.
+pub struct Counts {
+    pub partitions: usize,
+    pub components: usize,
+    pub applications: usize,
+}
+
+fn counts_of(tree: &[u8], store: &[u8], made: usize) -> Counts
+    requires { ⌜ Rooms (now tree) made ⌝ }
+    ensures { λ r. ⌜ r ≡ views.countsOf (now (tree .entry)) (now (store .entry)) made ⌝ }
+{
+    let p = partition_list(tree, store, made);
+    let c = component_list(tree, store, made);
+    let a = application_list(tree, store, made);
+    Counts {
+        partitions: tree::count(tree, p.end, p.place),
+        components: tree::count(tree, c.end, c.place),
+        applications: crate::entry::count_keys(tree, store, a, 64),
+    }
+}
+
+// The same of any rooms: nothing where they are not sound.
+pub fn counts_at(tree: &[u8], store: &[u8], made: usize) -> Counts
+    ensures { λ r. ⌜ r ≡ views.countsAt (now (tree .entry)) (now (store .entry)) made ⌝ }
+{
+    if sound(tree, made) {
+        return counts_of(tree, store, made);
+    }
+    Counts {
+        partitions: 0,
+        components: 0,
+        applications: 0,
+    }
+}
+
+// What a preset is for.
+pub struct Device {
+    pub chip: Chip,
+    pub media: Media,
+}
+
+fn device_of(tree: &[u8], store: &[u8], made: usize) -> Device
+    requires { ⌜ Rooms (now tree) made ⌝ }
+    ensures { λ r. ⌜ r ≡ views.deviceOf (now (tree .entry)) (now (store .entry)) made ⌝ }
+{
+    let root = tree::fields_at(tree, made, 1);
+    let f = crate::front::read_front(tree, store, made, root, Text::Lent);
+    let b = f.board;
+    let i = f.image;
+    let chip = b.chip;
+    let media = i.media;
+    Device {
+        chip: chip,
+        media: media,
+    }
+}
+
+// The same of any rooms: the first chip and its media where they are not sound.
+pub fn device_at(tree: &[u8], store: &[u8], made: usize) -> Device
+    ensures { λ r. ⌜ r ≡ views.deviceAt (now (tree .entry)) (now (store .entry)) made ⌝ }
+{
+    if sound(tree, made) {
+        return device_of(tree, store, made);
+    }
+    Device {
+        chip: Chip::D13x,
+        media: Media::SpiNor,
+    }
+}

@@ -1,0 +1,34 @@
+use Rattle.laws.specs.Tests.{calls}
+use Rattle.schema.specs.Words.{mediaRead}
+use borrow.Author.Needs.{needs}
+use Rattle.schema.proofs.Media.parse.Statement.{statement}
+use Rattle.schema.proofs.Media.parse.Tie as tie
+use Rattle.schema.proofs.Media.parse.Reads as reads
+use Rattle.schema.proofs.Media.parse.Lts as lts
+use Rattle.schema.proofs.Word.is.Reads as is-reads
+
+-- src/lib.rt:328:12
+is-requires : tie.Need-is-requires
+is-requires c κs = search needs
+
+-- src/lib.rt:329:13
+returns : tie.Need-returns
+unfolding mediaRead
+returns c = search calls
+
+-- src/lib.rt:334:12
+is-requires-2 : tie.Need-is-requires-2
+is-requires-2 c κs = search needs
+
+-- src/lib.rt:335:13
+returns-2 : tie.Need-returns-2
+unfolding mediaRead
+returns-2 c = search calls
+
+-- src/lib.rt:325:5
+returns-3 : tie.Need-returns-3
+unfolding mediaRead
+returns-3 c = search calls
+
+pub parse-spec : {M : Type 1} → statement M
+parse-spec = tie.close (tie.spec is-requires returns is-requires-2 returns-2 returns-3)

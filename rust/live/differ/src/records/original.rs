@@ -1,0 +1,193 @@
+//! The original's answer to a preset: its records, or what its message says.
+use crate::document::original::number;
+use oracle::preset as theirs;
+use port::preset::{
+    AppSpec, BoardInfo, Chip, ComponentKind, ComponentSpec, ImageInfo, Media, PartitionSpec, Preset,
+};
+use std::ffi::OsString;
+use std::os::unix::ffi::OsStringExt;
+use std::path::PathBuf;
+
+/// The number of a message, and the section and the entry where it names them.
+#[derive(Clone, Copy, Debug, PartialEq, Eq)]
+pub struct Told {
+    pub number: u32,
+    pub entry: Option<(u32, usize)>,
+}
+
+/// The board is named like the file; a name that no file has is put in afterwards.
+pub fn read(text: &str, name: &[u8]) -> Result<Preset, Told> {
+    let fits = !name.is_empty() && !name.contains(&b'/');
+    let stem = if fits { name } else { MARK };
+    let path = PathBuf::from(OsString::from_vec([stem, b".toml"].concat()));
+    let read = theirs::Preset::parse(text, &path);
+    let mut preset = read.map(preset).map_err(|e| told(&e.to_string()))?;
+    if !fits && preset.board.name == MARK {
+        let lent = std::str::from_utf8(name).unwrap_or("board");
+        preset.board.name = lent.into();
+    }
+    Ok(preset)
+}
+
+// No preset of the tests has this name.
+const MARK: &[u8] = b"\x01lent\x01";
+
+// Fields have fixed names; names of partitions and packages are arbitrary text.
+fn told(message: &str) -> Told {
+    let plain = |number| Told {
+        number,
+        entry: None,
+    };
+    if let Some(error) = message.strip_prefix("TOML parse error: ") {
+        return plain(number(error));
+    }
+    for (section, start) in [(3, "partition #"), (4, "component #")] {
+        if let Some(rest) = message.strip_prefix(start) {
+            return entry(section, rest);
+        }
+    }
+    let missing = ["` is missing `offset`", "` is missing `size`"];
+    if message.starts_with("partition `") && missing.iter().any(|end| message.ends_with(end)) {
+        return plain(24);
+    }
+    if message.starts_with("[apps.") && message.ends_with("] is not a table") {
+        return plain(23);
+    }
+    plain(field(message))
+}
+
+// An entry's number and what is wrong with it.
+fn entry(section: u32, message: &str) -> Told {
+    let (place, wrong) = message.split_once(' ').expect("an entry's number");
+    let number = match wrong {
+        "is not a table" => 23,
+        "is missing `name`" => 24,
+        _ => panic!("unknown message about an entry: {wrong}"),
+    };
+    let place = place.parse().expect("an entry's number");
+    Told {
+        number,
+        entry: Some((section, place)),
+    }
+}
+
+const WORDS: [&str; 3] = [
+    "unsupported chip \"",
+    "unsupported flash media \"",
+    "unknown component kind \"",
+];
+
+fn field(message: &str) -> u32 {
+    if WORDS.iter().any(|start| message.starts_with(start)) {
+        return 22;
+    }
+    match message.split('`').nth(2) {
+        Some(wrong) if wrong.starts_with(" must ") => 20,
+        Some(wrong) if wrong.starts_with(" is out of range: ") => 21,
+        _ => panic!("unknown message: {message}"),
+    }
+}
+
+fn preset(p: theirs::Preset) -> Preset {
+    Preset {
+        board: board(p.board),
+        image: image(p.image),
+        partitions: p.partitions.into_iter().map(partition).collect(),
+        components: p.components.into_iter().map(component).collect(),
+        apps: p.apps.into_iter().map(application).collect(),
+    }
+}
+
+fn board(b: theirs::BoardInfo) -> BoardInfo {
+    BoardInfo {
+        name: b.name.into(),
+        chip: match b.chip {
+            theirs::Chip::D13x => Chip::D13x,
+            theirs::Chip::D21x => Chip::D21x,
+        },
+        target: b.target.into(),
+        profile: b.profile.into(),
+    }
+}
+
+fn image(i: theirs::ImageInfo) -> ImageInfo {
+    ImageInfo {
+        platform: i.platform.into(),
+        product: i.product.into(),
+        version: i.version.into(),
+        media: match i.media {
+            theirs::Media::SpiNor => Media::SpiNor,
+            theirs::Media::SpiNand => Media::SpiNand,
+        },
+        media_dev_id: i.media_dev_id,
+        media_id: i.media_id.into(),
+        boot_app: i.boot_app.into(),
+    }
+}
+
+fn partition(p: theirs::PartitionSpec) -> PartitionSpec {
+    PartitionSpec {
+        name: p.name.into(),
+        offset: p.offset,
+        size: p.size,
+    }
+}
+
+fn text(s: Option<String>) -> Option<Vec<u8>> {
+    s.map(String::into_bytes)
+}
+
+fn path(p: Option<PathBuf>) -> Option<Vec<u8>> {
+    p.map(|p| p.into_os_string().into_vec())
+}
+
+fn texts(all: Vec<String>) -> Vec<Vec<u8>> {
+    all.into_iter().map(String::into_bytes).collect()
+}
+
+fn component(c: theirs::ComponentSpec) -> ComponentSpec {
+    ComponentSpec {
+        kind: match c.kind {
+            theirs::ComponentKind::App => ComponentKind::App,
+            theirs::ComponentKind::Pbp => ComponentKind::Pbp,
+            theirs::ComponentKind::Raw => ComponentKind::Raw,
+        },
+        name: c.name.into(),
+        package: text(c.package),
+        bin: text(c.bin),
+        file: path(c.file),
+        filename: c.filename.into(),
+        features: texts(c.features),
+        pbp_features: texts(c.pbp_features),
+        partition: c.partition.into(),
+        attr: c.attr.into(),
+        target_attr: text(c.target_attr),
+        target_filename: text(c.target_filename),
+        updater: c.updater,
+        ram: c.ram,
+        pbp: path(c.pbp),
+        pbp_package: text(c.pbp_package),
+        private: path(c.private),
+        load_address: c.load_address,
+        entry_point: c.entry_point,
+        entry_offset: c.entry_offset,
+        header_version: c.header_version,
+        with_ext: c.with_ext,
+        ext_reserve: u32::try_from(c.ext_reserve).expect("read as 32 bits"),
+    }
+}
+
+// Its key in the map is its package.
+fn application((key, a): (String, theirs::AppSpec)) -> AppSpec {
+    assert_eq!(key, a.package);
+    AppSpec {
+        package: a.package.into(),
+        name: a.name.into(),
+        partition: a.partition.into(),
+        filename: a.filename.into(),
+        attr: a.attr.into(),
+        features: texts(a.features),
+        load_address: a.load_address,
+        entry_offset: a.entry_offset,
+    }
+}

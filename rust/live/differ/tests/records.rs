@@ -1,0 +1,115 @@
+//! Presets on all sides: the port, the definitions and the original.
+use differ::record::RECORDS;
+use differ::records::compare::{Judge, answer};
+use replay::document::vector;
+use replay::random::Rng;
+use replay::records::draft::Draft;
+use replay::records::edits::{edited, edits, faults, paired};
+use replay::records::random::{NAMES, name, text};
+
+#[test]
+fn every_field_in_every_spelling() {
+    let mut judge = Judge::default();
+    for base in [Draft::bare(), Draft::full()] {
+        for edit in edits() {
+            judge.check(edited(&base, &edit).as_bytes());
+        }
+    }
+    println!("{}", judge.summary());
+    assert_eq!(judge.seldom(10), None, "{}", judge.summary());
+}
+
+// Which of two faults is told goes by the order of reading, whatever stands first.
+#[test]
+fn faults_in_pairs() {
+    let (mut judge, faults) = (Judge::default(), faults());
+    for base in [Draft::bare(), Draft::full()] {
+        for first in &faults {
+            for second in &faults {
+                judge.check(paired(&base, first, second).as_bytes());
+            }
+        }
+    }
+    println!("{}", judge.summary());
+    assert_eq!(judge.seldom(LEAST), None, "{}", judge.summary());
+}
+
+#[test]
+fn corners_and_limits() {
+    let mut judge = Judge::default();
+    for (i, text) in RECORDS.texts().enumerate() {
+        judge.name = NAMES[i % NAMES.len()].to_vec();
+        judge.check(&vector::joined(&text));
+    }
+    assert_eq!(judge.seldom(1), None, "{}", judge.summary());
+}
+
+// Every path up to seven characters, 64 components to a preset.
+#[test]
+fn file_names() {
+    let mut paths = vec![String::new()];
+    for i in 0.. {
+        if paths[i].len() == 7 {
+            break;
+        }
+        let longer = ["/", ".", "a"].map(|c| paths[i].clone() + c);
+        paths.extend(longer);
+    }
+    assert_eq!(paths.len(), 3_280);
+    let mut judge = Judge::default();
+    for some in paths.chunks(64) {
+        let one = |path| format!("[[component]]\nname = \"c\"\nfile = \"{path}\"\n");
+        judge.check(some.iter().map(one).collect::<String>().as_bytes());
+    }
+    assert_eq!(judge.met[0], 3_280usize.div_ceil(64));
+}
+
+#[test]
+fn lent_names() {
+    let long = vec![b'n'; 4_000];
+    let broken = [&long[..], b"\xE2"].concat();
+    let mut judge = Judge::default();
+    for name in NAMES.into_iter().chain([&long[..], &broken]) {
+        judge.name = name.to_vec();
+        for text in [
+            "",
+            "[board]",
+            "[board]\nname = \"own\"",
+            "[board]\nname = 1",
+        ] {
+            judge.check(text.as_bytes());
+        }
+    }
+}
+
+const SEED: u64 = 20_240_917;
+const COUNT: usize = 100_000;
+const LEAST: usize = 100;
+
+#[test]
+fn random_presets() {
+    let (mut r, mut judge) = (Rng::new(SEED), Judge::default());
+    for _ in 0..COUNT {
+        judge.name = name(&mut r);
+        judge.check(&text(&mut r));
+    }
+    println!("{}", judge.summary());
+    assert_eq!(
+        judge.seldom(LEAST),
+        None,
+        "met too seldom: {}",
+        judge.summary()
+    );
+}
+
+// The second derivation alone, on other presets than above.
+#[test]
+fn definitions_against_the_original() {
+    let mut r = Rng::new(SEED + 1);
+    for _ in 0..COUNT / 10 {
+        let (name, text) = (name(&mut r), text(&mut r));
+        let read = answer(&text, &name);
+        read.map_err(|e| panic!("{}: {e}", text.escape_ascii()))
+            .ok();
+    }
+}

@@ -1,0 +1,9 @@
+//! The same for records.
+pub mod answer;
+pub mod ask;
+pub mod draft;
+pub mod edits;
+pub mod model;
+pub mod random;
+pub mod spelling;
+pub mod vector;

@@ -1,0 +1,183 @@
+//! The port's answer to a preset, with the rooms it was lent looked through.
+use super::answer::{Preset, Read, Refusal, outcome};
+use super::vector::rows;
+use crate::document::ask::held;
+use crate::document::rooms::{EXACT, Fenced, LONG, Rooms, SHORT, TEXT_ROOM};
+use port::document;
+use port::preset::{View, rebuild, seen};
+use port::records::{self, FeatureList};
+use port::value::{STORE_MIN, TREE_MIN};
+
+/// The records, or the refusal's number.
+pub type Heard = Result<Preset, u32>;
+
+/// Every sort of rooms, made once; each reading finds noise in them.
+pub struct Host {
+    text: Fenced,
+    name: Fenced,
+    rooms: [Rooms; 4],
+    turn: u64,
+}
+
+// Names are lent up to this length.
+const NAME_ROOM: usize = 70_000;
+// One reading in so many begins one in all rooms.
+const SELDOM: u64 = 32;
+
+impl Default for Host {
+    fn default() -> Self {
+        Host {
+            text: Fenced::new(TEXT_ROOM),
+            name: Fenced::new(NAME_ROOM),
+            rooms: Rooms::all(),
+            turn: 0,
+        }
+    }
+}
+
+impl Host {
+    /// Reads a preset in rooms as small as can be, now and then one in all sorts of rooms, and
+    /// holds number, section, place, count, store, tree and records against `want`.
+    pub fn judge(&mut self, text: &[u8], name: &[u8], want: &Read) -> Result<Heard, String> {
+        match self.turn % SELDOM {
+            0 => self.judge_fully(text, name, want),
+            _ => self.read(text, name, want, EXACT),
+        }
+    }
+
+    /// The same in all sorts of rooms, twice in one of them, and beside the reader of trees.
+    pub fn judge_fully(&mut self, text: &[u8], name: &[u8], want: &Read) -> Result<Heard, String> {
+        let seventeen = Err(Refusal {
+            number: 17,
+            section: 0,
+            place: 0,
+        });
+        let others = [
+            ("in longer rooms", want, LONG),
+            ("in too short a store", &seventeen, SHORT[0]),
+            ("in too short a tree room", &seventeen, SHORT[1]),
+            ("the second time", want, EXACT),
+        ];
+        let heard = self.read(text, name, want, EXACT)?;
+        for (when, want, rooms) in others {
+            let told = self.read(text, name, want, rooms);
+            told.map_err(|e| format!("{when}: {e}"))?.ok();
+        }
+        self.beside_trees(text, name, want)?;
+        Ok(heard)
+    }
+
+    fn read(&mut self, text: &[u8], name: &[u8], want: &Read, n: usize) -> Result<Heard, String> {
+        self.turn += 1;
+        let text = self.text.ending(&text[..text.len().min(TEXT_ROOM)]);
+        let name = self.name.ending(&name[..name.len().min(NAME_ROOM)]);
+        let rooms = &mut self.rooms[n];
+        let asked = |store: &mut [u8], tree: &mut [u8]| records::read(text, name, store, tree);
+        let got = rooms.reading(self.turn, asked)?;
+        if got != outcome(want) {
+            return Err(format!("{got:?} against {:?}", outcome(want)));
+        }
+        let (store, tree) = (&*rooms.store.bytes(), &*rooms.tree.bytes());
+        let want = want.as_ref();
+        held(store, tree, want.ok().map(|answer| &answer.text))?;
+        let Ok(want) = want else {
+            return Ok(Err(got.number));
+        };
+        let made = got.made as usize;
+        let preset = rebuild(records::Rooms { tree, store, made }, name)?;
+        match difference(&preset, &want.preset) {
+            None => Ok(Ok(preset)),
+            Some(difference) => Err(difference),
+        }
+    }
+
+    // The rooms as small as can be were read last. What they hold, the reader of trees leaves too;
+    // where the records alone are refused, it leaves the tree, and views show what they can.
+    fn beside_trees(&mut self, text: &[u8], name: &[u8], want: &Read) -> Result<(), String> {
+        self.turn += 1;
+        let text = self.text.ending(&text[..text.len().min(TEXT_ROOM)]);
+        let [exact, long, ..] = &mut self.rooms;
+        let got = long.reading(self.turn, |store, tree| document::read(text, store, tree))?;
+        let (store, tree) = (&*long.store.bytes(), &*long.tree.bytes());
+        let made = got.made as usize;
+        look(records::Rooms { tree, store, made }, name)?;
+        if want.as_ref().is_err_and(|refusal| refusal.number >= 20) {
+            return match got.number {
+                0 => Ok(()),
+                _ => Err(format!("the reader of trees: {got:?}")),
+            };
+        }
+        let same =
+            *exact.store.bytes() == store[..STORE_MIN] && *exact.tree.bytes() == tree[..TREE_MIN];
+        match got == outcome(want) && same {
+            true => Ok(()),
+            false => Err(format!("the reader of trees, {got:?}, leaves other rooms")),
+        }
+    }
+}
+
+/// The first record in which two presets differ, or nothing.
+pub fn difference(got: &Preset, want: &Preset) -> Option<String> {
+    if got == want {
+        return None;
+    }
+    let (got, want) = (rows(got), rows(want));
+    let differing = got.iter().zip(&want).find(|(a, b)| a != b);
+    Some(match differing {
+        Some((got, want)) => format!("{got} against {want}"),
+        None => format!("{} records against {}", got.len(), want.len()),
+    })
+}
+
+/// Looks through every view of any rooms: what is not found is zero, all views of a component are
+/// there or none, and lists of features end.
+pub fn look(rooms: records::Rooms, name: &[u8]) -> Result<(), String> {
+    let counts = rooms.counts();
+    seen(rooms.board(name))?;
+    seen(rooms.image())?;
+    for i in few(counts.partitions) {
+        seen(rooms.partition(i))?;
+    }
+    for i in few(counts.components) {
+        let found = [
+            there(rooms.head(i))?,
+            there(rooms.role(i))?,
+            there(rooms.boot(i))?,
+            there(rooms.load(i))?,
+        ];
+        if found.iter().any(|f| *f != found[0]) {
+            return Err(format!("only some views of component {i} are there"));
+        }
+        let role = rooms.role(i);
+        walk(rooms, role.features)?;
+        walk(rooms, role.pbp_features)?;
+    }
+    for i in few(counts.applications) {
+        seen(rooms.application(i))?;
+        walk(rooms, rooms.application(i).features)?;
+    }
+    Ok(())
+}
+
+fn there<V: View>(view: V) -> Result<bool, String> {
+    seen(view).map(|found| found.is_some())
+}
+
+// The first entries, some behind the last one, and one that no list has.
+fn few(count: usize) -> impl Iterator<Item = usize> {
+    (0..count.min(66) + 2).chain([usize::MAX])
+}
+
+// No feature list of a record has more items.
+const ITEMS_MAX: usize = 32;
+
+fn walk(rooms: records::Rooms, list: FeatureList) -> Result<(), String> {
+    let mut after = None;
+    for _ in 0..=ITEMS_MAX {
+        match seen(rooms.feature(list, after))? {
+            Some(item) => after = Some((item.from, item.len)),
+            None => return Ok(()),
+        }
+    }
+    Err(format!("{list:?} has more than {ITEMS_MAX} items"))
+}
