@@ -13,3 +13,4 @@ pub mod Fits
 pub mod Counted
 pub mod Order
 pub mod Once
+pub mod Accepted

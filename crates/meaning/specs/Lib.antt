@@ -18,6 +18,9 @@ pub mod Fields
 pub mod Features
 pub mod Files
 pub mod Records
+pub mod Verdict
+pub mod Layout
+pub mod Rules
 pub mod Preset
 pub mod Samples
 pub mod Table
@@ -27,3 +30,4 @@ pub mod CornersKeys
 pub mod CornersValues
 pub mod CornersDocument
 pub mod CornersRecords
+pub mod CornersRules

@@ -1,10 +1,11 @@
 -- 01, "Either side of the line": the table P, as far as the definitions go.
-use mathlib.Core.List.{[]}
+use Prim.Native.Nat.{ℕ}
+use mathlib.Core.List.{List, [], _∷_}
 use mathlib.Core.Path.{_≡_, refl}
 use lib.IntN.{pos, negsuc}
 use Rattle.meaning.specs.Base.{ascii}
 use Rattle.meaning.specs.Limits.{of01}
-use Rattle.meaning.specs.Refusal.{accepted, atLine, ok, bad}
+use Rattle.meaning.specs.Refusal.{accepted, refused, numbered, inPartition, atLine, ok, bad}
 use Rattle.meaning.specs.Integers.{integer}
 use Rattle.meaning.specs.Keys as keyed
 use Rattle.meaning.specs.Reading.{got}
@@ -12,6 +13,11 @@ use Rattle.meaning.specs.Tree.{int, array, table, none′, item, empty}
 use Rattle.meaning.specs.Values as valued
 use Rattle.meaning.specs.Document.{document, computes}
 use Rattle.meaning.specs.Samples.{_≔_⨾_}
+use Rattle.meaning.specs.Schema.{Partition, d13x}
+use Rattle.meaning.specs.Verdict.{fine}
+use Rattle.meaning.specs.Layout as laid
+use Rattle.meaning.specs.Layout.{layout}
+use Rattle.meaning.specs.Preset.{validate}
 
 -- P1 "`0x-5` is -5"
 pub p1 : integer (ascii "0x-5") ≡ ok (negsuc 4)
@@ -53,7 +59,26 @@ pub p8 : document of01 (ascii "[[a]]\n[a]") ≡ accepted (record { root = "a" �
 unfolding computes
 p8 = refl
 
+-- two partitions on NOR, the first of 0x1000 bytes at 0, the second as long
+abbrev twoAt : ℕ → List Partition
+twoAt offset = record { name = ascii "a"; offset = 0; size = 4096 } ∷ record { name = ascii "b"; offset = offset; size = 4096 } ∷ []
+
+-- P9 "on NOR, a second partition at 0xFFFFE000, size 0x1000, after one at 0 of that size, passes"
+pub p9 : layout d13x (twoAt 4294959104) ≡ fine
+unfolding laid.computes
+p9 = refl
+
+-- P10 "at 0xFFFFF000 it is 48"
+pub p10 : layout d13x (twoAt 4294963200) ≡ refused (numbered 48) inPartition 1
+unfolding laid.computes
+p10 = refl
+
 -- P11 "line `x`, then `]`, is 3 at line 2"
 pub p11 : document of01 (ascii "x\n]") ≡ atLine 3 2
 unfolding computes
 p11 = refl
+
+-- P12 "empty text is 40"
+pub p12 : validate of01 32 32768 65536 (ascii "board") [] ≡ refused (numbered 40) inPartition 0
+unfolding Rattle.meaning.specs.Preset.computes
+p12 = refl
