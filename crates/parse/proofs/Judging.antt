@@ -322,3 +322,14 @@ module _ (room store : Seq ℕ) (made n : ℕ) where
     pub application-wrong : (r : ApplicationRead) → r ≡ applicationAt room store made n limit → (r .fault ≡ 0 → ⊥) → apps.Nothing ≡ goodApplication room store made n limit
     unfolding goodApplication
     application-wrong r e z = rw (← e, ne-eqb (r .fault) 0 z)
+
+-- two results that meet the promise of reading are equal, answer and both rooms
+pub parsed-decides : (text name store tree store₁ tree₁ store₂ tree₂ : Seq ℕ) (r₁ r₂ : Outcome) → Parsed text name store tree store₁ tree₁ r₁ → Parsed text name store tree store₂ tree₂ r₂
+    → (r₁ ≡ r₂) × (store₁ ≡ store₂) × (tree₁ ≡ tree₂)
+parsed-decides text name store tree store₁ tree₁ store₂ tree₂ r₁ r₂ a b = go (rooms.judged text (length store) (length tree)) (a .by) (b .by)
+  where
+    go : (m : Answer Doc) → ReadBy m name (zeros (length store)) (zeros (length tree)) store₁ tree₁ r₁ → ReadBy m name (zeros (length store)) (zeros (length tree)) store₂ tree₂ r₂
+        → (r₁ ≡ r₂) × (store₁ ≡ store₂) × (tree₁ ≡ tree₂)
+    go (accepted d) h k =
+        (h .kept .says ∙ sym (k .kept .says), h .kept .store-is ∙ sym (k .kept .store-is), h .kept .tree-is ∙ sym (k .kept .tree-is))
+    go (refused f section line) h k = (h .0 ∙ sym (k .0), h .1 ∙ sym (k .1), h .2 ∙ sym (k .2))
