@@ -1,23 +1,18 @@
--- Eight bytes at once: where their bitwise or is below 128, so is each of them.
+-- Many bytes at once: where their bitwise or is below 128, so is each of them.
 use Prim.Native.Nat.{ℕ, zero, suc, _+_, _-_, _≤_, _<_}
 use mathlib.Core.Bool.{Bool, true}
 use mathlib.Core.List.{List}
-use mathlib.Core.Path.{_≡_}
+use mathlib.Core.Path.{_≡_, refl}
 use native.Mathlib.Omega.{arith}
 use native.Mathlib.Nat.{add-zero}
 use borrow.Author.Tests.{ltb-true, ltb-false}
-use lib.Bits.{bitOr, or-add-and, and-le-l, and-le-r}
+use lib.Bits.{bitOr}
 use lib.Dec.{ltb}
 use lib.ListN.{length, getD}
 use Rattle.laws.specs.Cases.{on}
-use Rattle.chars.specs.Under.{Under}
-use Rattle.chars.proofs.Spaces.{Checking, check-ascii}
-
-or-left : (a b : ℕ) → a ≤ bitOr a b
-or-left a b = omega (arith, or-add-and a b, and-le-r a b)
-
-or-right : (a b : ℕ) → b ≤ bitOr a b
-or-right a b = omega (arith, or-add-and a b, and-le-l a b)
+use Rattle.chars.specs.Under.{Under, or-left, or-right}
+use Rattle.meaning.specs.Utf8.{valid}
+use Rattle.chars.proofs.Spaces.{Checking, check-ascii, check-end}
 
 pub most-of : (s : List ℕ) (i : ℕ) → i + 4 ≤ length s
     → Under s i 4 (bitOr (bitOr (bitOr (getD s i 0) (getD s (i + 1) 0)) (getD s (i + 2) 0)) (getD s (i + 3) 0))
@@ -67,3 +62,28 @@ ascii-run s i (suc n) k u =
 
 pub check-eight : (s : List ℕ) (i : ℕ) (r : Bool) → Checking s i → (r ≡ true → Under s i 8 127) → r ≡ true → Checking s (i + 8)
 check-eight s i r k u t = ascii-run s i 8 k (u t)
+
+-- ---- all bytes
+module _ (s : List ℕ) where
+  pub under-none : Under s 0 0 0
+  under-none = record { fits = omega arith; all = λ k l. absurd (omega arith) }
+
+  module _ (i m : ℕ) (u : Under s 0 i m) where
+    pub under-on : i < length s → Under s 0 (i + 1) (bitOr m (getD s i 0))
+    under-on h = record { fits = omega arith; all = go }
+      where
+        go : (k : ℕ) → k < i + 1 → getD s (0 + k) 0 ≤ bitOr m (getD s i 0)
+        go k l =
+            on (ltb k i)
+            (λ t. omega (arith, u .all k (ltb-true k i t), or-left m (getD s i 0)))
+            (λ t.
+            let e : 0 + k ≡ i = omega (arith, ltb-false k i t) in
+            rw e (or-right m (getD s i 0)))
+
+    pub under-all : length s ≤ i → ltb m 128 ≡ true → Under s 0 (length s) 127
+    under-all h e = record { fits = omega arith; all = λ k l. omega (arith, u .all k (omega arith), ltb-true m 128 e) }
+
+  pub all-ascii : (r : Bool) → (r ≡ true → Under s 0 (length s) 127) → r ≡ true → true ≡ valid s
+  all-ascii r u t =
+      let c : Checking s 0 = record { high = omega arith; left = refl } in
+      check-end s (0 + length s) (ascii-run s 0 (length s) c (u t)) (omega arith)

@@ -1,3 +1,4 @@
 pub mod Widths
 pub mod Spaces
 pub mod Eights
+pub mod Ends

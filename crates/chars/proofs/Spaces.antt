@@ -19,7 +19,7 @@ use Rattle.laws.specs.Parts.{rest-of}
 use Rattle.laws.specs.Chars.{char-fits, char-most, spelled-chars, valid-more, valid-stop}
 use Rattle.laws.specs.Trim.{whiteAt, endsIn, whiteEnd, white-fits, end-fits, head-more, head-stop, end-more, end-stop, trim-both, blank-is}
 use Rattle.chars.specs.Ascii.{ascii-char, ascii-at, ascii-end}
-use Rattle.chars.specs.Trimmed.{Started, Ended, Trimmed}
+use Rattle.chars.specs.Trimmed.{Starting, Ending, Started, Ended, Trimmed}
 use Rattle.chars.specs.declared.Span.{Span}
 
 -- ---- White_Space in three groups
@@ -72,10 +72,6 @@ unfolding endsIn
 ends-short s k h = rw (lt-leb k (length s) h)
 
 -- ---- the loop from the head on
-pub record Starting (s : List ℕ) (i : ℕ) : Type 0 where
-  pub high : i ≤ length s
-  pub left : trimHead (chars 0 (drop i s)) ≡ trimHead (chars 0 s)
-
 module _ (s : List ℕ) (i : ℕ) where
   starting-done : Starting s i → trimHead (chars 0 (drop i s)) ≡ chars 0 (drop i s) → Started s i
   unfolding trimStart
@@ -115,10 +111,6 @@ module _ (s : List ℕ) (i : ℕ) where
   start-end k h = starting-done k (rw (drop-of-length-le s h))
 
 -- ---- the loop backwards from the end
-pub record Ending (s : List ℕ) (e : ℕ) : Type 0 where
-  pub high : e ≤ length s
-  pub left : trimTail (chars 0 (take e s)) ≡ trimTail (chars 0 s)
-
 pub prefix-count : (s : List ℕ) (e : ℕ) → e ≤ length s → e ≡ length (take e s)
 prefix-count s e h = sym (length-take-le e s h)
 

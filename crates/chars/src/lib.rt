@@ -10,7 +10,7 @@ ghost use Rattle.meaning.specs.Space as space;
 ghost use Rattle.laws.specs.Trim as bytes;
 ghost use Rattle.chars.specs.Rows as rows;
 ghost use Rattle.chars.specs.Under.{Under};
-ghost use Rattle.chars.specs.Trimmed.{Started, Ended, Trimmed};
+ghost use Rattle.chars.specs.Trimmed.{Starting, Ending, Started, Ended, Trimmed, Dark, Snug};
 
 // A part of a byte string, by its first byte and the byte behind its last.
 pub struct Span {
@@ -312,8 +312,8 @@ fn trim_end(s: &[u8]) -> usize
     e
 }
 
-// Where s lies without white space at both ends.
-pub fn trim(s: &[u8]) -> Span
+// Both ends by characters of any width.
+fn trim_wide(s: &[u8]) -> Span
     ensures { λ r. ⌜ Trimmed (now (s .entry)) r ⌝ }
 {
     let from = trim_start(s);
@@ -324,11 +324,75 @@ pub fn trim(s: &[u8]) -> Span
     }
 }
 
+// Whether b is surely no white space by itself.
+fn dark(b: u8) -> bool
+    ensures { λ r. ⌜ (r ≡ true → Dark b) ⌝ }
+{
+    if 32 < b { b < 128 } else { false }
+}
+
+// Whether s surely has no white space at its ends.
+fn snug(s: &[u8]) -> bool
+    ensures { λ r. ⌜ (r ≡ true → Snug (now (s .entry))) ⌝ }
+{
+    let n = s.len();
+    if n == 0 {
+        return false;
+    }
+    if dark(s[0]) {
+        return dark(s[n - 1]);
+    }
+    false
+}
+
+// Past one space at the head.
+fn lead(s: &[u8]) -> usize
+    ensures { λ r. ⌜ Starting (now (s .entry)) r ⌝ }
+{
+    if s.len() == 0 {
+        return 0;
+    }
+    if s[0] == 32 { 1 } else { 0 }
+}
+
+// Back over one space at the end.
+fn tail(s: &[u8]) -> usize
+    ensures { λ r. ⌜ Ending (now (s .entry)) r ⌝ }
+{
+    let n = s.len();
+    if n == 0 {
+        return n;
+    }
+    if s[n - 1] == 32 { n - 1 } else { n }
+}
+
+// Where s lies without white space at both ends. Most texts have at most one space there.
+pub fn trim(s: &[u8]) -> Span
+    ensures { λ r. ⌜ Trimmed (now (s .entry)) r ⌝ }
+{
+    let from = lead(s);
+    let end = from + tail(&s[from..]);
+    if snug(&s[from..end]) {
+        return Span {
+            from: from,
+            end: end,
+        };
+    }
+    trim_wide(s)
+}
+
 // Whether s is nothing but white space.
 pub fn blank(s: &[u8]) -> bool
     ensures { λ r. ⌜ r ≡ space.blank (now (s .entry)) ⌝ }
 {
-    trim_start(s) == s.len()
+    if s.len() == 0 {
+        return true;
+    }
+    if dark(s[0]) {
+        return false;
+    }
+    let t = trim_wide(s);
+    t.from == s.len()
 }
 
 // A number that none of the four bytes from i on is over.
@@ -350,10 +414,26 @@ fn eight(s: &[u8], i: usize) -> bool
     most(s, i) | most(s, i + 4) < 128
 }
 
+// Whether all bytes are ASCII: together, since that takes many at once.
+fn ascii(s: &[u8]) -> bool
+    ensures { λ r. ⌜ (r ≡ true → Under (now (s .entry)) 0 (length (now (s .entry))) 127) ⌝ }
+{
+    let mut i = 0;
+    let mut m: u8 = 0;
+    while i < s.len() {
+        m = m | s[i];
+        i += 1;
+    }
+    m < 128
+}
+
 // Whether s is UTF-8.
 pub fn valid(s: &[u8]) -> bool
     ensures { λ r. ⌜ r ≡ utf8.valid (now (s .entry)) ⌝ }
 {
+    if ascii(s) {
+        return true;
+    }
     let mut i = 0;
     while i < s.len() {
         if eight(s, i) {

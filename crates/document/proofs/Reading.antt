@@ -1,5 +1,5 @@
 -- Whole texts: the lines behind a refused one, then 17, 1 and 2; one law for each way out.
-use Prim.Native.Nat.{ℕ, _+_, _/_, _≤_, _<_}
+use Prim.Native.Nat.{ℕ, _+_, _*_, _/_, _≤_, _<_}
 use mathlib.Core.Bool.{Bool, true, false}
 use mathlib.Core.List.{List, []}
 use mathlib.Core.Path.{_≡_, refl, sym, ap, _∙_}
@@ -25,7 +25,7 @@ use Rattle.toml_lite.specs.Doc.{Doc, linesS, empty, documentS}
 use Rattle.toml_lite.proofs.Carrying.{carries-none, carries-grows}
 use Rattle.document.specs.declared.Read.{Read}
 use Rattle.document.specs.declared.Read.the-variants.{Fine, Fault}
-use Rattle.document.specs.Rooms.{readOf, wholeOf, Behind, behindFault, Told, Begun, Cleared, Ready, Roomy, Empty, suffice, judged}
+use Rattle.document.specs.Rooms.{readOf, wholeOf, Behind, behindFault, Told, Begun, Cleared, Ready, Standing, Roomy, Empty, suffice, judged}
 use Rattle.document.proofs.Assigning.{length-zeros}
 
 -- ---- 3 and 4 behind a refused line
@@ -54,6 +54,27 @@ module _ (s : List ℕ) (p : Place) (number line : ℕ) (c : Checked) (k : Check
   pub fault-open : (l : ℕ) → c ≡ checks.Open l → Told (length s) (behindFault s p number line) (Fault 4 l)
   fault-open l e = sooner 4 l (ap checkedOf (sym e) ∙ k .says) (rw e at (k .most))
 
+-- ---- a laid text t of s
+pub lines-begun : (limits : Limits) (t store tree : List ℕ) → 32 * limits .values ≤ length tree → limits .values < 65000 → limits .segments ≤ 16
+    → length t ≤ length store + 1 → length t < 65536 → Begun limits t store tree
+lines-begun limits t store tree f v g r l =
+    record {
+      holding = record {
+        grows = carries-grows (limits .values) tree [] 0 (carries-none tree) refl f v (omega arith);
+        within = tt;
+        fits = omega arith;
+        segs = g;
+      };
+      room = r;
+      low = l;
+    }
+
+pub lines-are : (limits : Limits) (s t : List ℕ) → t ≡ laid s → length s ≤ limits .text → true ≡ valid s → wholeOf limits t ≡ documentS limits s
+unfolding documentS
+lines-are limits s t e l v =
+    ap (wholeOf limits) e ∙ ap (λ (j : Answer (List Line)). after j (λ ls. linesS limits ls (empty limits))) (checked-joined s)
+    ∙ rw (le-ltb (limits .text) (length s) l, ← v)
+
 -- ---- 1, 2, then the lines
 module _ (limits : Limits) (s scratch store tree : List ℕ) (h : Ready limits (length s) scratch store tree) where
   -- a refusal leaves the empty rooms
@@ -81,25 +102,11 @@ module _ (limits : Limits) (s scratch store tree : List ℕ) (h : Ready limits (
 
       pub laid-begun : Begun limits (take used scratch') store tree
       laid-begun =
-          record {
-            holding = record {
-              grows = carries-grows (limits .values) tree [] 0 (carries-none tree) refl (h .tree-fits) (h .few) (omega arith);
-              within = tt;
-              fits = omega arith;
-              segs = h .segs;
-            };
-            room = omega (arith, laid-count, y .most, h .store-fits);
-            low = omega (arith, laid-count, y .most, h .low);
-          }
-
-      whole-is : wholeOf limits (take used scratch') ≡ documentS limits s
-      unfolding documentS
-      whole-is =
-          ap (wholeOf limits) laid-is ∙ ap (λ (j : Answer (List Line)). after j (λ ls. linesS limits ls (empty limits))) (checked-joined s)
-          ∙ rw (le-ltb (limits .text) (length s) l, ← e, t)
+          lines-begun limits (take used scratch') store tree (h .tree-fits) (h .few) (h .segs)
+          (omega (arith, laid-count, y .most, h .store-fits)) (omega (arith, laid-count, y .most, h .low))
 
       pub laid-read : (store' tree' : List ℕ) (r : Read) → Cleared store tree store' tree' (wholeOf limits (take used scratch')) r → Cleared store tree store' tree' (documentS limits s) r
-      laid-read store' tree' r c = rw (← whole-is) c
+      laid-read store' tree' r c = rw (← (lines-are limits s (take used scratch') laid-is l (sym t ∙ e))) c
 
 -- ---- 17 first
 pub small-store : (n m : ℕ) → n < 32768 → false ≡ suffice n m
@@ -156,6 +163,21 @@ module _ (n m : ℕ) (store tree : List ℕ) (es : store ≡ zeros n) (et : tree
   pub emptied-read : (s store' tree' : List ℕ) (r : Read) → Cleared store tree store' tree' (judged s (length store) (length tree)) r
       → Cleared (zeros n) (zeros m) store' tree' (judged s n m) r
   emptied-read s store' tree' r c = rw (es, et, length-zeros n, length-zeros m) at c
+
+-- ---- no scratch
+module _ (s : List ℕ) (l : length s ≤ 32768) where
+  pub stands-so : (r v : Bool) → (r ≡ true → laid s ≡ s) → r ≡ true → v ≡ valid s → v ≡ true → Standing s
+  stands-so r v e t w u = record { fits = l; well = sym u ∙ w; is = e t }
+
+module _ (limits : Limits) (el : limits ≡ of01) (s store tree : List ℕ) (h : Roomy store tree) (k : Standing s) where
+  pub standing-begun : Begun limits s store tree
+  standing-begun =
+      rw el
+      (lines-begun of01 s store tree (omega (arith, h .tree-fits)) (omega arith) (omega arith)
+      (omega (arith, k .fits, h .store-fits)) (omega (arith, k .fits)))
+
+  pub standing-read : (store' tree' : List ℕ) (r : Read) → Cleared store tree store' tree' (wholeOf limits s) r → Cleared store tree store' tree' (documentS of01 s) r
+  standing-read store' tree' r c = rw (el, lines-are of01 s s (sym (k .is)) (k .fits) (k .well)) at c
 
 -- ---- the scratch
 module _ (limits : Limits) (el : limits ≡ of01) (store tree : List ℕ) (h : Roomy store tree) where

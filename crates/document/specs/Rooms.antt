@@ -9,11 +9,12 @@ use Rattle.meaning.specs.declared.Limits.{Limits}
 use Rattle.meaning.specs.Limits.{of01}
 use Rattle.meaning.specs.Refusal.{Answer, accepted, refused, after, numberOf, inText, atLine, atNoLine, R, ok, bad}
 use Rattle.meaning.specs.Base.{pick, zeros}
+use Rattle.meaning.specs.Utf8.{valid}
 use Rattle.meaning.specs.Keys.{keys}
 use Rattle.meaning.specs.Lines.{closed, join}
 use Rattle.text.specs.declared.Place.{Place}
 use Rattle.text.specs.Answers.{Between}
-use Rattle.text.specs.Laid.{linesOf}
+use Rattle.text.specs.Laid.{linesOf, laid}
 use Rattle.scalar.specs.Stores.{over}
 use Rattle.scalar.specs.declared.key.Verdict.{Verdict}
 use Rattle.scalar.specs.declared.key.Verdict.the-variants as verdicts
@@ -186,6 +187,12 @@ pub record Ready (limits : Limits) (n : ℕ) (scratch store tree : List ℕ) : T
   pub low : limits .text < 65535
   pub store-empty : store ≡ zeros (length store)
   pub tree-empty : tree ≡ zeros (length tree)
+
+-- a text within 01's limit that is laid as it stands
+pub record Standing (s : List ℕ) : Type 0 where
+  pub fits : length s ≤ 32768
+  pub well : true ≡ valid s
+  pub is : laid s ≡ s
 
 -- both rooms hold only zeros
 pub record Empty (store tree : List ℕ) : Type 0 where

@@ -10,6 +10,7 @@ use toml_lite::State;
 use toml_lite::form::Form;
 use toml_lite::grow::Grown;
 ghost use mathlib.Core.Path.{_≡_};
+ghost use mathlib.Core.Bool.{true};
 ghost use Prim.Native.Nat.{_+_, _<_};
 ghost use lib.ListN.{length};
 ghost use Rattle.meaning.specs.Document as meant;
@@ -17,7 +18,7 @@ ghost use Rattle.meaning.specs.Space as space;
 ghost use Rattle.meaning.specs.Base.{zeros};
 ghost use Rattle.meaning.specs.Limits.{of01};
 ghost use Rattle.toml_lite.specs.Doc.{lineS, setS, documentS};
-ghost use Rattle.document.specs.Rooms.{verdictNumber, settled, docOf, hangK, Taking, Hanging, Lined, wholeOf, Behind, behindFault, Told, Begun, Reads, Cleared, Ready, Roomy, Empty, suffice, judged};
+ghost use Rattle.document.specs.Rooms.{verdictNumber, settled, docOf, hangK, Taking, Hanging, Lined, wholeOf, Behind, behindFault, Told, Begun, Reads, Cleared, Ready, Standing, Roomy, Empty, suffice, judged};
 
 // What a line comes to: the state behind it and the place where assignments go; or the number of its fault.
 pub enum LineRead {
@@ -339,10 +340,34 @@ fn read_long(text: &[u8], store: &mut [u8], tree: &mut [u8]) -> Read
     read_text(text, &mut scratch, store, tree, meaning::of01())
 }
 
+// Whether a text is within 01's limit, and needs no scratch since it is laid as it stands.
+fn stands(text: &[u8]) -> bool
+    ensures { λ r. ⌜ (r ≡ true → Standing (now (text .entry))) ⌝ }
+{
+    if 32768 < text.len() {
+        return false;
+    }
+    if text::clean(text) {
+        return chars::valid(text);
+    }
+    false
+}
+
+// Such a text: its lines.
+fn read_standing(text: &[u8], store: &mut [u8], tree: &mut [u8]) -> Read
+    requires { ⌜ Roomy (now store) (now tree) × Standing (now text) ⌝ }
+    ensures { λ r. ⌜ Cleared (now (store .entry)) (now (tree .entry)) (now (store .exit)) (now (tree .exit)) (documentS of01 (now (text .entry))) r ⌝ }
+{
+    read_laid(text, store, tree, meaning::of01())
+}
+
 fn read_roomy(text: &[u8], store: &mut [u8], tree: &mut [u8]) -> Read
     requires { ⌜ Roomy (now store) (now tree) ⌝ }
     ensures { λ r. ⌜ Cleared (now (store .entry)) (now (tree .entry)) (now (store .exit)) (now (tree .exit)) (documentS of01 (now (text .entry))) r ⌝ }
 {
+    if stands(text) {
+        return read_standing(text, store, tree);
+    }
     if text.len() < 4096 {
         return read_short(text, store, tree);
     }

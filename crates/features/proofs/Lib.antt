@@ -1,3 +1,4 @@
 pub mod Gapping
 pub mod Stepping
 pub mod Choosing
+pub mod Comparing

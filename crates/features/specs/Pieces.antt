@@ -5,7 +5,7 @@ use mathlib.Core.List.{List, [], _∷_}
 use mathlib.Core.Path.{_≡_}
 use lib.Dec.{ltb}
 use lib.ListN.{length, drop}
-use Rattle.meaning.specs.Base.{pick, less}
+use Rattle.meaning.specs.Base.{pick, same, less}
 use Rattle.meaning.specs.Features.{gap}
 use Rattle.tree.specs.declared.Value.{Value}
 use Rattle.tree.specs.declared.Value.the-variants as values
@@ -136,3 +136,10 @@ better store after best p = pick (behind store after p) (pick (ahead store best 
 abbrev pub nextOf : List ℕ → Feature → Feature → List Piece → Feature
 nextOf store after best [] = best
 nextOf store after best (p ∷ ps) = nextOf store after (better store after best p) ps
+
+-- both are there and have the same bytes, or neither is
+abbrev pub sameFeature : List ℕ → Feature → Feature → Bool
+sameFeature store features.Nothing features.Nothing = true
+sameFeature store features.Nothing (features.At q) = false
+sameFeature store (features.At p) features.Nothing = false
+sameFeature store (features.At p) (features.At q) = same (bytesOf store p) (bytesOf store q)

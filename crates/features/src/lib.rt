@@ -12,6 +12,8 @@ ghost use Rattle.schema.specs.Texts.{clip};
 ghost use Rattle.features.specs.Pieces as piece;
 ghost use Rattle.tree.specs.Doors.{Rooms};
 ghost use Rattle.features.specs.Gaps.{gaps, run};
+ghost use Rattle.features.specs.Ordered.{bytesAll};
+ghost use Rattle.meaning.specs.Rules.{sameAll};
 
 // A part of the text store.
 pub struct Piece {
@@ -334,6 +336,45 @@ pub fn next(tree: &[u8], store: &[u8], made: usize, f: Features, after: Feature)
                 best = better(store, after, best, p);
                 at = n;
             }
+        }
+    }
+}
+
+// Whether both are there and have the same bytes, or neither is.
+fn same_feature(store: &[u8], x: Feature, y: Feature) -> bool
+    ensures { λ r. ⌜ r ≡ piece.sameFeature (now (store .entry)) x y ⌝ }
+{
+    match x {
+        Feature::Nothing => match y {
+            Feature::Nothing => true,
+            Feature::At(_) => false,
+        },
+        Feature::At(p) => match y {
+            Feature::Nothing => false,
+            Feature::At(q) => slices::same(
+                schema::stored(store, p.from, p.len),
+                schema::stored(store, q.from, q.len),
+            ),
+        },
+    }
+}
+
+// Whether two lists have the same items, in byte order and each once.
+pub fn equal(tree: &[u8], store: &[u8], made: usize, f: Features, g: Features) -> bool
+    requires { ⌜ Rooms (now tree) made ⌝ }
+    ensures { λ r. ⌜ r ≡ sameAll (meant.ordered (bytesAll (now (store .entry)) (piece.pieces (now (tree .entry)) (now (store .entry)) made f))) (meant.ordered (bytesAll (now (store .entry)) (piece.pieces (now (tree .entry)) (now (store .entry)) made g))) ⌝ }
+{
+    let mut a = Feature::Nothing;
+    let mut b = Feature::Nothing;
+    loop {
+        a = next(tree, store, made, f, a);
+        b = next(tree, store, made, g, b);
+        if !same_feature(store, a, b) {
+            return false;
+        }
+        match a {
+            Feature::Nothing => return true,
+            Feature::At(_) => {}
         }
     }
 }

@@ -4,18 +4,18 @@ use mathlib.Core.Bool.{Bool, true, false}
 use mathlib.Core.List.{List, []}
 use mathlib.Core.Path.{_≡_, refl, sym, ap, subst, _∙_}
 use native.Mathlib.Omega.{arith}
-use mir.Syntax.{w32}
-use mir.Val.{Fits}
 use borrow.Author.Tests.{eq-eqb, ne-eqb, eqb-true, eqb-false, le-ltb, ltb-false}
 use lib.Dec.{eqb, ltb}
 use lib.ListN.{length}
 use Rattle.meaning.specs.Base.{pick, zeros}
 use Rattle.meaning.specs.Limits.{of01}
-use Rattle.meaning.specs.Refusal.{Fault, Answer, accepted, refused, numberOf, numbered, atLine}
+use Rattle.meaning.specs.Refusal.{Fault, Answer, accepted, refused, after, numberOf, numbered, atLine}
 use Rattle.meaning.specs.Document.{Parsed, inRooms}
 use Rattle.meaning.specs.Tree.{Table, table}
+use Rattle.meaning.specs.Schema as meant
 use Rattle.meaning.specs.Records.{presetOf}
-use Rattle.meaning.specs.Preset.{Read, read}
+use Rattle.meaning.specs.Preset.{Read, read, validate}
+use Rattle.meaning.specs.Rules.{rules}
 use Rattle.laws.specs.Cases.{on}
 use Rattle.scalar.specs.Stores.{over}
 use Rattle.tree.specs.declared.Slot.{Slot}
@@ -38,20 +38,16 @@ use Rattle.parse.specs.Refused.{lentText, verdict}
 use Rattle.parse.specs.Views.{sound}
 use Rattle.parse.specs.Verdict as verdicts
 use Rattle.parse.specs.Filed.{file-named, file-inside}
-use Rattle.parse.specs.Answers.{Says, says-accepted, says-refused}
+use Rattle.parse.specs.Answers.{Says, says-after, says-made, says-accepted, says-refused, earlier-clear}
 use Rattle.parse.specs.Whole.{presetMeant, preset-says, lent-is}
+use Rattle.validate.specs.Faults as faults
+use Rattle.validate.specs.Validated.{validating}
+use Rattle.validate.specs.Said.{rules-say}
 use Rattle.host.specs.declared.documents.Outcome.{Outcome}
 use Rattle.host.specs.Documents.{Shown}
-use Rattle.host.specs.Presets.{outcomeBy, storeBy, treeBy, Recorded, Records, Preset}
+use Rattle.host.specs.Presets.{outcomeBy, storeBy, treeBy, Recorded, Records, Answered, recorded, validated, exported}
 use Rattle.host.proofs.Exports.{length-zeros}
 use Rattle.host.proofs.Presenting.{judged-agrees}
-
--- ---- numbers fit
-pub place-fits : (text name store tree store' tree' : List ℕ) (r : parsed.Outcome) → verdicts.Parsed text name store tree store' tree' r → Fits w32 (r .place)
-place-fits text name store tree store' tree' r h = record { fits = omega (arith, h .small .place) }
-
-pub made-fits : (text name store tree store' tree' : List ℕ) (r : parsed.Outcome) → verdicts.Parsed text name store tree store' tree' r → Fits w32 (r .made)
-made-fits text name store tree store' tree' r h = record { fits = omega (arith, h .small .made) }
 
 -- ---- an accepted text is short
 no-one : {G : Type 0} (d : Doc) → atLine 1 0 ≡ accepted d → G
@@ -76,48 +72,62 @@ large s n m d e = on (suffice n m) (λ p. suffices n m p) (λ p. no-17 d (rw p a
 few-bytes : (s : List ℕ) (n m : ℕ) (d : Doc) → judged s n m ≡ accepted d → length (d .bytes) < 65536
 few-bytes s n m d e = let k = judged-is s n m d e in omega (arith, bytes-fit of01 s d k, short s d k)
 
--- a text's refusal is the preset's
-read-stops : (s name : List ℕ) (n m : ℕ) (f : Fault) (i q : ℕ) → inRooms of01 32 n m s ≡ refused f i q → read of01 32 n m name s ≡ refused f i q
-unfolding read
-read-stops s name n m f i q e = rw e
+-- ---- a judge beside 01's answer to a tree's root
+
+-- 01's answer to a text, by its answer to the root of the text's tree
+abbrev pub answer : (Table → Answer meant.Preset) → Answer Parsed → Answer Read
+answer way a = after a (λ p. after (way (p .root)) (λ preset. accepted (record { parsed = p; preset = preset })))
+
+abbrev presetIn : List ℕ → List ℕ → ℕ → List ℕ → meant.Preset
+presetIn room store made name = presetMeant room store made name (fieldsOf room made 1) of01 (lentText name)
+
+-- of every room the judge says what 01 says of the root, where the records do; and no judge passes what reading refuses
+pub record Judges (name : List ℕ) (judge : List ℕ → List ℕ → ℕ → Refusal) (way : Table → Answer meant.Preset) : Type 0 where
+  pub clear : (room store : List ℕ) (made : ℕ) → judge room store made .number ≡ 0 → verdicts.reading name room store made .number ≡ 0
+  pub says : (room store : List ℕ) (made : ℕ) (root : Table) → Says (presetOf of01 name root) (verdicts.reading name room store made) (presetIn room store made name)
+      → Says (way root) (judge room store made) (presetIn room store made name)
 
 -- ---- the rooms of an accepted text
-module _ (text name store tree : List ℕ) (p : Parsed) (d : Doc) (ed : judged text (length store) (length tree) ≡ accepted d) (h : Doc-agrees [] (accepted p) (accepted d)) where
+module _ (judge : List ℕ → List ℕ → ℕ → Refusal) (way : Table → Answer meant.Preset) (text name store tree : List ℕ) (js : Judges name judge way) (p : Parsed) (d : Doc)
+    (ed : judged text (length store) (length tree) ≡ accepted d) (h : Doc-agrees [] (accepted p) (accepted d)) where
   abbrev room : List ℕ
   room = rooms.treeOf (zeros (length tree)) (accepted d)
 
   abbrev bytes : List ℕ
   bytes = rooms.storeOf (zeros (length store)) (accepted d)
 
-  module _ (store' tree' : List ℕ) (o : parsed.Outcome) (j : verdicts.Judged d name (zeros (length store)) (zeros (length tree)) store' tree' o) where
+  abbrev made : ℕ
+  made = length (d .slots)
+
+  module _ (store' tree' : List ℕ) (o : parsed.Outcome) (j : verdicts.Judged judge d (zeros (length store)) (zeros (length tree)) store' tree' o) where
     carries : Carried room bytes (d .bytes) (d .slots)
     carries = carried room bytes (zeros (length store)) (d .bytes) (d .slots) (j .carries) refl
 
-    told : doors.Told room bytes (d .bytes) (d .slots) (table (p .root)) (length (d .slots))
+    told : doors.Told room bytes (d .bytes) (d .slots) (table (p .root)) made
     told = record { carried = carries; agree = h .2; small = few-bytes text (length store) (length tree) d ed; all = refl; few = j .few }
 
     -- what the rooms' records are, and what 01 says
-    says : Says (presetOf of01 name (p .root)) (verdict room bytes (length (d .slots)) (fieldsOf room (length (d .slots)) 1) of01 (lentText name))
-        (presetMeant room bytes (length (d .slots)) name (fieldsOf room (length (d .slots)) 1) of01 (lentText name))
+    says : Says (way (p .root)) (judge room bytes made) (presetIn room bytes made name)
     says =
-        preset-says room bytes (d .bytes) (d .slots) (table (p .root)) (length (d .slots)) told file-named file-inside name name (lentText name) (lent-is bytes name) of01 (p .root)
-        (place-root (d .bytes) (d .slots) (table (p .root)) (h .2))
+        js .says room bytes made (p .root)
+        (preset-says room bytes (d .bytes) (d .slots) (table (p .root)) made told file-named file-inside name name (lentText name) (lent-is bytes name) of01 (p .root)
+        (place-root (d .bytes) (d .slots) (table (p .root)) (h .2)))
 
     abbrev found : Refusal
-    found = verdict room bytes (length (d .slots)) (fieldsOf room (length (d .slots)) 1) of01 (lentText name)
+    found = judge room bytes made
 
-    -- ---- 01's answer, from the rooms' verdict
+    -- ---- 01's answer, from the judge's
     module _ (ep : inRooms of01 32 (length store) (length tree) text ≡ accepted p) where
-      read-fine : found .number ≡ 0 → read of01 32 (length store) (length tree) name text
-          ≡ accepted (record { parsed = p; preset = presetMeant room bytes (length (d .slots)) name (fieldsOf room (length (d .slots)) 1) of01 (lentText name) })
-      unfolding read
-      read-fine z = rw (ep, says-accepted (presetOf of01 name (p .root)) found _ says z)
+      abbrev its : Answer Read
+      its = answer way (inRooms of01 32 (length store) (length tree) text)
 
-      read-not : 1 ≤ found .number → read of01 32 (length store) (length tree) name text ≡ refused (numbered (found .number)) (found .section) (found .place)
-      unfolding read
-      read-not z = rw (ep, says-refused (presetOf of01 name (p .root)) found _ says z)
+      answer-fine : found .number ≡ 0 → its ≡ accepted (record { parsed = p; preset = presetIn room bytes made name })
+      answer-fine z = rw (ep, says-accepted (way (p .root)) found _ says z)
 
-      kept-is : verdicts.Kept name bytes room (length (d .slots)) store' tree' o
+      answer-not : 1 ≤ found .number → its ≡ refused (numbered (found .number)) (found .section) (found .place)
+      answer-not z = rw (ep, says-refused (way (p .root)) found _ says z)
+
+      kept-is : verdicts.Kept found bytes room made store' tree' o
       kept-is = j .kept
 
       shown : store' ≡ bytes → tree' ≡ room → Shown store' tree' p
@@ -145,13 +155,13 @@ module _ (text name store tree : List ℕ) (p : Parsed) (d : Doc) (ed : judged t
       sounds : sound room (length (d .slots)) ≡ true
       unfolding sound
       sounds =
-          let k : length (d .slots) ≤ length room / 32 = omega (arith, room-long, big .1, slots-fit of01 text d doc) in
+          let k : made ≤ length room / 32 = omega (arith, room-long, big .1, slots-fit of01 text d doc) in
           let l : length (d .slots) ≤ 65000 = j .few in
           rw (le-ltb (length room / 32) (length (d .slots)) k, le-ltb 65000 (length (d .slots)) l)
 
-      preset-fine : found .number ≡ 0 → Preset text name store tree store' tree' (record { number = o .number; section = o .section; place = o .place; made = o .made })
-      preset-fine z =
-          let e = read-fine z in
+      answered-fine : found .number ≡ 0 → Answered its text name store tree store' tree' (exported o)
+      answered-fine z =
+          let e = answer-fine z in
           let es : store' ≡ bytes = rw (eq-eqb (found .number) 0 z) at (kept-is .store-is) in
           let et : tree' ≡ room = rw (eq-eqb (found .number) 0 z) at (kept-is .tree-is) in
           let eo : o ≡ record { number = 0; section = 0; place = 0; made = length (d .slots) } = rw (eq-eqb (found .number) 0 z) at (kept-is .says) in
@@ -160,12 +170,12 @@ module _ (text name store tree : List ℕ) (p : Parsed) (d : Doc) (ed : judged t
             says = rw (e, eo, mm);
             store-is = rw e (es ∙ ap (λ (b : List ℕ). over b (zeros (length store))) (h .0));
             tree-is = rw (e, ed) et;
-            shows = rw e (record { shown = shown es et; sound = rw (mm, et) sounds; clear = rw (mm, es, et) z; records = rw (mm, es, et) });
+            shows = rw e (record { shown = shown es et; sound = rw (mm, et) sounds; clear = rw (mm, es, et) (js .clear room bytes made z); records = rw (mm, es, et) });
           }
 
-      preset-not : (found .number ≡ 0 → ⊥) → Preset text name store tree store' tree' (record { number = o .number; section = o .section; place = o .place; made = o .made })
-      preset-not z =
-          let e = read-not (omega (arith, z)) in
+      answered-not : (found .number ≡ 0 → ⊥) → Answered its text name store tree store' tree' (exported o)
+      answered-not z =
+          let e = answer-not (omega (arith, z)) in
           let es : store' ≡ zeros (length bytes) = rw (ne-eqb (found .number) 0 z) at (kept-is .store-is) in
           let et : tree' ≡ zeros (length room) = rw (ne-eqb (found .number) 0 z) at (kept-is .tree-is) in
           let eo : o ≡ record { number = found .number; section = found .section; place = found .place; made = 0 } = rw (ne-eqb (found .number) 0 z) at (kept-is .says) in
@@ -177,30 +187,78 @@ module _ (text name store tree : List ℕ) (p : Parsed) (d : Doc) (ed : judged t
           }
 
 -- ---- every text
-pub preset-is : (text name store tree store' tree' : List ℕ) (o : parsed.Outcome) → verdicts.Parsed text name store tree store' tree' o
-    → Preset text name store tree store' tree' (record { number = o .number; section = o .section; place = o .place; made = o .made })
-preset-is text name store tree store' tree' o r =
+pub answered-is : (judge : List ℕ → List ℕ → ℕ → Refusal) (way : Table → Answer meant.Preset) (text name store tree store' tree' : List ℕ) (o : parsed.Outcome) → Judges name judge way
+    → verdicts.Parsed judge text store tree store' tree' o
+    → Answered (answer way (inRooms of01 32 (length store) (length tree) text)) text name store tree store' tree' (exported o)
+answered-is judge way text name store tree store' tree' o js r =
     go (inRooms of01 32 (length store) (length tree) text) (judged text (length store) (length tree)) refl refl (judged-agrees text (length store) (length tree)) (r .by)
   where
     go : (a : Answer Parsed) (b : Answer Doc) → inRooms of01 32 (length store) (length tree) text ≡ a → judged text (length store) (length tree) ≡ b → Doc-agrees [] a b
-        → verdicts.ReadBy b name (zeros (length store)) (zeros (length tree)) store' tree' o
-        → Preset text name store tree store' tree' (record { number = o .number; section = o .section; place = o .place; made = o .made })
+        → verdicts.ReadBy judge b (zeros (length store)) (zeros (length tree)) store' tree' o
+        → Answered (answer way (inRooms of01 32 (length store) (length tree) text)) text name store tree store' tree' (exported o)
     go (accepted p) (accepted d) ea eb h j =
-        on (eqb (found text name store tree p d eb h store' tree' o j .number) 0)
-        (λ z. preset-fine text name store tree p d eb h store' tree' o j ea (eqb-true (found text name store tree p d eb h store' tree' o j .number) 0 z))
-        (λ z. preset-not text name store tree p d eb h store' tree' o j ea (eqb-false (found text name store tree p d eb h store' tree' o j .number) 0 z))
+        on (eqb (found judge way text name store tree js p d eb h store' tree' o j .number) 0)
+        (λ z. answered-fine judge way text name store tree js p d eb h store' tree' o j ea (eqb-true (found judge way text name store tree js p d eb h store' tree' o j .number) 0 z))
+        (λ z. answered-not judge way text name store tree js p d eb h store' tree' o j ea (eqb-false (found judge way text name store tree js p d eb h store' tree' o j .number) 0 z))
     go (accepted p) (refused f i q) ea eb h j = absurd h
     go (refused f i q) (accepted d) ea eb h j = absurd h
     go (refused f i q) (refused f' i' q') ea eb h j =
-        let e : read of01 32 (length store) (length tree) name text ≡ refused f i q = read-stops text name (length store) (length tree) f i q ea in
         record {
-          says = rw (e, j .0, h .0, h .1, h .2);
-          store-is = rw e (j .1 ∙ ap zeros (length-zeros (length store)));
-          tree-is = rw e (j .2 ∙ ap zeros (length-zeros (length tree)));
-          shows = rw e tt;
+          says = rw (ea, j .0, h .0, h .1, h .2);
+          store-is = rw ea (j .1 ∙ ap zeros (length-zeros (length store)));
+          tree-is = rw ea (j .2 ∙ ap zeros (length-zeros (length tree)));
+          shows = rw ea tt;
         }
 
 -- two results that meet the promise are equal, answer and both rooms
-pub preset-decides : (text name store tree store₁ tree₁ store₂ tree₂ : List ℕ) (r₁ r₂ : Outcome) → Preset text name store tree store₁ tree₁ r₁ → Preset text name store tree store₂ tree₂ r₂
-    → (r₁ ≡ r₂) × (store₁ ≡ store₂) × (tree₁ ≡ tree₂)
-preset-decides text name store tree store₁ tree₁ store₂ tree₂ r₁ r₂ a b = (a .says ∙ sym (b .says), a .store-is ∙ sym (b .store-is), a .tree-is ∙ sym (b .tree-is))
+pub answered-decides : (a : Answer Read) (text name store tree store₁ tree₁ store₂ tree₂ : List ℕ) (r₁ r₂ : Outcome) → Answered a text name store tree store₁ tree₁ r₁
+    → Answered a text name store tree store₂ tree₂ r₂ → (r₁ ≡ r₂) × (store₁ ≡ store₂) × (tree₁ ≡ tree₂)
+answered-decides a text name store tree store₁ tree₁ store₂ tree₂ r₁ r₂ g h = (g .says ∙ sym (h .says), g .store-is ∙ sym (h .store-is), g .tree-is ∙ sym (h .tree-is))
+
+-- ---- records
+
+reading-judges : (name : List ℕ) → Judges name (verdicts.reading name) (presetOf of01 name)
+reading-judges name = record { clear = λ room store made z. z; says = λ room store made root s. s }
+
+pub preset-is : (text name store tree store' tree' : List ℕ) (o : parsed.Outcome) (q : Outcome) → verdicts.Parsed (verdicts.reading name) text store tree store' tree' o → q ≡ exported o
+    → Answered (recorded text name store tree) text name store tree store' tree' q
+unfolding read
+preset-is text name store tree store' tree' o q r e = rw e (answered-is (verdicts.reading name) (presetOf of01 name) text name store tree store' tree' o (reading-judges name) r)
+
+-- ---- rules
+
+-- a root's preset, where no rule refuses it
+abbrev rulesOver : List ℕ → Table → Answer meant.Preset
+rulesOver name root = after (presetOf of01 name root) (λ preset. after (rules preset) (λ u. accepted preset))
+
+validating-judges : (name : List ℕ) → Judges name (validating name) (rulesOver name)
+validating-judges name =
+    record {
+      clear = λ room store made z. earlier-clear (verdicts.reading name room store made) (faults.verdict room store made name) z .0;
+      says = λ room store made root s. says-after (λ preset. after (rules preset) (λ u. accepted preset)) s (says-made (λ u. presetIn room store made name) (rules-say room store made name));
+    }
+
+-- one after the other
+ruled-after : (a : Answer Parsed) (way : Table → Answer meant.Preset)
+    → after {Y = Read} (answer way a) (λ r. after {Y = Read} (rules (r .preset)) (λ u. accepted r)) ≡ answer (λ root. after (way root) (λ preset. after (rules preset) (λ u. accepted preset))) a
+ruled-after (refused f s p) way = refl
+ruled-after (accepted p) way = one (way (p .root))
+  where
+    two : (m : meant.Preset) (v : Answer (Unit {0})) → after {Y = Read} v (λ u. accepted (record { parsed = p; preset = m })) ≡ after {Y = Read} (after {Y = meant.Preset} v (λ u. accepted m)) (λ preset. accepted (record { parsed = p; preset = preset }))
+    two m (accepted u) = refl
+    two m (refused f s q) = refl
+
+    one : (m : Answer meant.Preset)
+        → after {Y = Read} (after {Y = Read} m (λ preset. accepted (record { parsed = p; preset = preset }))) (λ r. after {Y = Read} (rules (r .preset)) (λ u. accepted r))
+        ≡ after {Y = Read} (after {Y = meant.Preset} m (λ preset. after {Y = meant.Preset} (rules preset) (λ u. accepted preset))) (λ preset. accepted (record { parsed = p; preset = preset }))
+    one (refused f s q) = refl
+    one (accepted m) = two m (rules m)
+
+validated-is : (text name store tree : List ℕ) → validated text name store tree ≡ answer (rulesOver name) (inRooms of01 32 (length store) (length tree) text)
+unfolding validate read
+validated-is text name store tree = ruled-after (inRooms of01 32 (length store) (length tree) text) (presetOf of01 name)
+
+pub valid-is : (text name store tree store' tree' : List ℕ) (o : parsed.Outcome) (q : Outcome) → verdicts.Parsed (validating name) text store tree store' tree' o → q ≡ exported o
+    → Answered (validated text name store tree) text name store tree store' tree' q
+valid-is text name store tree store' tree' o q r e =
+    rw (e, validated-is text name store tree) (answered-is (validating name) (rulesOver name) text name store tree store' tree' o (validating-judges name) r)

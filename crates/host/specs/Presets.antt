@@ -7,10 +7,11 @@ use lib.ListN.{length}
 use Rattle.meaning.specs.Base.{zeros}
 use Rattle.meaning.specs.Limits.{of01}
 use Rattle.meaning.specs.Refusal.{Answer, accepted, refused, numberOf}
-use Rattle.meaning.specs.Preset.{Read, read}
+use Rattle.meaning.specs.Preset.{Read, read, validate}
 use Rattle.scalar.specs.Stores.{over}
 use Rattle.tree.specs.Doors.{fieldsOf}
 use Rattle.document.specs.Rooms.{judged, treeOf}
+use Rattle.parse.specs.declared.Outcome as parsed
 use Rattle.parse.specs.Refused.{lentText, verdict}
 use Rattle.parse.specs.Views.{sound}
 use Rattle.parse.specs.Whole.{presetMeant}
@@ -43,9 +44,21 @@ abbrev pub Records : List ℕ → List ℕ → List ℕ → Answer Read → Type
 Records name store tree (accepted p) = Recorded name store tree p
 Records name store tree (refused f section place) = Unit
 
--- what reading a preset leaves
-pub record Preset (text name store tree store' tree' : List ℕ) (r : Outcome) : Type 0 where
-  pub says : r ≡ outcomeBy (read of01 32 (length store) (length tree) name text)
-  pub store-is : store' ≡ storeBy (length store) (read of01 32 (length store) (length tree) name text)
-  pub tree-is : tree' ≡ treeBy text (length store) (length tree) (read of01 32 (length store) (length tree) name text)
-  pub shows : Records name store' tree' (read of01 32 (length store) (length tree) name text)
+-- what a call leaves that has this answer to a text
+pub record Answered (a : Answer Read) (text name store tree store' tree' : List ℕ) (r : Outcome) : Type 0 where
+  pub says : r ≡ outcomeBy a
+  pub store-is : store' ≡ storeBy (length store) a
+  pub tree-is : tree' ≡ treeBy text (length store) (length tree) a
+  pub shows : Records name store' tree' a
+
+-- 01's answer to a text, a lent name and rooms of these lengths: its records
+abbrev pub recorded : List ℕ → List ℕ → List ℕ → List ℕ → Answer Read
+recorded text name store tree = read of01 32 (length store) (length tree) name text
+
+-- and one that obeys the rules
+abbrev pub validated : List ℕ → List ℕ → List ℕ → List ℕ → Answer Read
+validated text name store tree = validate of01 32 (length store) (length tree) name text
+
+-- the same numbers
+abbrev pub exported : parsed.Outcome → Outcome
+exported o = record { number = o .number; section = o .section; place = o .place; made = o .made }

@@ -14,3 +14,11 @@ pub mod Counted
 pub mod Order
 pub mod Once
 pub mod Accepted
+pub mod Answers
+pub mod Places
+pub mod Uses
+pub mod Builds
+pub mod Chosen
+pub mod Demand
+pub mod DemandNeeds
+pub mod Plans

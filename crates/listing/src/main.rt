@@ -1,9 +1,18 @@
-// Reads one preset from standard input. For now it says what the preset is for and how many entries it has, or the refusal.
+// Reads one preset from standard input: what it is for and its entries, or the refusal.
 
 use libc::STDIN_FILENO;
 use libc::STDOUT_FILENO;
 use parse::Outcome;
+use parse::view::ApplicationFound;
+use parse::view::ComponentFound;
+use parse::view::Counts;
+use parse::view::PartitionFound;
+use schema::Application;
+use schema::Component;
+use schema::Partition;
+use schema::Text;
 use schema::Word;
+ghost use Rattle.tree.specs.Doors.{Rooms};
 
 // A space and a number.
 fn field(n: u64) {
@@ -18,12 +27,115 @@ fn head(room: &[u8], n: usize) {
     }
 }
 
-// A space and a word.
-fn word(w: Word) {
+fn bare(w: Word) {
     let mut room = [0u8; 32];
     let n = w.put(&mut room);
-    io::write_all(STDOUT_FILENO, b" ");
     head(&room, n);
+}
+
+// A space and a word.
+fn word(w: Word) {
+    io::write_all(STDOUT_FILENO, b" ");
+    bare(w);
+}
+
+// A space and a text's bytes; the lent name is `board`.
+fn text(store: &[u8], t: Text) {
+    io::write_all(STDOUT_FILENO, b" ");
+    match t {
+        Text::Absent => {}
+        Text::Stored { from, len } => {
+            io::write_all(STDOUT_FILENO, schema::stored(store, from, len));
+        }
+        Text::Lent => {
+            io::write_all(STDOUT_FILENO, b"board");
+        }
+        Text::Fixed(w) => bare(w),
+        Text::WithAic { from, len } => {
+            io::write_all(STDOUT_FILENO, schema::stored(store, from, len));
+            bare(Word::Aic);
+        }
+    }
+}
+
+// `part`, name, start, end.
+fn part(store: &[u8], p: Partition) {
+    io::write_all(STDOUT_FILENO, b"part ");
+    io::write_all(STDOUT_FILENO, schema::stored(store, p.from, p.len));
+    field(p.offset as u64);
+    field(layout::end_of(p));
+    io::write_all(STDOUT_FILENO, b"\n");
+}
+
+// A component's reference as it is written, `-` for an empty one.
+fn reference(store: &[u8], t: Text) {
+    if schema::stored(store, t.start(), t.length()).len() == 0 {
+        io::write_all(STDOUT_FILENO, b" -");
+        return;
+    }
+    text(store, t);
+}
+
+// `comp`, name, kind, reference.
+fn comp(store: &[u8], c: Component) {
+    let head = c.head;
+    let role = c.role;
+    let kind = head.kind;
+    let name = head.name;
+    let partition = role.partition;
+    io::write_all(STDOUT_FILENO, b"comp");
+    text(store, name);
+    word(kind.name());
+    reference(store, partition);
+    io::write_all(STDOUT_FILENO, b"\n");
+}
+
+// `app`, package, name, partition.
+fn app(store: &[u8], a: Application) {
+    let package = a.package;
+    let name = a.name;
+    let partition = a.partition;
+    io::write_all(STDOUT_FILENO, b"app");
+    text(store, package);
+    text(store, name);
+    text(store, partition);
+    io::write_all(STDOUT_FILENO, b"\n");
+}
+
+fn parts(store: &[u8], tree: &[u8], made: usize, count: usize)
+    requires { ⌜ Rooms (now tree) made ⌝ }
+{
+    for i in 0..count {
+        let found = parse::view::partition(tree, store, made, i);
+        match found {
+            PartitionFound::At(p) => part(store, p),
+            PartitionFound::Nothing => {}
+        }
+    }
+}
+
+fn comps(store: &[u8], tree: &[u8], made: usize, count: usize)
+    requires { ⌜ Rooms (now tree) made ⌝ }
+{
+    for i in 0..count {
+        let found = parse::view::component(tree, store, made, i, 32);
+        match found {
+            ComponentFound::At(c) => comp(store, c),
+            ComponentFound::Nothing => {}
+        }
+    }
+}
+
+fn apps(store: &[u8], tree: &[u8], made: usize, count: usize)
+    requires { ⌜ Rooms (now tree) made ⌝ }
+{
+    for i in 0..count {
+        let found = parse::view::application(tree, store, made, i, 32);
+        match found {
+            ApplicationFound::At(a) => app(store, a),
+            ApplicationFound::Nothing => {}
+        }
+    }
 }
 
 // `refused`, number, section, place.
@@ -33,6 +145,15 @@ fn refuse(r: Outcome) {
     field(r.section as u64);
     field(r.place as u64);
     io::write_all(STDOUT_FILENO, b"\n");
+}
+
+// The entries of a preset's lists.
+fn entries(store: &[u8], tree: &[u8], made: usize, c: Counts) {
+    if parse::view::sound(tree, made) {
+        parts(store, tree, made, c.partitions);
+        comps(store, tree, made, c.components);
+        apps(store, tree, made, c.applications);
+    }
 }
 
 // `ok`, chip, media, partitions, components, applications, values made.
@@ -49,6 +170,7 @@ fn accept(store: &[u8], tree: &[u8], made: usize) {
     field(c.applications as u64);
     field(made as u64);
     io::write_all(STDOUT_FILENO, b"\n");
+    entries(store, tree, made, c);
 }
 
 // A text too long is still read to its end, so that who writes it is not cut off; a proved loop has to end, so it counts down.
@@ -71,7 +193,7 @@ fn main() {
     }
     let mut store = [0u8; 32768];
     let mut tree = [0u8; 65536];
-    let r = parse::read(&input[..n], b"board", &mut store, &mut tree);
+    let r = validate::validate(&input[..n], b"board", &mut store, &mut tree);
     if r.number == 0 {
         accept(&store, &tree, r.made);
     } else {

@@ -86,7 +86,7 @@ boot = record { name = ascii "boot"; offset = 0; size = 262144 }
 abbrev profiles : Partition
 profiles = record { name = ascii "profiles"; offset = 262144; size = 1048576 }
 
-abbrev first : Component
+abbrev pub first : Component
 first =
     record {
       head = record { kind = kindApp; name = ascii "first"; pack = some (ascii "loader"); bin = none; file = none; filename = ascii "loader" };
@@ -95,7 +95,7 @@ first =
       load = record { loadAddress = none; entryPoint = none; entryOffset = none; headerVersion = none; withExt = false; extReserve = 0 };
     }
 
-abbrev desk : Application
+abbrev pub desk : Application
 desk =
     record {
       pack = ascii "desk";

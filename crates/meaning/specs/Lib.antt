@@ -22,6 +22,7 @@ pub mod Verdict
 pub mod Layout
 pub mod Rules
 pub mod Preset
+pub mod Plan
 pub mod Samples
 pub mod Table
 pub mod Example
@@ -31,3 +32,4 @@ pub mod CornersValues
 pub mod CornersDocument
 pub mod CornersRecords
 pub mod CornersRules
+pub mod CornersPlan

@@ -49,7 +49,7 @@ use Rattle.parse.specs.Views.{partitionList, componentList, applicationL
 use Rattle.parse.specs.Refused as refused
 use Rattle.parse.specs.Placed.{verdict-place}
 use Rattle.parse.specs.Refused.{lentText}
-use Rattle.parse.specs.Verdict.{Judging, frontFault, partitionFault, componentFault, applicationFault, verdict, outcomeOf, roomOf, Kept, ReadBy, Parsed}
+use Rattle.parse.specs.Verdict.{Judging, frontFault, partitionFault, componentFault, applicationFault, verdict, outcomeOf, roomOf, Kept, Settling, ReadBy, Parsed, reading}
 
 -- ---- the root
 pub root-spread : (room : Seq ℕ) (made place : ℕ) (f : Fields) → Rooms room made → f ≡ fieldsOf room made place → Spread room f
@@ -169,25 +169,30 @@ module _ (room store : Seq ℕ) (made : ℕ) (name : Seq ℕ) (lim : Limits) (a 
 pub limits-judging : (room : Seq ℕ) (made : ℕ) (lim : Limits) → Rooms room made → lim ≡ of01 → Judging room made lim
 limits-judging room made lim h e = record { rooms = h; partitions = rw e (omega arith); applications = rw e (omega arith) }
 
-module _ (name store tree : Seq ℕ) (made : ℕ) (lim : Limits) (el : lim ≡ of01) (v : Refusal) (ev : v ≡ verdict tree store made name lim) (h : Rooms tree made) where
-  verdict-is : verdict tree store made name of01 ≡ v
-  verdict-is = sym (ev ∙ ap (verdict tree store made name) el)
+-- a refusal of records is told at an entry
+pub verdict-settles : (name store tree : Seq ℕ) (made : ℕ) (lim : Limits) (v : Refusal) → lim ≡ of01 → v ≡ verdict tree store made name lim → Rooms tree made → Settling v made
+verdict-settles name store tree made lim v el ev h =
+    let p = orOther (field tree store (fieldsOf tree made 1) (ascii "partition")) (field tree store (fieldsOf tree made 1) (ascii "partitions")) in
+    let c = orOther (field tree store (fieldsOf tree made 1) (ascii "component")) (field tree store (fieldsOf tree made 1) (ascii "components")) in
+    record {
+      place = subst (λ (x : Refusal). x .place ≤ 70000) (sym (ev ∙ ap (verdict tree store made name) el))
+          (verdict-place tree store made (fieldsOf tree made 1) of01 (lentText name) 70000 (omega (arith, list-end made p, h .low)) (omega (arith, list-end made c, h .low)) (omega arith));
+      few = h .low;
+    }
 
-  low : v .place ≤ 70000
-  low =
-      let p = orOther (field tree store (fieldsOf tree made 1) (ascii "partition")) (field tree store (fieldsOf tree made 1) (ascii "partitions")) in
-      let c = orOther (field tree store (fieldsOf tree made 1) (ascii "component")) (field tree store (fieldsOf tree made 1) (ascii "components")) in
-      subst (λ (x : Refusal). x .place ≤ 70000) verdict-is
-      (verdict-place tree store made (fieldsOf tree made 1) of01 (lentText name) 70000 (omega (arith, list-end made p, h .low)) (omega (arith, list-end made c, h .low)) (omega arith))
+pub kept-records : (name store tree : Seq ℕ) (made : ℕ) (lim : Limits) (v : Refusal) (store' tree' : Seq ℕ) (r : Outcome) → lim ≡ of01 → v ≡ verdict tree store made name lim
+    → Kept v store tree made store' tree' r → Kept (reading name tree store made) store tree made store' tree' r
+kept-records name store tree made lim v store' tree' r el ev k = rw (← el, ← ev) k
 
-  pub kept-fine : v .number ≡ 0 → Kept name store tree made store tree (record { number = 0; section = 0; place = 0; made = made })
+module _ (store tree : Seq ℕ) (made : ℕ) (v : Refusal) (h : Settling v made) where
+  pub kept-fine : v .number ≡ 0 → Kept v store tree made store tree (record { number = 0; section = 0; place = 0; made = made })
   kept-fine z =
-      record { says = rw (verdict-is, eq-eqb (v .number) 0 z); store-is = rw (verdict-is, eq-eqb (v .number) 0 z); tree-is = rw (verdict-is, eq-eqb (v .number) 0 z); small = record { place = omega arith; made = h .low } }
+      record { says = rw (eq-eqb (v .number) 0 z); store-is = rw (eq-eqb (v .number) 0 z); tree-is = rw (eq-eqb (v .number) 0 z); small = record { place = omega arith; made = h .few } }
 
   pub kept-not : (v .number ≡ 0 → ⊥) → (store' tree' : Seq ℕ) → store' ≡ zeros (length store) → tree' ≡ zeros (length tree)
-      → Kept name store tree made store' tree' (record { number = v .number; section = v .section; place = v .place; made = 0 })
+      → Kept v store tree made store' tree' (record { number = v .number; section = v .section; place = v .place; made = 0 })
   kept-not z store' tree' s t =
-      record { says = rw (verdict-is, ne-eqb (v .number) 0 z); store-is = rw (verdict-is, ne-eqb (v .number) 0 z) s; tree-is = rw (verdict-is, ne-eqb (v .number) 0 z) t; small = record { place = low; made = omega arith } }
+      record { says = rw (ne-eqb (v .number) 0 z); store-is = rw (ne-eqb (v .number) 0 z) s; tree-is = rw (ne-eqb (v .number) 0 z) t; small = record { place = h .place; made = omega arith } }
 
 -- ---- reading
 pub read-rooms : (store tree store' tree' : Seq ℕ) (m : Answer Doc) (r : Read) → rooms.Cleared store tree store' tree' m r → (st : State) → r ≡ reads.Fine st → Rooms tree' (st .made)
@@ -200,12 +205,12 @@ read-rooms store tree store' tree' (accepted d) r k st e =
 read-rooms store tree store' tree' (refused f i q) r k st e =
     let x : reads.Fine st ≡ reads.Fault (numberOf f) q = sym e ∙ k .told .says in let z : _≡_ {A = ℕ} 0 1 = cc in absurd (omega arith)
 
-module _ (text name store tree store' tree' : Seq ℕ) (r : Read) (m : Answer Doc)
+module _ (judge : Seq ℕ → Seq ℕ → ℕ → Refusal) (text store tree store' tree' : Seq ℕ) (r : Read) (m : Answer Doc)
     (c : rooms.Cleared (zeros (length store)) (zeros (length tree)) store' tree' m r) (em : m ≡ rooms.judged text (length store) (length tree)) where
-  pub read-on : (st : State) (store'' tree'' : Seq ℕ) (o : Outcome) → r ≡ reads.Fine st → Kept name store' tree' (st .made) store'' tree'' o → Parsed text name store tree store'' tree'' o
+  pub read-on : (st : State) (store'' tree'' : Seq ℕ) (o : Outcome) → r ≡ reads.Fine st → Kept (judge tree' store' (st .made)) store' tree' (st .made) store'' tree'' o → Parsed judge text store tree store'' tree'' o
   read-on st store'' tree'' o e k = record { by = rw (← em) (go m c); small = k .small }
     where
-      go : (n : Answer Doc) → rooms.Cleared (zeros (length store)) (zeros (length tree)) store' tree' n r → ReadBy n name (zeros (length store)) (zeros (length tree)) store'' tree'' o
+      go : (n : Answer Doc) → rooms.Cleared (zeros (length store)) (zeros (length tree)) store' tree' n r → ReadBy judge n (zeros (length store)) (zeros (length tree)) store'' tree'' o
       go (accepted d) g =
           let x : reads.Fine st ≡ rooms.readOf (accepted d) = sym e ∙ g .told .says in
           let y : _≡_ {A = State} st (record { used = length (d .bytes); made = length (d .slots) }) = cc in
@@ -214,16 +219,19 @@ module _ (text name store tree store' tree' : Seq ℕ) (r : Read) (m : Answer Do
           record { carries = rw (← (g .tree-is)) (g .carried); few = omega (arith, z, s .1); kept = rw (← z, ← (g .store-is), ← (g .tree-is)) k }
       go (refused f i q) g = let x : reads.Fine st ≡ reads.Fault (numberOf f) q = sym e ∙ g .told .says in let z : _≡_ {A = ℕ} 0 1 = cc in absurd (omega arith)
 
-  pub read-refused : (k l : ℕ) → r ≡ reads.Fault k l → Parsed text name store tree store' tree' (record { number = k; section = 0; place = l; made = 0 })
-  read-refused k l e = let t : rooms.Small 65536 (reads.Fault k l) = rw e at (c .told .small) in record { by = rw (← em) (go m c); small = record { place = omega (arith, t); made = omega arith } }
+  unread-by : (k l : ℕ) → r ≡ reads.Fault k l → Parsed judge text store tree store' tree' (record { number = k; section = 0; place = l; made = 0 })
+  unread-by k l e = let t : rooms.Small 65536 (reads.Fault k l) = rw e at (c .told .small) in record { by = rw (← em) (go m c); small = record { place = omega (arith, t); made = omega arith } }
     where
       go : (n : Answer Doc) → rooms.Cleared (zeros (length store)) (zeros (length tree)) store' tree' n r
-          → ReadBy n name (zeros (length store)) (zeros (length tree)) store' tree' (record { number = k; section = 0; place = l; made = 0 })
+          → ReadBy judge n (zeros (length store)) (zeros (length tree)) store' tree' (record { number = k; section = 0; place = l; made = 0 })
       go (accepted d) g = let x : reads.Fault k l ≡ rooms.readOf (accepted d) = sym e ∙ g .told .says in let z : _≡_ {A = ℕ} 0 1 = cc in absurd (omega arith)
       go (refused f i q) g =
           let x : reads.Fault k l ≡ reads.Fault (numberOf f) q = sym e ∙ g .told .says in
           let u : k ≡ numberOf f = cc in let w : l ≡ q = cc in
           (rw (u, w, g .told .text), g .store-is, g .tree-is)
+
+  pub read-refused : (k l : ℕ) (o : Outcome) → r ≡ reads.Fault k l → o ≡ record { number = k; section = 0; place = l; made = 0 } → Parsed judge text store tree store' tree' o
+  read-refused k l o e eo = rw eo (unread-by k l e)
 
 -- ---- a record by its number
 module _ (room store : Seq ℕ) (made i : ℕ) (l : List) (r : Found) where
@@ -323,12 +331,12 @@ module _ (room store : Seq ℕ) (made n : ℕ) where
     unfolding goodApplication
     application-wrong r e z = rw (← e, ne-eqb (r .fault) 0 z)
 
--- two results that meet the promise of reading are equal, answer and both rooms
-pub parsed-decides : (text name store tree store₁ tree₁ store₂ tree₂ : Seq ℕ) (r₁ r₂ : Outcome) → Parsed text name store tree store₁ tree₁ r₁ → Parsed text name store tree store₂ tree₂ r₂
-    → (r₁ ≡ r₂) × (store₁ ≡ store₂) × (tree₁ ≡ tree₂)
-parsed-decides text name store tree store₁ tree₁ store₂ tree₂ r₁ r₂ a b = go (rooms.judged text (length store) (length tree)) (a .by) (b .by)
+-- two results that meet the promise of a judge are equal, answer and both rooms
+pub parsed-decides : (judge : Seq ℕ → Seq ℕ → ℕ → Refusal) (text store tree store₁ tree₁ store₂ tree₂ : Seq ℕ) (r₁ r₂ : Outcome) → Parsed judge text store tree store₁ tree₁ r₁
+    → Parsed judge text store tree store₂ tree₂ r₂ → (r₁ ≡ r₂) × (store₁ ≡ store₂) × (tree₁ ≡ tree₂)
+parsed-decides judge text store tree store₁ tree₁ store₂ tree₂ r₁ r₂ a b = go (rooms.judged text (length store) (length tree)) (a .by) (b .by)
   where
-    go : (m : Answer Doc) → ReadBy m name (zeros (length store)) (zeros (length tree)) store₁ tree₁ r₁ → ReadBy m name (zeros (length store)) (zeros (length tree)) store₂ tree₂ r₂
+    go : (m : Answer Doc) → ReadBy judge m (zeros (length store)) (zeros (length tree)) store₁ tree₁ r₁ → ReadBy judge m (zeros (length store)) (zeros (length tree)) store₂ tree₂ r₂
         → (r₁ ≡ r₂) × (store₁ ≡ store₂) × (tree₁ ≡ tree₂)
     go (accepted d) h k =
         (h .kept .says ∙ sym (k .kept .says), h .kept .store-is ∙ sym (k .kept .store-is), h .kept .tree-is ∙ sym (k .kept .tree-is))

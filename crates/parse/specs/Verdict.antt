@@ -56,25 +56,35 @@ pub record Small (r : Outcome) : Type 0 where
   pub made : r .made ≤ 65000
 
 -- the rooms as they were, or all zero
-pub record Kept (name store tree : List ℕ) (made : ℕ) (store' tree' : List ℕ) (r : Outcome) : Type 0 where
-  pub says : r ≡ outcomeOf made (verdict tree store made name of01)
-  pub store-is : store' ≡ roomOf (verdict tree store made name of01) store
-  pub tree-is : tree' ≡ roomOf (verdict tree store made name of01) tree
+pub record Kept (v : Refusal) (store tree : List ℕ) (made : ℕ) (store' tree' : List ℕ) (r : Outcome) : Type 0 where
+  pub says : r ≡ outcomeOf made v
+  pub store-is : store' ≡ roomOf v store
+  pub tree-is : tree' ≡ roomOf v tree
   pub small : Small r
 
--- a tree's rooms: its values stand in them, and then its records are judged
-pub record Judged (d : Doc) (name store tree store' tree' : List ℕ) (r : Outcome) : Type 0 where
+-- a refusal that is told, and values that stand in a room
+pub record Settling (v : Refusal) (made : ℕ) : Type 0 where
+  pub place : v .place ≤ 70000
+  pub few : made ≤ 65000
+
+-- a tree's rooms: its values stand in them, and then they are judged
+pub record Judged (judge : List ℕ → List ℕ → ℕ → Refusal) (d : Doc) (store tree store' tree' : List ℕ) (r : Outcome) : Type 0 where
   pub carries : Carries (rooms.treeOf tree (accepted d)) (d .slots)
   pub few : length (d .slots) ≤ 65000
-  pub kept : Kept name (rooms.storeOf store (accepted d)) (rooms.treeOf tree (accepted d)) (length (d .slots)) store' tree' r
+  pub kept : Kept (judge (rooms.treeOf tree (accepted d)) (rooms.storeOf store (accepted d)) (length (d .slots)))
+      (rooms.storeOf store (accepted d)) (rooms.treeOf tree (accepted d)) (length (d .slots)) store' tree' r
 
 -- what the text's tree comes to
-abbrev pub ReadBy : Answer Doc → List ℕ → List ℕ → List ℕ → List ℕ → List ℕ → Outcome → Type 0
-ReadBy (accepted d) name store tree store' tree' r = Judged d name store tree store' tree' r
-ReadBy (refused f section line) name store tree store' tree' r =
+abbrev pub ReadBy : (List ℕ → List ℕ → ℕ → Refusal) → Answer Doc → List ℕ → List ℕ → List ℕ → List ℕ → Outcome → Type 0
+ReadBy judge (accepted d) store tree store' tree' r = Judged judge d store tree store' tree' r
+ReadBy judge (refused f section line) store tree store' tree' r =
     (r ≡ record { number = numberOf f; section = section; place = line; made = 0 }) × (store' ≡ zeros (length store)) × (tree' ≡ zeros (length tree))
 
--- level 2 of reading: 17, 1, 2, the lines, then the records
-pub record Parsed (text name store tree store' tree' : List ℕ) (r : Outcome) : Type 0 where
-  pub by : ReadBy (rooms.judged text (length store) (length tree)) name (zeros (length store)) (zeros (length tree)) store' tree' r
+-- level 2 of reading: 17, 1, 2, the lines, then what a judge says of the rooms
+pub record Parsed (judge : List ℕ → List ℕ → ℕ → Refusal) (text store tree store' tree' : List ℕ) (r : Outcome) : Type 0 where
+  pub by : ReadBy judge (rooms.judged text (length store) (length tree)) (zeros (length store)) (zeros (length tree)) store' tree' r
   pub small : Small r
+
+-- the judge of records
+abbrev pub reading : List ℕ → List ℕ → List ℕ → ℕ → Refusal
+reading name tree store made = verdict tree store made name of01

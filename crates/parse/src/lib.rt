@@ -17,7 +17,7 @@ ghost use Prim.Native.Nat.{_≤_};
 ghost use lib.ListN.{length};
 ghost use Rattle.tree.specs.Doors.{Rooms};
 ghost use Rattle.parse.specs.Verdict as verdicts;
-ghost use Rattle.parse.specs.Verdict.{Judging, Kept, Parsed};
+ghost use Rattle.parse.specs.Verdict.{Judging, Settling, Kept, Parsed};
 ghost use Rattle.parse.specs.Refused as refused;
 ghost use Rattle.parse.specs.Refusals as refusals;
 
@@ -106,7 +106,7 @@ fn check_applications(tree: &[u8], store: &[u8], made: usize, limits: Limits) ->
 }
 
 // The first refusal of the records, in 01's order.
-fn check(tree: &[u8], store: &[u8], made: usize, name: &[u8], limits: Limits) -> Refusal
+pub fn check(tree: &[u8], store: &[u8], made: usize, name: &[u8], limits: Limits) -> Refusal
     requires { ⌜ Judging (now tree) made limits ⌝ }
     ensures { λ r. ⌜ r ≡ verdicts.verdict (now (tree .entry)) (now (store .entry)) made (now (name .entry)) limits ⌝ }
 {
@@ -133,13 +133,24 @@ pub struct Outcome {
     pub made: usize,
 }
 
-// The records of a tree that was read; a refusal leaves both rooms all zero.
-fn keep(name: &[u8], store: &mut [u8], tree: &mut [u8], made: usize) -> Outcome
-    requires { ⌜ Rooms (now tree) made ⌝ }
-    ensures { λ r. ⌜ Kept (now (name .entry)) (now (store .entry)) (now (tree .entry)) made (now (store .exit)) (now (tree .exit)) r ⌝ }
+// A text that has no tree.
+pub fn unread(number: u32, line: usize) -> Outcome
+    ensures { λ r. ⌜ r ≡ record { number = number; section = 0; place = line; made = 0 } ⌝ }
 {
-    let r = check(tree, store, made, name, meaning::of01());
-    if r.number == 0 {
+    Outcome {
+        number: number,
+        section: 0,
+        place: line,
+        made: 0,
+    }
+}
+
+// What a judgement leaves: the rooms as they are; a refusal, all zero.
+pub fn settle(v: Refusal, store: &mut [u8], tree: &mut [u8], made: usize) -> Outcome
+    requires { ⌜ Settling v made ⌝ }
+    ensures { λ r. ⌜ Kept v (now (store .entry)) (now (tree .entry)) made (now (store .exit)) (now (tree .exit)) r ⌝ }
+{
+    if v.number == 0 {
         return Outcome {
             number: 0,
             section: 0,
@@ -150,25 +161,29 @@ fn keep(name: &[u8], store: &mut [u8], tree: &mut [u8], made: usize) -> Outcome
     slices::zero(store);
     slices::zero(tree);
     Outcome {
-        number: r.number,
-        section: r.section,
-        place: r.place,
+        number: v.number,
+        section: v.section,
+        place: v.place,
         made: 0,
     }
 }
 
+// The records of a tree that was read.
+fn keep(name: &[u8], store: &mut [u8], tree: &mut [u8], made: usize) -> Outcome
+    requires { ⌜ Rooms (now tree) made ⌝ }
+    ensures { λ r. ⌜ Kept (verdicts.reading (now (name .entry)) (now (tree .entry)) (now (store .entry)) made) (now (store .entry)) (now (tree .entry)) made (now (store .exit)) (now (tree .exit)) r ⌝ }
+{
+    let v = check(tree, store, made, name, meaning::of01());
+    settle(v, store, tree, made)
+}
+
 // Reads a preset into the two rooms: the text's tree, then its records. A refusal leaves both rooms all zero.
 pub fn read(text: &[u8], name: &[u8], store: &mut [u8], tree: &mut [u8]) -> Outcome
-    ensures { λ r. ⌜ Parsed (now (text .entry)) (now (name .entry)) (now (store .entry)) (now (tree .entry)) (now (store .exit)) (now (tree .exit)) r ⌝ }
+    ensures { λ r. ⌜ Parsed (verdicts.reading (now (name .entry))) (now (text .entry)) (now (store .entry)) (now (tree .entry)) (now (store .exit)) (now (tree .exit)) r ⌝ }
 {
     let r = document::read_tree(text, store, tree);
     match r {
         Read::Fine(st) => keep(name, store, tree, st.made),
-        Read::Fault { number, line } => Outcome {
-            number: number,
-            section: 0,
-            place: line,
-            made: 0,
-        },
+        Read::Fault { number, line } => unread(number, line),
     }
 }

@@ -9,3 +9,4 @@ pub mod Saying
 pub mod Checking
 pub mod Whole
 pub mod Items
+pub mod Standing

@@ -4,7 +4,7 @@ use mathlib.Core.Bool.{Bool}
 use mathlib.Core.List.{List, [], _∷_, _++_}
 use mathlib.Core.Path.{_≡_}
 use lib.Dec.{ltb}
-use lib.ListN.{length, take, drop}
+use lib.ListN.{length, getD, take, drop}
 use Rattle.meaning.specs.Base.{pick, before, cut}
 use Rattle.meaning.specs.Quote.{upTo}
 use Rattle.meaning.specs.Lines.{dropCr, physical, kept, keptLines}
@@ -79,3 +79,13 @@ pub record Lays (s room room' : List ℕ) (r : ℕ) : Type 0 where
   pub most : r ≤ length s + 1
   pub used : r ≡ length (laid s)
   pub left : room' ≡ over (laid s) room
+
+-- a byte that neither begins a comment nor may belong to a line end
+pub record Bare (b : ℕ) : Type 0 where
+  pub comment : b ≡ 35 → ⊥
+  pub cr : b ≡ 13 → ⊥
+
+-- the first n bytes are such
+pub record Bares (s : List ℕ) (n : ℕ) : Type 0 where
+  pub fits : n ≤ length s
+  pub all : (k : ℕ) → k < n → Bare (getD s k 0)

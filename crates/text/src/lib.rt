@@ -11,7 +11,7 @@ ghost use Rattle.meaning.specs.Quote as quotes;
 ghost use Rattle.meaning.specs.Lines as meant;
 ghost use Rattle.meaning.specs.Values as values;
 ghost use Rattle.slices.specs.Found.{Found};
-ghost use Rattle.text.specs.Laid.{Begins, Code, Keeps, Fitting, Lays1, Lays, ended, over};
+ghost use Rattle.text.specs.Laid.{Begins, Code, Keeps, Fitting, Lays1, Lays, Bare, Bares, laid, ended, over};
 ghost use Rattle.text.specs.Walk as walk;
 ghost use Rattle.text.specs.Answers.{Between, Checks, Roomy, Reads};
 ghost use Rattle.text.specs.Item.{Item};
@@ -366,6 +366,46 @@ pub fn lay(text: &[u8], scratch: &mut [u8]) -> usize
         j += p.written;
     }
     j
+}
+
+// 0 only for a byte that stays as it is where lines are laid.
+fn mark(b: u8) -> u8
+    ensures { λ r. ⌜ (r ≡ 0 → Bare b) ⌝ }
+{
+    if b == 35 {
+        return 1;
+    }
+    if b == 13 {
+        return 1;
+    }
+    0
+}
+
+// Whether there is no `#` and no CR: of all bytes together, since that takes many at once.
+fn bare(s: &[u8]) -> bool
+    ensures { λ r. ⌜ (r ≡ true → Bares (now (s .entry)) (length (now (s .entry)))) ⌝ }
+{
+    let mut i = 0;
+    let mut m: u8 = 0;
+    while i < s.len() {
+        m = m | mark(s[i]);
+        i += 1;
+    }
+    m == 0
+}
+
+// Whether a text is surely laid as it stands.
+pub fn clean(s: &[u8]) -> bool
+    ensures { λ r. ⌜ (r ≡ true → laid (now (s .entry)) ≡ now (s .entry)) ⌝ }
+{
+    let n = s.len();
+    if n == 0 {
+        return true;
+    }
+    if s[n - 1] == 10 {
+        return bare(s);
+    }
+    false
 }
 
 // What the joined line at the head of a laid text comes to: the state is carried onward, so each byte is looked at once.

@@ -164,6 +164,22 @@ module _ (limit : ℕ) (tree store : List ℕ) (made p : ℕ) (key : Key) (at : 
     there = omega (arith, h .path .there);
   }
 
+  -- a key of one segment
+  module _ (o : key .n ≡ 1) where
+    one-lies : Lies store at (getD (key .ends) 0 0)
+    one-lies = rising-at store at (key .ends) 0 (key .n) (omega arith) (omega (arith, h .path .there)) (h .path .rising)
+
+    pub one-enters : Enters limit tree store made at (getD (key .ends) 0 0)
+    one-enters = record { grows = h .path .grows; lies = one-lies }
+
+    pub one-hangs : (n : ℕ) → n < made → Hangs limit tree made at (getD (key .ends) 0 0) n
+    one-hangs n l = record { keys = record { grows = h .path .grows; up = one-lies .up; low = one-lies .low }; below = l }
+
+    pub one-done : (f : List Slot → ℕ → Seg → Grown) (tree' : List ℕ) (r : code.Grown)
+        → Grew limit tree tree' made (f (slotsOf tree made) p (segOf at (getD (key .ends) 0 0))) r
+        → Grew limit tree tree' made (toLastS limit store f (segsOf at (take (key .n) (key .ends))) (slotsOf tree made) p) r
+    one-done f tree' r w = rw (o, segs-snoc at (key .ends) 0 (omega (arith, h .path .there))) w
+
   whole-path : (f : List Slot → ℕ → Seg → Grown) → toLastS limit store f (segsOf at (take (key .n) (key .ends))) (slotsOf tree made) p
       ≡ onward (downS limit store (segsOf at (take (key .n - 1) (key .ends))) (slotsOf tree made) p)
       (λ ws q. f ws q (lastSeg key at))

@@ -263,6 +263,9 @@ pub fn push_path(
     requires { ⌜ Keyed limit (now tree) (now store) made key at ⌝ }
     ensures { λ r. ⌜ Grew limit (now (tree .entry)) (now (tree .exit)) made (toLastS limit (now (store .entry)) (pushS limit (now (store .entry))) (segsOf at (take (key .n) (key .ends))) (slotsOf (now (tree .entry)) made) 1) r ⌝ }
 {
+    if key.n == 1 {
+        return push(tree, store, made, limit, 1, at, key.ends[0]);
+    }
     let g = down(tree, store, made, limit, 1, key, at, key.n - 1);
     match g {
         Grown::At { made: m, place: q } => push_last(tree, store, m, limit, q, key, at),
@@ -285,6 +288,9 @@ pub fn assign(
     requires { ⌜ Assigns limit (now tree) (now store) made key at n ⌝ }
     ensures { λ r. ⌜ Grew limit (now (tree .entry)) (now (tree .exit)) made (toLastS limit (now (store .entry)) (hangS n) (segsOf at (take (key .n) (key .ends))) (slotsOf (now (tree .entry)) made) p) r ⌝ }
 {
+    if key.n == 1 {
+        return hang_up(tree, made, limit, p, at, key.ends[0], n);
+    }
     let g = down(tree, store, made, limit, p, key, at, key.n - 1);
     match g {
         Grown::At { made: m, place: q } => hang_last(tree, store, m, limit, q, key, at, n),

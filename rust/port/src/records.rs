@@ -164,6 +164,16 @@ mod sys {
             tree: *mut u8,
             tree_room: usize,
         ) -> Outcome;
+        pub fn preset_validate(
+            text: *const u8,
+            n: usize,
+            name: *const u8,
+            name_n: usize,
+            store: *mut u8,
+            store_room: usize,
+            tree: *mut u8,
+            tree_room: usize,
+        ) -> Outcome;
         pub fn preset_counts(
             tree: *const u8,
             room: usize,
@@ -254,13 +264,33 @@ mod sys {
 
 /// Reads a preset; `name` is the board's where the text names none.
 pub fn read(text: &[u8], name: &[u8], store: &mut [u8], tree: &mut [u8]) -> Outcome {
+    asked(sys::preset_read, text, name, store, tree)
+}
+
+/// The same, and refuses one that breaks a rule.
+pub fn validate(text: &[u8], name: &[u8], store: &mut [u8], tree: &mut [u8]) -> Outcome {
+    asked(sys::preset_validate, text, name, store, tree)
+}
+
+type Ask = unsafe extern "C" fn(
+    *const u8,
+    usize,
+    *const u8,
+    usize,
+    *mut u8,
+    usize,
+    *mut u8,
+    usize,
+) -> Outcome;
+
+fn asked(ask: Ask, text: &[u8], name: &[u8], store: &mut [u8], tree: &mut [u8]) -> Outcome {
     let (to, room) = (store.as_mut_ptr(), store.len());
     let (slots, places) = (tree.as_mut_ptr(), tree.len());
     let (from, n) = (text.as_ptr(), text.len());
     let (board, letters) = (name.as_ptr(), name.len());
     // SAFETY: all four are live slices of their lengths and the borrow rules keep the lent rooms
-    // apart from the rest; preset_read has no precondition.
-    unsafe { sys::preset_read(from, n, board, letters, to, room, slots, places) }
+    // apart from the rest; neither of the two functions has a precondition.
+    unsafe { ask(from, n, board, letters, to, room, slots, places) }
 }
 
 /// Writes the fixed word of that number at the head of `out` and zeros behind it, and says how

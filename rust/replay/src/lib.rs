@@ -2,8 +2,10 @@
 pub mod answer;
 pub mod ask;
 pub mod document;
+pub mod met;
 pub mod model;
 pub mod random;
 pub mod records;
+pub mod validate;
 pub mod value;
 pub mod vector;

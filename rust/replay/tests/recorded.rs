@@ -1,11 +1,14 @@
 //! The port against the recorded answers of the original.
-use replay::{ask, document, records, value, vector};
+use replay::met::Met;
+use replay::records::answer::Read;
+use replay::records::ask::{Host, VALIDATE};
+use replay::{ask, document, records, validate, value, vector};
 
 fn lines(name: &str) -> Vec<String> {
     let all = std::fs::read_to_string(vector::file(name)).expect(name);
     let kept = all.lines().filter(|l| !l.starts_with("# "));
     let lines: Vec<_> = kept.map(String::from).collect();
-    assert!(lines.len() >= 300, "only {} answers", lines.len());
+    assert!(lines.len() >= 150, "only {} answers", lines.len());
     lines
 }
 
@@ -49,21 +52,35 @@ fn every_recorded_document() {
 }
 
 // The definitions as well as the port; they alone have sections and places.
-#[test]
-fn every_recorded_preset() {
-    let (mut host, mut met) = (records::ask::Host::default(), [0; 26]);
-    for line in lines("records.txt") {
+// How often each number is met.
+fn presets(file: &str, defined: fn(&[u8], &[u8]) -> Read, mut host: Host) -> Met {
+    let mut met = Met::default();
+    for line in lines(file) {
         let (name, text, recorded) =
             records::vector::read(&line).unwrap_or_else(|e| panic!("{e} in {line}"));
         let again = records::vector::write(&name, &text, &recorded);
         assert_eq!(again, line, "read and written again");
         let text = document::vector::joined(&text);
-        let want = records::model::read(&text, &name);
-        let defined = want.clone().map(|answer| (answer.text.made, answer.preset));
-        assert_eq!(defined, recorded, "{line}: definition against record");
+        let want = defined(&text, &name);
+        let shown = want.clone().map(|answer| (answer.text.made, answer.preset));
+        assert_eq!(shown, recorded, "{line}: definition against record");
         let got = host.judge_fully(&text, &name, &want);
-        let heard = got.unwrap_or_else(|e| panic!("{line}: port against record, {e}"));
-        met[heard.err().unwrap_or(0) as usize] += 1;
+        got.map_err(|e| panic!("{line}: port against record, {e}"))
+            .ok();
+        met.count(want.err().map_or(0, |refusal| refusal.number));
     }
-    assert!((20..=25).all(|number| met[number] > 0), "{met:?}");
+    met
+}
+
+#[test]
+fn every_recorded_preset() {
+    let met = presets("records.txt", records::model::read, Host::default());
+    assert_eq!(met.seldom(20..=25, 1), None, "{}", met.summary());
+}
+
+#[test]
+fn every_recorded_verdict() {
+    let met = presets("validate.txt", validate::model::read, Host::new(VALIDATE));
+    let seldom = met.seldom(validate::model::NUMBERS, 3);
+    assert_eq!(seldom, None, "{}", met.summary());
 }

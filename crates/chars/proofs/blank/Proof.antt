@@ -1,13 +1,27 @@
 use borrow.Author.Needs.{needs}
-use Rattle.chars.proofs.Spaces.{all-white}
+use Rattle.chars.proofs.Ends.{blank-none, blank-dark, blank-told}
 use Rattle.chars.proofs.blank.Statement.{statement}
 use Rattle.chars.proofs.blank.Tie as tie
 
-trim-start-requires : tie.Need-trim-start-requires
-trim-start-requires c κs = search needs
-
 returns : tie.Need-returns
-returns c = search (needs, all-white)
+returns c = search (needs, blank-none)
+
+shared-slice-read-dark : tie.Need-shared-slice-read-dark
+shared-slice-read-dark c = search needs
+
+dark-requires : tie.Need-dark-requires
+dark-requires c κs = search needs
+
+returns-2 : tie.Need-returns-2
+returns-2 c = search (needs, blank-dark)
+
+trim-wide-requires : tie.Need-trim-wide-requires
+trim-wide-requires c κs = search needs
+
+returns-3 : tie.Need-returns-3
+returns-3 c = search (needs, blank-told)
 
 pub blank-spec : {M : Type 1} → statement M
-blank-spec = tie.close (tie.spec trim-start-requires returns)
+blank-spec =
+    tie.close
+    (tie.spec returns shared-slice-read-dark dark-requires returns-2 trim-wide-requires returns-3)

@@ -1,5 +1,6 @@
 use borrow.Author.Needs.{needs}
-use Rattle.chars.proofs.Spaces.{Ending, ending-start, prefix-count, end-ascii, end-plain, end-bound, end-on, end-halt, end-end}
+use Rattle.chars.specs.Trimmed.{Ending}
+use Rattle.chars.proofs.Spaces.{ending-start, prefix-count, end-ascii, end-plain, end-bound, end-on, end-halt, end-end}
 use Rattle.chars.proofs.trim_end.Statement.{statement}
 use Rattle.chars.proofs.trim_end.Tie as tie
 

@@ -1,5 +1,6 @@
 use borrow.Author.Needs.{needs}
-use Rattle.chars.proofs.Spaces.{Starting, start-fits, start-ascii, start-plain, start-on, start-stop, start-end}
+use Rattle.chars.specs.Trimmed.{Starting}
+use Rattle.chars.proofs.Spaces.{start-fits, start-ascii, start-plain, start-on, start-stop, start-end}
 use lib.ListN.{length}
 use Prim.Native.Nat.{_-_}
 use Rattle.chars.proofs.trim_start.Statement.{statement}

@@ -1,5 +1,5 @@
 use borrow.Author.Needs.{needs}
-use Rattle.chars.proofs.Eights.{check-eight}
+use Rattle.chars.proofs.Eights.{check-eight, all-ascii}
 use Rattle.chars.proofs.Spaces.{Checking, check-fits, check-on, check-stop, check-end}
 use lib.ListN.{length}
 use Prim.Native.Nat.{_-_}
@@ -11,6 +11,12 @@ Inv-loop s i₀ i = Checking s i
 
 abbrev μ-loop : tie.MeasureT-loop
 μ-loop s i₀ i = length s - i
+
+ascii-requires : tie.Need-ascii-requires Inv-loop μ-loop
+ascii-requires c κs = search needs
+
+returns : tie.Need-returns Inv-loop μ-loop
+returns c = search (needs, all-ascii)
 
 loop-holds : tie.Need-loop-holds Inv-loop μ-loop
 loop-holds c = search needs
@@ -39,8 +45,8 @@ part-width-end c = search needs
 width-requires : tie.Need-width-requires Inv-loop μ-loop
 width-requires c κs = search needs
 
-returns : tie.Need-returns Inv-loop μ-loop
-returns c = search (needs, check-stop)
+returns-2 : tie.Need-returns-2 Inv-loop μ-loop
+returns-2 c = search (needs, check-stop)
 
 add-i-2 : tie.Need-add-i-2 Inv-loop μ-loop
 add-i-2 c = search (needs, check-fits)
@@ -51,8 +57,8 @@ loop-less-2 c = search needs
 loop-again-2 : tie.Need-loop-again-2 Inv-loop μ-loop
 loop-again-2 c = search (needs, check-on)
 
-returns-2 : tie.Need-returns-2 Inv-loop μ-loop
-returns-2 c = search (needs, check-end)
+returns-3 : tie.Need-returns-3 Inv-loop μ-loop
+returns-3 c = search (needs, check-end)
 
 pub valid-spec : {M : Type 1} → statement M
 valid-spec =
@@ -60,6 +66,8 @@ valid-spec =
     (tie.spec
     Inv-loop
     μ-loop
+    ascii-requires
+    returns
     loop-holds
     eight-requires
     add-i
@@ -69,8 +77,8 @@ valid-spec =
     part-width-start
     part-width-end
     width-requires
-    returns
+    returns-2
     add-i-2
     loop-less-2
     loop-again-2
-    returns-2)
+    returns-3)

@@ -6,44 +6,49 @@ use Rattle.parse.proofs.read.Reads as reads
 use Rattle.parse.proofs.read.Lts as lts
 use Rattle.document.proofs.read_tree.Reads as read-tree-reads
 use Rattle.parse.proofs.keep.Reads as keep-reads
+use Rattle.parse.proofs.unread.Reads as unread-reads
 
--- src/lib.rt:163:9
+-- src/lib.rt:184:9
 read-tree-requires : tie.Need-read-tree-requires
 read-tree-requires c κs = search needs
 
--- src/lib.rt:165:20
+-- src/lib.rt:186:20
 enum-known-r : tie.Need-enum-known-r
 enum-known-r c = search needs
 
--- src/lib.rt:165:27
+-- src/lib.rt:186:27
 keep-requires : tie.Need-keep-requires
 keep-requires c κs = search (needs, read-rooms)
 
--- src/lib.rt:166:23
+-- src/lib.rt:187:23
 enum-known-r-2 : tie.Need-enum-known-r-2
 enum-known-r-2 c = search needs
 
--- src/lib.rt:160:1
+-- src/lib.rt:187:41
+unread-requires : tie.Need-unread-requires
+unread-requires c κs = search needs
+
+-- src/lib.rt:181:1
 same-length : tie.Need-same-length
 same-length c = search needs
 
--- src/lib.rt:160:1
+-- src/lib.rt:181:1
 same-length-2 : tie.Need-same-length-2
 same-length-2 c = search needs
 
--- src/lib.rt:160:1
+-- src/lib.rt:181:1
 returns : tie.Need-returns
 returns c = search (needs, read-on)
 
--- src/lib.rt:160:1
+-- src/lib.rt:181:1
 same-length-3 : tie.Need-same-length-3
 same-length-3 c = search needs
 
--- src/lib.rt:160:1
+-- src/lib.rt:181:1
 same-length-4 : tie.Need-same-length-4
 same-length-4 c = search needs
 
--- src/lib.rt:160:1
+-- src/lib.rt:181:1
 returns-2 : tie.Need-returns-2
 returns-2 c = search (needs, read-refused)
 
@@ -55,6 +60,7 @@ read-spec =
     enum-known-r
     keep-requires
     enum-known-r-2
+    unread-requires
     same-length
     same-length-2
     returns

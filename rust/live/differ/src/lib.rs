@@ -5,4 +5,5 @@ pub mod document;
 pub mod original;
 pub mod record;
 pub mod records;
+pub mod validate;
 pub mod value;

@@ -1,5 +1,6 @@
 //! The recorded answers: of each kind picked texts and a fixed number of random ones.
-use crate::{corners, document, original, records, value};
+use crate::records::compare::Question;
+use crate::{corners, document, original, records, validate, value};
 use replay::document::vector::{Parts, joined};
 use replay::random::Rng;
 use replay::value::model;
@@ -112,18 +113,42 @@ pub const RECORDS: Record = Record {
     make: replay::records::random::text,
     lengths: 20..=500,
     within: |_| true,
-    line: |t| {
-        let (text, names) = (joined(t), replay::records::random::NAMES);
-        let name = names[text.len() % names.len()];
-        let answer = records::compare::answer(&text, name);
-        let read = answer.unwrap_or_else(|e| panic!("{}: {e}", text.escape_ascii()));
-        let recorded = read.map(|answer| (answer.text.made, answer.preset));
-        replay::records::vector::write(name, t, &recorded)
-    },
+    line: |t| preset_line(&records::compare::RECORDS, t),
 };
 
+pub const VALIDATE: Record = Record {
+    file: "validate.txt",
+    asked: || {
+        let corners = validate::corners::CORNERS.len();
+        let faults = 2 * replay::validate::faults::FAULTS.len();
+        format!(
+            "Preset::parse and validate, the records or the number of the message, to {corners} \
+             picked presets, the presets of presets/, {faults} with one fault"
+        )
+    },
+    note: "# Section, place and count of values are those of rust/replay/src/validate/model.rs, which \
+           the names in messages bear out.\n",
+    picked: validate::corners::picked,
+    seed: 19,
+    random: 20,
+    make: replay::validate::random::text,
+    lengths: 150..=600,
+    within: |_| true,
+    line: |t| preset_line(&validate::compare::VALIDATE, t),
+};
+
+// What a question about a preset is answered with, a name being lent that goes by the text.
+fn preset_line(asked: &Question, t: &Parts) -> String {
+    let (text, names) = (joined(t), replay::records::random::NAMES);
+    let name = names[text.len() % names.len()];
+    let answer = records::compare::answer(asked, &text, name);
+    let read = answer.unwrap_or_else(|e| panic!("{}: {e}", text.escape_ascii()));
+    let recorded = read.map(|answer| (answer.text.made, answer.preset));
+    replay::records::vector::write(name, t, &recorded)
+}
+
 /// All files.
-pub const ALL: [Record; 4] = [TEXT, VALUE, DOCUMENT, RECORDS];
+pub const ALL: [Record; 5] = [TEXT, VALUE, DOCUMENT, RECORDS, VALIDATE];
 
 /// Texts in one part each.
 pub fn plain(texts: &[&str]) -> Vec<Parts> {

@@ -27,7 +27,7 @@ fn all_texts_up_to_five_characters() {
     ];
     let mut judge = Judge::default();
     assert_eq!(up_to(5, &letters, &mut judge), 271_453);
-    println!("{}", judge.summary());
+    println!("{}", judge.met.summary());
 }
 
 // All ways of making, walking and replacing.
@@ -45,7 +45,7 @@ fn all_texts_up_to_five_lines() {
     ];
     let mut judge = Judge::default();
     assert_eq!(up_to(5, &letters, &mut judge), 37_449);
-    println!("{}", judge.summary());
+    println!("{}", judge.met.summary());
 }
 
 #[test]
@@ -54,8 +54,8 @@ fn corners_and_limits() {
     for text in DOCUMENT.texts() {
         judge.check(&vector::joined(&text));
     }
-    let unmet = (0..=16).find(|&number| judge.met[number] == 0);
-    assert_eq!(unmet, None, "{}", judge.summary());
+    let unmet = judge.met.seldom(0..=16, 1);
+    assert_eq!(unmet, None, "{}", judge.met.summary());
 }
 
 const SEED: u64 = 20_240_603;
@@ -68,7 +68,7 @@ fn random_presets() {
     for _ in 0..COUNT {
         judge.check(&random::text(&mut r));
     }
-    println!("{}", judge.summary());
-    let seldom = (0..=16).find(|&number| judge.met[number] < LEAST);
-    assert_eq!(seldom, None, "met too seldom: {}", judge.summary());
+    println!("{}", judge.met.summary());
+    let seldom = judge.met.seldom(0..=16, LEAST);
+    assert_eq!(seldom, None, "met too seldom: {}", judge.met.summary());
 }

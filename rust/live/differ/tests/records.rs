@@ -1,6 +1,6 @@
 //! Presets on all sides: the port, the definitions and the original.
 use differ::record::RECORDS;
-use differ::records::compare::{Judge, answer};
+use differ::records::compare::{Judge, RECORDS as ASKED, answer, check_random};
 use replay::document::vector;
 use replay::random::Rng;
 use replay::records::draft::Draft;
@@ -9,20 +9,20 @@ use replay::records::random::{NAMES, name, text};
 
 #[test]
 fn every_field_in_every_spelling() {
-    let mut judge = Judge::default();
+    let mut judge = Judge::records();
     for base in [Draft::bare(), Draft::full()] {
         for edit in edits() {
             judge.check(edited(&base, &edit).as_bytes());
         }
     }
-    println!("{}", judge.summary());
-    assert_eq!(judge.seldom(10), None, "{}", judge.summary());
+    println!("{}", judge.met.summary());
+    assert_eq!(judge.seldom(10), None, "{}", judge.met.summary());
 }
 
 // Which of two faults is told goes by the order of reading, whatever stands first.
 #[test]
 fn faults_in_pairs() {
-    let (mut judge, faults) = (Judge::default(), faults());
+    let (mut judge, faults) = (Judge::records(), faults());
     for base in [Draft::bare(), Draft::full()] {
         for first in &faults {
             for second in &faults {
@@ -30,18 +30,18 @@ fn faults_in_pairs() {
             }
         }
     }
-    println!("{}", judge.summary());
-    assert_eq!(judge.seldom(LEAST), None, "{}", judge.summary());
+    println!("{}", judge.met.summary());
+    assert_eq!(judge.seldom(LEAST), None, "{}", judge.met.summary());
 }
 
 #[test]
 fn corners_and_limits() {
-    let mut judge = Judge::default();
+    let mut judge = Judge::records();
     for (i, text) in RECORDS.texts().enumerate() {
         judge.name = NAMES[i % NAMES.len()].to_vec();
         judge.check(&vector::joined(&text));
     }
-    assert_eq!(judge.seldom(1), None, "{}", judge.summary());
+    assert_eq!(judge.seldom(1), None, "{}", judge.met.summary());
 }
 
 // Every path up to seven characters, 64 components to a preset.
@@ -56,19 +56,19 @@ fn file_names() {
         paths.extend(longer);
     }
     assert_eq!(paths.len(), 3_280);
-    let mut judge = Judge::default();
+    let mut judge = Judge::records();
     for some in paths.chunks(64) {
         let one = |path| format!("[[component]]\nname = \"c\"\nfile = \"{path}\"\n");
         judge.check(some.iter().map(one).collect::<String>().as_bytes());
     }
-    assert_eq!(judge.met[0], 3_280usize.div_ceil(64));
+    assert_eq!(judge.met.of(0), 3_280usize.div_ceil(64));
 }
 
 #[test]
 fn lent_names() {
     let long = vec![b'n'; 4_000];
     let broken = [&long[..], b"\xE2"].concat();
-    let mut judge = Judge::default();
+    let mut judge = Judge::records();
     for name in NAMES.into_iter().chain([&long[..], &broken]) {
         judge.name = name.to_vec();
         for text in [
@@ -88,27 +88,16 @@ const LEAST: usize = 100;
 
 #[test]
 fn random_presets() {
-    let (mut r, mut judge) = (Rng::new(SEED), Judge::default());
-    for _ in 0..COUNT {
-        judge.name = name(&mut r);
-        judge.check(&text(&mut r));
-    }
-    println!("{}", judge.summary());
-    assert_eq!(
-        judge.seldom(LEAST),
-        None,
-        "met too seldom: {}",
-        judge.summary()
-    );
+    check_random(Judge::records, SEED, COUNT);
 }
 
 // The second derivation alone, on other presets than above.
 #[test]
 fn definitions_against_the_original() {
-    let mut r = Rng::new(SEED + 1);
+    let mut r = Rng::new(SEED + 10);
     for _ in 0..COUNT / 10 {
         let (name, text) = (name(&mut r), text(&mut r));
-        let read = answer(&text, &name);
+        let read = answer(&ASKED, &text, &name);
         read.map_err(|e| panic!("{}: {e}", text.escape_ascii()))
             .ok();
     }

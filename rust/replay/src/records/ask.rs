@@ -3,7 +3,7 @@ use super::answer::{Preset, Read, Refusal, outcome};
 use super::vector::rows;
 use crate::document::ask::held;
 use crate::document::rooms::{EXACT, Fenced, LONG, Rooms, SHORT, TEXT_ROOM};
-use port::document;
+use port::document::{self, Outcome};
 use port::preset::{View, rebuild, seen};
 use port::records::{self, FeatureList};
 use port::value::{STORE_MIN, TREE_MIN};
@@ -11,8 +11,32 @@ use port::value::{STORE_MIN, TREE_MIN};
 /// The records, or the refusal's number.
 pub type Heard = Result<Preset, u32>;
 
+type Ask = fn(&[u8], &[u8], &mut [u8], &mut [u8]) -> Outcome;
+
+/// A function of the port, the one that it goes on from, and the first number that it adds.
+pub struct Door {
+    pub own: Ask,
+    pub below: Ask,
+    pub first: u32,
+}
+
+/// The reader of records goes on from the reader of trees.
+pub const RECORDS: Door = Door {
+    own: records::read,
+    below: |text, _, store, tree| document::read(text, store, tree),
+    first: 20,
+};
+
+/// The validator goes on from the reader of records.
+pub const VALIDATE: Door = Door {
+    own: records::validate,
+    below: records::read,
+    first: 30,
+};
+
 /// Every sort of rooms, made once; each reading finds noise in them.
 pub struct Host {
+    door: Door,
     text: Fenced,
     name: Fenced,
     rooms: [Rooms; 4],
@@ -26,16 +50,21 @@ const SELDOM: u64 = 32;
 
 impl Default for Host {
     fn default() -> Self {
+        Host::new(RECORDS)
+    }
+}
+
+impl Host {
+    pub fn new(door: Door) -> Self {
         Host {
+            door,
             text: Fenced::new(TEXT_ROOM),
             name: Fenced::new(NAME_ROOM),
             rooms: Rooms::all(),
             turn: 0,
         }
     }
-}
 
-impl Host {
     /// Reads a preset in rooms as small as can be, now and then one in all sorts of rooms, and
     /// holds number, section, place, count, store, tree and records against `want`.
     pub fn judge(&mut self, text: &[u8], name: &[u8], want: &Read) -> Result<Heard, String> {
@@ -45,7 +74,7 @@ impl Host {
         }
     }
 
-    /// The same in all sorts of rooms, twice in one of them, and beside the reader of trees.
+    /// The same in all sorts of rooms, twice in one of them, and beside the function below.
     pub fn judge_fully(&mut self, text: &[u8], name: &[u8], want: &Read) -> Result<Heard, String> {
         let seventeen = Err(Refusal {
             number: 17,
@@ -63,7 +92,7 @@ impl Host {
             let told = self.read(text, name, want, rooms);
             told.map_err(|e| format!("{when}: {e}"))?.ok();
         }
-        self.beside_trees(text, name, want)?;
+        self.beside(text, name, want)?;
         Ok(heard)
     }
 
@@ -72,7 +101,7 @@ impl Host {
         let text = self.text.ending(&text[..text.len().min(TEXT_ROOM)]);
         let name = self.name.ending(&name[..name.len().min(NAME_ROOM)]);
         let rooms = &mut self.rooms[n];
-        let asked = |store: &mut [u8], tree: &mut [u8]| records::read(text, name, store, tree);
+        let asked = |store: &mut [u8], tree: &mut [u8]| (self.door.own)(text, name, store, tree);
         let got = rooms.reading(self.turn, asked)?;
         if got != outcome(want) {
             return Err(format!("{got:?} against {:?}", outcome(want)));
@@ -91,27 +120,30 @@ impl Host {
         }
     }
 
-    // The rooms as small as can be were read last. What they hold, the reader of trees leaves too;
-    // where the records alone are refused, it leaves the tree, and views show what they can.
-    fn beside_trees(&mut self, text: &[u8], name: &[u8], want: &Read) -> Result<(), String> {
+    // The rooms as small as can be were read last. What they hold, the function below leaves too;
+    // what is refused with a number of its own, that one accepts, and views show what they can.
+    fn beside(&mut self, text: &[u8], name: &[u8], want: &Read) -> Result<(), String> {
         self.turn += 1;
         let text = self.text.ending(&text[..text.len().min(TEXT_ROOM)]);
+        let name = self.name.ending(&name[..name.len().min(NAME_ROOM)]);
         let [exact, long, ..] = &mut self.rooms;
-        let got = long.reading(self.turn, |store, tree| document::read(text, store, tree))?;
+        let asked = |store: &mut [u8], tree: &mut [u8]| (self.door.below)(text, name, store, tree);
+        let got = long.reading(self.turn, asked)?;
         let (store, tree) = (&*long.store.bytes(), &*long.tree.bytes());
         let made = got.made as usize;
         look(records::Rooms { tree, store, made }, name)?;
-        if want.as_ref().is_err_and(|refusal| refusal.number >= 20) {
+        let own = |refusal: &Refusal| refusal.number >= self.door.first;
+        if want.as_ref().is_err_and(own) {
             return match got.number {
                 0 => Ok(()),
-                _ => Err(format!("the reader of trees: {got:?}")),
+                _ => Err(format!("the function below: {got:?}")),
             };
         }
         let same =
             *exact.store.bytes() == store[..STORE_MIN] && *exact.tree.bytes() == tree[..TREE_MIN];
         match got == outcome(want) && same {
             true => Ok(()),
-            false => Err(format!("the reader of trees, {got:?}, leaves other rooms")),
+            false => Err(format!("the function below, {got:?}, leaves other rooms")),
         }
     }
 }

@@ -48,11 +48,11 @@ pub fn read_within(text: &[u8], name: &[u8], limits: &Limits) -> Read {
 }
 
 const TEXT: u32 = 0;
-const BOARD: u32 = 1;
-const IMAGE: u32 = 2;
-const PARTITION: u32 = 3;
-const COMPONENT: u32 = 4;
-const APPLICATION: u32 = 5;
+pub(crate) const BOARD: u32 = 1;
+pub(crate) const IMAGE: u32 = 2;
+pub(crate) const PARTITION: u32 = 3;
+pub(crate) const COMPONENT: u32 = 4;
+pub(crate) const APPLICATION: u32 = 5;
 
 /// The records of a tree.
 pub fn preset(root: &Table, name: &[u8], limits: &Limits) -> Result<Preset, Refusal> {
@@ -185,7 +185,7 @@ fn chip(board: &Fields, image: &Fields) -> Field<Chip> {
 }
 
 // What a chip is called, is built for and boots from, where a preset does not say.
-fn belongings(chip: Chip) -> (&'static str, &'static str, Media) {
+pub(crate) fn belongings(chip: Chip) -> (&'static str, &'static str, Media) {
     match chip {
         Chip::D13x => ("d13x", "riscv32imafc-unknown-none-elf", Media::SpiNor),
         Chip::D21x => ("d21x", "riscv64gc-unknown-none-elf", Media::SpiNand),
@@ -325,7 +325,7 @@ fn component(fields: Fields, most: usize) -> Field<ComponentSpec> {
 type Maybe = Option<Vec<u8>>;
 
 // `bin`, else the file's name, else `package`, else `component.bin`.
-fn filename_for(bin: &Maybe, file: &Maybe, package: &Maybe) -> Vec<u8> {
+pub(crate) fn filename_for(bin: &Maybe, file: &Maybe, package: &Maybe) -> Vec<u8> {
     let named = file.as_deref().and_then(file_name);
     let first = bin.as_deref().or(named).or(package.as_deref());
     first.unwrap_or(b"component.bin").to_vec()

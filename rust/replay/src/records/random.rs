@@ -28,7 +28,7 @@ pub fn text(r: &mut Rng) -> Vec<u8> {
 }
 
 // An example, two thirds of them with one to three changes.
-fn changed(r: &mut Rng) -> Vec<u8> {
+pub(crate) fn changed(r: &mut Rng) -> Vec<u8> {
     let mut text = r.pick(&EXAMPLES).as_bytes().to_vec();
     for _ in 0..r.below(4) {
         match r.below(4) {

@@ -71,14 +71,15 @@ fn amount(n: &Option<u32>) -> String {
 }
 
 const CHIPS: [(&str, Chip); 2] = [("d13x", Chip::D13x), ("d21x", Chip::D21x)];
-const MEDIA: [(&str, Media); 2] = [("spi-nor", Media::SpiNor), ("spi-nand", Media::SpiNand)];
-const KINDS: [(&str, ComponentKind); 3] = [
+pub(crate) const MEDIA: [(&str, Media); 2] =
+    [("spi-nor", Media::SpiNor), ("spi-nand", Media::SpiNand)];
+pub(crate) const KINDS: [(&str, ComponentKind); 3] = [
     ("app", ComponentKind::App),
     ("pbp", ComponentKind::Pbp),
     ("raw", ComponentKind::Raw),
 ];
 
-fn named<T: PartialEq>(words: &[(&str, T)], meant: T) -> String {
+pub(crate) fn named<T: PartialEq>(words: &[(&str, T)], meant: T) -> String {
     let word = words.iter().find(|(_, m)| *m == meant);
     word.expect("each has a word").0.into()
 }

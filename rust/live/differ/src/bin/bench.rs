@@ -1,7 +1,9 @@
-//! Times both sides on the same texts: `cargo run --release --bin bench [text|value|document|records]`.
+//! Times both sides on the same texts:
+//! `cargo run --release --bin bench [text|value|document|records|validate]`.
 use differ::document::original;
 use oracle::preset::Preset;
 use oracle::toml_lite::{self, Value, probe as rust};
+use port::document::Outcome;
 use port::text::{self, SCRATCH_MIN, TEXT_MAX};
 use port::value::{self, STORE_MIN, TREE_MIN};
 use port::{document, preset, records};
@@ -37,22 +39,27 @@ const DOCUMENTS_NOTE: &str = "
 The port's time is `document_read`, which checks that the bytes are UTF-8 and zeroes its store of 32768
 bytes and its tree room of 65536. The original's time is `parse`, with the tree it makes dropped again.";
 
-const RECORDS_HEAD: &str = "\
+const PRESETS_HEAD: &str = "\
 | preset | bytes | partitions | components | applications | runs | port | original | port / original |
 |---|---|---|---|---|---|---|---|---|";
 const RECORDS_NOTE: &str = "
 From text to records. The port's time is `preset_read`, which checks that the bytes are UTF-8, zeroes both
 rooms and judges every field; records are views of the rooms. The original's time is `Preset::parse`, with
 the preset it makes dropped again.";
+const VALIDATE_NOTE: &str = "
+From text to a verdict. The port's time is `preset_validate`, which does all that `preset_read` does and
+then goes through the rules. The original's time is `Preset::parse` and `validate`, with the preset dropped
+again.";
 
 fn main() {
     let only = std::env::args().nth(1);
     let wanted = |name: &str| only.as_deref().is_none_or(|o| o == name);
-    let parts: [(&str, fn()); 4] = [
+    let parts: [(&str, fn()); 5] = [
         ("text", texts),
         ("value", values),
         ("document", documents),
-        ("records", presets),
+        ("records", || presets(&READ, RECORDS_NOTE)),
+        ("validate", || presets(&VALIDATE, VALIDATE_NOTE)),
     ];
     let chosen = parts.iter().filter(|(name, _)| wanted(name));
     chosen.for_each(|(_, run)| run());
@@ -93,13 +100,37 @@ fn example(name: &str) -> String {
     std::fs::read_to_string(path).expect(name)
 }
 
-fn presets() {
-    println!("\n{RECORDS_HEAD}");
+/// What both sides do with a preset.
+struct Job {
+    ours: fn(&[u8], &[u8], &mut [u8], &mut [u8]) -> Outcome,
+    theirs: fn(&str) -> Preset,
+}
+
+const READ: Job = Job {
+    ours: records::read,
+    theirs: parsed,
+};
+
+const VALIDATE: Job = Job {
+    ours: records::validate,
+    theirs: |text| {
+        let preset = parsed(text);
+        preset.validate().expect("no rule is broken");
+        preset
+    },
+};
+
+fn parsed(text: &str) -> Preset {
+    Preset::parse(text, Path::new("board.toml")).expect("records")
+}
+
+fn presets(job: &Job, note: &str) {
+    println!("\n{PRESETS_HEAD}");
     for name in EXAMPLES {
-        records_row(name, &example(name));
+        preset_row(job, name, &example(name));
     }
-    records_row("all lists full", &full());
-    println!("{RECORDS_NOTE}");
+    preset_row(job, "all lists full", &full());
+    println!("{note}");
 }
 
 // 32 partitions, 64 components and 64 applications, with the fields that presets mostly have.
@@ -230,19 +261,16 @@ fn document_row(name: &str, text: &str) {
     println!("| {name} | {bytes} | {physical} | {made} | {times} |");
 }
 
-fn records_row(name: &str, text: &str) {
+fn preset_row(job: &Job, name: &str, text: &str) {
     let (mut store, mut tree) = (vec![0; STORE_MIN], vec![0; TREE_MIN]);
     let mut ours = || {
         let text = black_box(text).as_bytes();
-        let got = records::read(text, b"board", &mut store, &mut tree);
+        let got = (job.ours)(text, b"board", &mut store, &mut tree);
         assert_eq!(got.number, 0, "{name}: {got:?}");
         got.made as usize
     };
-    let path = Path::new("board.toml");
     let made = ours();
-    let times = measured(ours, || {
-        Preset::parse(black_box(text), path).expect("records")
-    });
+    let times = measured(ours, || (job.theirs)(black_box(text)));
     let rooms = records::Rooms {
         tree: &tree,
         store: &store,

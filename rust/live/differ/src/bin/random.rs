@@ -1,9 +1,9 @@
-//! Compares random texts: `random [text|value|document|records] [COUNT [SEED]]`, `text` where none is
-//! named.
+//! Compares random texts: `random [text|value|document|records|validate] [COUNT [SEED]]`, `text` where
+//! none is named.
 //! Ends with 1 and the shortest text on a difference.
 use differ::compare::{compare, shortest_difference};
 use differ::document::compare::Judge;
-use differ::{records, value};
+use differ::{records, validate, value};
 use replay::random::{Rng, text};
 use replay::{document, records as presets, value as values};
 use std::time::{Duration, Instant};
@@ -25,14 +25,14 @@ impl Sides for Judge {
     }
 
     fn summary(&self) -> String {
-        format!("; {}", Judge::summary(self))
+        format!("; {}", self.met.summary())
     }
 }
 
 impl Sides for records::compare::Judge {
     fn make(&mut self, r: &mut Rng) -> Vec<u8> {
         self.name = presets::random::name(r);
-        presets::random::text(r)
+        (self.asked.random)(r)
     }
 
     fn compare(&mut self, text: &[u8]) -> Result<(), String> {
@@ -41,7 +41,7 @@ impl Sides for records::compare::Judge {
     }
 
     fn summary(&self) -> String {
-        format!("; {}", records::compare::Judge::summary(self))
+        format!("; {}", self.met.summary())
     }
 }
 
@@ -68,10 +68,12 @@ impl Sides for Plain {
 
 fn main() {
     let mut words = std::env::args().skip(1).peekable();
-    let named = words.next_if(|w| ["text", "value", "document", "records"].contains(&w.as_str()));
+    let sorts = ["text", "value", "document", "records", "validate"];
+    let named = words.next_if(|w| sorts.contains(&w.as_str()));
     let mut sides: Box<dyn Sides> = match named.as_deref() {
         Some("document") => Box::new(Judge::default()),
-        Some("records") => Box::new(records::compare::Judge::default()),
+        Some("records") => Box::new(records::compare::Judge::records()),
+        Some("validate") => Box::new(validate::compare::judge()),
         Some("value") => Box::new(Plain {
             make: values::random::text,
             compare: value::compare::all,

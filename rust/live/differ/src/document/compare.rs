@@ -4,6 +4,7 @@ use crate::compare::shortest_difference;
 use replay::document::answer::shown;
 use replay::document::ask::{Heard, Host};
 use replay::document::model;
+use replay::met::Met;
 
 /// Reads texts on all sides and counts the refusals by number, 0 being none.
 #[derive(Default)]
@@ -11,7 +12,7 @@ pub struct Judge {
     host: Host,
     /// Once there was a difference, every text is read in all sorts of rooms.
     differed: bool,
-    pub met: [usize; 18],
+    pub met: Met,
 }
 
 impl Judge {
@@ -30,7 +31,7 @@ impl Judge {
         };
         let heard = heard.map_err(|e| format!("port against definition, {e}"))?;
         let number = heard.as_ref().err().map_or(0, |&n| n);
-        self.met[number as usize] += 1;
+        self.met.count(number);
         // the original has none of these limits, and no text that is not UTF-8 can be handed to it
         if matches!(number, 1 | 2 | 14..=17) {
             return Ok(());
@@ -50,16 +51,6 @@ impl Judge {
             let (short, difference) = shortest_difference(text, first, |t| self.compare(t));
             panic!("{}: {difference}", short.escape_ascii());
         }
-    }
-
-    /// How often each number was met, in one line.
-    pub fn summary(&self) -> String {
-        let met = self.met.iter().enumerate().filter(|(_, n)| **n > 0);
-        let all = met.map(|(number, n)| match number {
-            0 => format!("{n} accepted; refused"),
-            _ => format!(" {number}: {n},"),
-        });
-        all.collect()
     }
 }
 

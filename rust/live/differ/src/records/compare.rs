@@ -2,26 +2,49 @@
 use super::original::{self, Told};
 use crate::compare::shortest_difference;
 use port::preset::Preset;
+use replay::met::Met;
+use replay::random::Rng;
 use replay::records::answer::Read;
 use replay::records::ask::{Host, difference};
-use replay::records::model::{self, UNLIMITED};
+use replay::records::model::{self, LIMITS, Limits, UNLIMITED};
+use replay::records::random;
+use std::thread;
+
+/// What is asked about presets: the definitions and the original.
+#[derive(Clone, Copy)]
+pub struct Question {
+    pub defined: fn(&[u8], &[u8], &Limits) -> Read,
+    pub original: fn(&str, &[u8]) -> Result<Preset, Told>,
+    /// The numbers that it adds to those of texts.
+    pub numbers: &'static [u32],
+    /// Presets to ask about.
+    pub random: fn(&mut Rng) -> Vec<u8>,
+}
+
+/// Their records.
+pub const RECORDS: Question = Question {
+    defined: model::read_within,
+    original: original::read,
+    numbers: &[20, 21, 22, 23, 24, 25],
+    random: random::text,
+};
 
 /// What the definitions say of a preset, once the original says the same where it can.
-pub fn answer(text: &[u8], name: &[u8]) -> Result<Read, String> {
-    let defined = model::read(text, name);
+pub fn answer(asked: &Question, text: &[u8], name: &[u8]) -> Result<Read, String> {
+    let defined = (asked.defined)(text, name, &LIMITS);
     let number = number(&defined);
     // the original has none of these limits, and no text that is not UTF-8 can be handed to it
     if matches!(number, 1 | 2 | 14..=17) {
         return Ok(defined);
     }
     let text = std::str::from_utf8(text).map_err(|e| format!("not refused with 2: {e}"))?;
-    let theirs = original::read(text, name);
+    let theirs = (asked.original)(text, name);
     // nor has it a limit on lists: it reads on
     let agreed = match number {
-        25 => agree(
-            &model::read_within(text.as_bytes(), name, &UNLIMITED),
-            &theirs,
-        ),
+        25 => {
+            let unlimited = (asked.defined)(text.as_bytes(), name, &UNLIMITED);
+            agree(&unlimited, &theirs)
+        }
         _ => agree(&defined, &theirs),
     };
     agreed.map_err(|e| format!("definition against original, {e}"))?;
@@ -47,28 +70,32 @@ fn agree(defined: &Read, theirs: &Result<Preset, Told>) -> Result<(), String> {
     }
 }
 
-/// Reads presets on all sides and counts the refusals by number, 0 being none.
+/// Asks about presets on all sides and counts the refusals by number, 0 being none.
 pub struct Judge {
+    pub asked: Question,
     host: Host,
     /// The name that is lent.
     pub name: Vec<u8>,
     /// Once there was a difference, every preset is read in all sorts of rooms.
     differed: bool,
-    pub met: [usize; 26],
-}
-
-impl Default for Judge {
-    fn default() -> Self {
-        Judge {
-            host: Host::default(),
-            name: b"board".to_vec(),
-            differed: false,
-            met: [0; 26],
-        }
-    }
+    pub met: Met,
 }
 
 impl Judge {
+    pub fn records() -> Judge {
+        Judge::new(RECORDS, Host::default())
+    }
+
+    pub(crate) fn new(asked: Question, host: Host) -> Judge {
+        Judge {
+            asked,
+            host,
+            name: b"board".to_vec(),
+            differed: false,
+            met: Met::default(),
+        }
+    }
+
     /// The definitions against the original, and everything the port leaves against the definitions.
     pub fn compare(&mut self, text: &[u8]) -> Result<(), String> {
         let told = self.all(text);
@@ -77,7 +104,7 @@ impl Judge {
     }
 
     fn all(&mut self, text: &[u8]) -> Result<(), String> {
-        let want = answer(text, &self.name)?;
+        let want = answer(&self.asked, text, &self.name)?;
         let heard = match self.differed {
             true => self.host.judge_fully(text, &self.name, &want),
             false => self.host.judge(text, &self.name, &want),
@@ -85,7 +112,7 @@ impl Judge {
         heard
             .map_err(|e| format!("port against definition, {e}"))?
             .ok();
-        self.met[number(&want) as usize] += 1;
+        self.met.count(number(&want));
         Ok(())
     }
 
@@ -98,18 +125,38 @@ impl Judge {
         }
     }
 
-    /// How often each number was met, in one line.
-    pub fn summary(&self) -> String {
-        let met = self.met.iter().enumerate().filter(|(_, n)| **n > 0);
-        let all = met.map(|(number, n)| match number {
-            0 => format!("{n} accepted; refused"),
-            _ => format!(" {number}: {n},"),
-        });
-        all.collect()
+    /// One of its numbers that was met less often.
+    pub fn seldom(&self, least: usize) -> Option<u32> {
+        let numbers = self.asked.numbers.iter().copied();
+        self.met.seldom(numbers, least)
     }
 
-    /// A number from 20 to 25 that was met less often.
-    pub fn seldom(&self, least: usize) -> Option<usize> {
-        (20..=25).find(|&number| self.met[number] < least)
+    /// Checks so many random presets, each with a name to lend.
+    pub fn check_random(&mut self, seed: u64, count: usize) {
+        let mut r = Rng::new(seed);
+        for _ in 0..count {
+            self.name = random::name(&mut r);
+            self.check(&(self.asked.random)(&mut r));
+        }
     }
+}
+
+/// Checks so many random presets, side by side in parts with a seed each; all numbers of the
+/// question are met often.
+pub fn check_random(judge: fn() -> Judge, seed: u64, count: usize) {
+    const PARTS: u64 = 4;
+    const LEAST: usize = 100;
+    let part = move |i| {
+        let mut judge = judge();
+        judge.check_random(seed + i, count / PARTS as usize);
+        judge.met
+    };
+    let parts: Vec<_> = (0..PARTS).map(|i| thread::spawn(move || part(i))).collect();
+    let mut all = judge();
+    for part in parts {
+        all.met.add(&part.join().expect("no difference"));
+    }
+    let summary = all.met.summary();
+    println!("{summary}");
+    assert_eq!(all.seldom(LEAST), None, "met too seldom: {summary}");
 }

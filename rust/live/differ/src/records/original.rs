@@ -17,11 +17,21 @@ pub struct Told {
 
 /// The board is named like the file; a name that no file has is put in afterwards.
 pub fn read(text: &str, name: &[u8]) -> Result<Preset, Told> {
+    read_and(text, name, |_| Ok(()))
+}
+
+/// The same, where what is read passes `check` too.
+pub fn read_and(
+    text: &str,
+    name: &[u8],
+    check: fn(&theirs::Preset) -> Result<(), Told>,
+) -> Result<Preset, Told> {
     let fits = !name.is_empty() && !name.contains(&b'/');
     let stem = if fits { name } else { MARK };
     let path = PathBuf::from(OsString::from_vec([stem, b".toml"].concat()));
-    let read = theirs::Preset::parse(text, &path);
-    let mut preset = read.map(preset).map_err(|e| told(&e.to_string()))?;
+    let read = theirs::Preset::parse(text, &path).map_err(|e| told(&e.to_string()))?;
+    check(&read)?;
+    let mut preset = preset(read);
     if !fits && preset.board.name == MARK {
         let lent = std::str::from_utf8(name).unwrap_or("board");
         preset.board.name = lent.into();

@@ -1,0 +1,16 @@
+use borrow.Author.Needs.{needs}
+use mathlib.Core.Bool.{false}
+use mathlib.Core.Path.{refl}
+use Rattle.laws.specs.Cases.{never}
+use Rattle.chars.proofs.Ends.{dark-so}
+use Rattle.chars.proofs.dark.Statement.{statement}
+use Rattle.chars.proofs.dark.Tie as tie
+
+returns : tie.Need-returns
+returns c = search (needs, dark-so)
+
+returns-2 : tie.Need-returns-2
+returns-2 c = λ e. never {b = false} e refl
+
+pub dark-spec : {M : Type 1} → statement M
+dark-spec = tie.close (tie.spec returns returns-2)

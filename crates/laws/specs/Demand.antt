@@ -1,0 +1,355 @@
+-- What every plan of an accepted preset has, whatever was selected.
+use Prim.Native.Nat.{ℕ, zero, suc, _<_}
+use mathlib.Core.Bool.{true, false}
+use mathlib.Core.List.{List, [], _∷_, map}
+use mathlib.Core.Logic.{_⊎_, inl, inr}
+use mathlib.Core.Option.{Option, none, some}
+use mathlib.Core.Path.{_≡_, refl, sym, ap, _∙_, subst}
+use native.Mathlib.Omega.{arith}
+use lib.ListN.{getD}
+use Rattle.meaning.specs.Base.{pick, nil?, same}
+use Rattle.meaning.specs.Refusal.{Fault, numbered, Answer, accepted, refused, after, inApplication}
+use Rattle.meaning.specs.Schema.{Partition, Component, Application, Preset}
+use Rattle.meaning.specs.Verdict.{fine, among}
+use Rattle.meaning.specs.Layout.{endOf}
+use Rattle.meaning.specs.Rules.{given, nameOf, partitionNames, allUses, usesOf, rules}
+use Rattle.meaning.specs.Plan.{Selection, bootChain, app, Build, built, built?, Source, fromPackage, fromFile, PlannedComponent, Plan, payload, pbpPayload, planned, componentOf, Entry, declared, componentNames, admitted, chosen, composition, wanted, wantedBy, firstUses, inOrder, buildsOf, firstNamed, partitionFor, composed, planOf}
+use Rattle.laws.specs.Cases.{on, never}
+use Rattle.laws.specs.Order.{same-eq, eq-same}
+use Rattle.laws.specs.Accepted.{Kept, Holds, Meant, Groups, rules-groups, components-kept, layout-at, layout-meant, layout-disjoint}
+use Rattle.laws.specs.Places.{At, In, at-inside, at-getD, getD-at, all-of, at-map, map-at, in-left, in-right, in-split, none-some, some-one}
+use Rattle.laws.specs.Answers.{accepted-one}
+use Rattle.laws.specs.Uses.{AllAlike, uses-alike, application-uses, uses-append}
+use Rattle.laws.specs.Builds.{First, firsts-first, firsts-has, firsts-one, asked, Agrees, wanted-use, wanted-by, by-wanted, Among, composition-in, in-composition, order-in, in-order}
+use Rattle.laws.specs.Chosen.{Undeclared, Declared, Taken, undeclared-none, none-undeclared, some-declared, declared-some, taken-among, among-taken, plan-made, chosen-in, application-known}
+
+-- ---- words
+
+-- why planning refuses: 80 for a key that no application has, 81 for an application whose name some component has, told at its entry
+pub data Why (r : Preset) : Selection → Fault → ℕ → ℕ → Type 0 where
+  why-80 : (key : List ℕ) → Undeclared (r .applications) key → Why r (app key) (numbered 80) inApplication 0
+  why-81 : (key : List ℕ) (i : ℕ) (a : Application) → Declared (r .applications) key i a → Taken (r .components) (a .name) → Why r (app key) (numbered 81) inApplication i
+
+-- c is a component of the preset, or the selected application as a component
+pub data Origin (r : Preset) (s : Selection) (c : Component) : Type 0 where
+  own : (j : ℕ) → At (r .components) j c → Origin r s c
+  selected : (a : Application) → chosen r s ≡ accepted (some a) → c ≡ componentOf a → Origin r s c
+
+-- a component has a package and no file, and the package is its payload; or it has a file and no package, and the file is
+pub data Payload (c : Component) (source : Source) : Type 0 where
+  package-only : (p : List ℕ) → c .head .pack ≡ some p → c .head .file ≡ none → source ≡ fromPackage (built p (c .head .bin) (c .role .features)) → Payload c source
+  file-only : (path : List ℕ) → c .head .pack ≡ none → c .head .file ≡ some path → source ≡ fromFile path → Payload c source
+
+-- the partition of a name, and the only one; it ends below 2^32, and no byte of it is another's
+pub record Lies (ps : List Partition) (name : List ℕ) : Type 0 where
+  pub place : ℕ
+  pub partition : Partition
+  pub here : At ps place partition
+  pub is : partition .name ≡ name
+  pub only : (j : ℕ) (q : Partition) → At ps j q → q .name ≡ name → j ≡ place
+  pub ends : endOf partition < 4294967296
+  pub apart : (j x : ℕ) (q : Partition) → At ps j q → (j ≡ place → ⊥) → Holds partition x → Holds q x → ⊥
+
+-- a reference that finds it
+pub record Finds (ps : List Partition) (reference : List ℕ) : Type 0 where
+  pub lies : Lies ps (nameOf reference)
+  pub found : partitionFor ps reference ≡ some (lies .partition)
+
+-- a planned component uses a package, as payload or as PBP
+pub data Uses (q : PlannedComponent) (b : Build) : Type 0 where
+  as-payload : q .source ≡ fromPackage b → Uses q b
+  as-pbp : q .pbpSource ≡ some (fromPackage b) → Uses q b
+
+-- one build is of the package, and no other
+pub record BuiltOnce (builds : List Build) (pack : List ℕ) : Type 0 where
+  pub place : ℕ
+  pub build : Build
+  pub here : At builds place build
+  pub is : build .pack ≡ pack
+  pub only : (j : ℕ) (d : Build) → At builds j d → d .pack ≡ pack → j ≡ place
+
+-- what the plan of an accepted preset has
+pub record Demand (r : Preset) (s : Selection) (p : Plan) : Type 0 where
+  -- each planned component is one of the preset's or the selected application, and has exactly one payload source
+  pub sources : (i : ℕ) (q : PlannedComponent) → At (p .components) i q → (c : Component) × Origin r s c × (q ≡ planned c) × Payload c (q .source)
+  -- and none is left out
+  pub complete : (c : Component) → Origin r s c → In (planned c) (p .components)
+  -- each reference of a planned component finds exactly one partition, if the application's holds no `;` and no outer white space
+  pub references : ((a : Application) → chosen r s ≡ accepted (some a) → nameOf (a .partition) ≡ a .partition)
+      → (i : ℕ) (q : PlannedComponent) → At (p .components) i q → nil? (q .spec .role .partition) ≡ false → Finds (p .partitions) (q .spec .role .partition)
+  -- a component's does in any case
+  pub own-references : (j : ℕ) (c : Component) → At (r .components) j c → nil? (c .role .partition) ≡ false → Finds (p .partitions) (c .role .partition)
+  -- and letter for letter the application's names one
+  pub exactly : (a : Application) → chosen r s ≡ accepted (some a) → Lies (p .partitions) (a .partition)
+  -- each package that a planned component uses is built exactly once
+  pub built-once : (i : ℕ) (q : PlannedComponent) (b : Build) → At (p .components) i q → Uses q b → BuiltOnce (p .builds) (b .pack)
+  -- with the features of every use, if no component uses one package as payload and as PBP with two feature sets
+  pub features : ((j : ℕ) (c : Component) → At (r .components) j c → Agrees c)
+      → (i : ℕ) (q : PlannedComponent) (b : Build) → At (p .components) i q → Uses q b → (k : ℕ) (d : Build) → At (p .builds) k d → d .pack ≡ b .pack → d .features ≡ b .features
+  -- nothing else is built
+  pub needed : (k : ℕ) (d : Build) → At (p .builds) k d → (i : ℕ) × (q : PlannedComponent) × At (p .components) i q × Uses q d
+
+-- ---- refusals
+
+-- what an answer of planning says
+abbrev Says : Preset → Selection → Answer Plan → Type 0
+Says r s (accepted p) = Unit {0}
+Says r s (refused f section place) = Why r s f section place
+
+says-why : (r : Preset) (s : Selection) → Says r s (planOf r s)
+unfolding planOf chosen admitted
+says-why r bootChain = tt
+says-why r (app key) = go (declared 0 key (r .applications)) refl
+  where
+    found : (e : Entry) → declared 0 key (r .applications) ≡ some e → among (e .application .name) (componentNames (r .components)) ≡ true
+        → Why r (app key) (numbered 81) inApplication (e .place)
+    found e h t =
+        let d = some-declared key 0 (r .applications) e h in
+        let k : d .0 ≡ e .place = omega (arith, d .1) in
+        subst (λ (i : ℕ). Why r (app key) (numbered 81) inApplication i) k (why-81 key (d .0) (e .application) (d .2) (among-taken (r .components) (e .application .name) t))
+
+    go : (o : Option Entry) → declared 0 key (r .applications) ≡ o → Says r (app key) (after (admitted (r .components) o) (λ a. accepted (composed r (app key) a)))
+    go none h = why-80 key (none-undeclared key 0 (r .applications) h)
+    go (some e) h = on (among (e .application .name) (componentNames (r .components))) (λ t. rw t (found e h t)) (λ t. rw t tt)
+
+-- planning refuses for no other reason
+pub refused-why : (r : Preset) (s : Selection) (f : Fault) (section place : ℕ) → planOf r s ≡ refused f section place → Why r s f section place
+refused-why r s f section place e = subst (Says r s) e (says-why r s)
+
+-- and always for these
+pub why-refused : (r : Preset) (s : Selection) (f : Fault) (section place : ℕ) → Why r s f section place → planOf r s ≡ refused f section place
+unfolding planOf chosen admitted
+why-refused r s f section place (why-80 key h) = rw (undeclared-none key 0 (r .applications) h)
+why-refused r s f section place (why-81 key i a h t) = rw (declared-some key 0 (r .applications) i i a (omega arith) h, taken-among (r .components) (a .name) t)
+
+-- ---- payloads
+
+-- 53, 54
+kept-payload : (parts : List (List ℕ)) (c : Component) → Kept parts c → Payload c (planned c .source)
+unfolding planned
+kept-payload parts c k = go (c .head .pack) (c .head .file) refl refl (k .source)
+  where
+    go : (p f : Option (List ℕ)) → c .head .pack ≡ p → c .head .file ≡ f → given p ≡ pick (given f) false true → Payload c (payload p (c .head .bin) (c .role .features) f)
+    go none none h g e = never e refl
+    go none (some path) h g e = file-only path h g refl
+    go (some p) none h g e = package-only p h g refl
+    go (some p) (some path) h g e = never refl e
+
+application-payload : (a : Application) → Payload (componentOf a) (planned (componentOf a) .source)
+unfolding planned componentOf
+application-payload a = package-only (a .pack) refl refl refl
+
+-- ---- partitions
+
+abbrev nowhere : Partition
+nowhere = record { name = []; offset = 0; size = 0 }
+
+layout-lies : (r : Preset) (name : List ℕ) → Groups r → among name (partitionNames (r .partitions)) ≡ true → Lies (r .partitions) name
+layout-lies r name g t =
+    let ps = r .partitions in
+    let m : Meant name ps = layout-meant (r .board .chip) ps name (g .laid) t in
+    record {
+      place = m .place;
+      partition = getD ps (m .place) nowhere;
+      here = getD-at ps (m .place) nowhere (m .inside);
+      is = sym (same-eq name _ (m .is nowhere));
+      only = λ j q h n. m .only nowhere j (at-inside ps j q h) (eq-same name _ (sym n ∙ ap (λ (z : Partition). z .name) (sym (at-getD ps j q nowhere h))));
+      ends = layout-at (r .board .chip) ps nowhere (g .laid) (m .place) (m .inside) .fits;
+      apart = λ j x q h n k l. layout-disjoint (r .board .chip) ps nowhere (g .laid) (m .place) j x (λ e. n (sym e)) (m .inside) (at-inside ps j q h) k
+          (subst (λ (z : Partition). Holds z x) (sym (at-getD ps j q nowhere h)) l);
+    }
+
+first-named : (name : List ℕ) (ps : List Partition) (i : ℕ) (p : Partition) → At ps i p → p .name ≡ name
+    → ((j : ℕ) (q : Partition) → At ps j q → q .name ≡ name → j ≡ i) → firstNamed name ps ≡ some p
+first-named name [] i p h e only = absurd h
+first-named name (x ∷ ps) zero p h e only = rw (eq-same name (x .name) (sym e ∙ ap (λ (z : Partition). z .name) (sym h))) (ap some h)
+first-named name (x ∷ ps) (suc i) p h e only =
+    on (same name (x .name))
+    (λ t. let z : 0 ≡ suc i = only 0 x refl (sym (same-eq name (x .name) t)) in absurd (omega arith))
+    (λ t. rw t (first-named name ps i p h e (λ j q g n. let z : suc j ≡ suc i = only (suc j) q g n in omega arith)))
+
+lies-finds : (ps : List Partition) (reference : List ℕ) → Lies ps (nameOf reference) → Finds ps reference
+unfolding partitionFor
+lies-finds ps reference l = record { lies = l; found = first-named (nameOf reference) ps (l .place) (l .partition) (l .here) (l .is) (l .only) }
+
+-- ---- builds
+
+package-one : (b d : Build) → fromPackage b ≡ fromPackage d → b ≡ d
+package-one b d e = ap of e
+  where
+    of : Source → Build
+    of (fromPackage x) = x
+    of (fromFile path) = b
+
+file-never {κ} : {G : Type κ} (path : List ℕ) (b : Build) → fromFile path ≡ fromPackage b → G
+file-never path b e = let z : _≡_ {A = ℕ} 0 1 = cc in absurd (omega arith)
+
+module _ (c : Component) (b : Build) where
+  abbrev payloads : List Build
+  payloads = built? (c .head .pack) (c .head .bin) (c .role .features)
+
+  abbrev pbps : List Build
+  pbps = built? (c .boot .pbpPack) none (c .role .pbpFeatures)
+
+  uses-wanted : Uses (planned c) b → In b (wanted c)
+  unfolding planned wanted
+  uses-wanted (as-payload e) = in-left b payloads pbps (go (c .head .pack) e)
+    where
+      go : (p : Option (List ℕ)) → payload p (c .head .bin) (c .role .features) (c .head .file) ≡ fromPackage b → In b (built? p (c .head .bin) (c .role .features))
+      go none f = file-never _ b f
+      go (some p) f = (0, package-one _ b f)
+  uses-wanted (as-pbp e) = in-right b payloads pbps (go (c .boot .pbp) (c .boot .pbpPack) e)
+    where
+      go : (path p : Option (List ℕ)) → pbpPayload path p (c .role .pbpFeatures) ≡ some (fromPackage b) → In b (built? p none (c .role .pbpFeatures))
+      go (some path) p f = file-never path b (some-one (fromFile path) (fromPackage b) f)
+      go none none f = none-some (fromPackage b) f
+      go none (some p) f = (0, package-one _ b (some-one _ (fromPackage b) f))
+
+  -- 55: no PBP package stands beside a PBP file, which would be used in its place
+  wanted-uses : pick (given (c .boot .pbp)) (given (c .boot .pbpPack)) false ≡ false → In b (wanted c) → Uses (planned c) b
+  unfolding planned wanted
+  wanted-uses h g = go (in-split b payloads pbps g)
+    where
+      first : (p : Option (List ℕ)) (i : ℕ) → At (built? p (c .head .bin) (c .role .features)) i b → payload p (c .head .bin) (c .role .features) (c .head .file) ≡ fromPackage b
+      first none i k = absurd k
+      first (some p) zero k = ap fromPackage k
+      first (some p) (suc i) k = absurd k
+
+      second : (path p : Option (List ℕ)) (i : ℕ) → pick (given path) (given p) false ≡ false → At (built? p none (c .role .pbpFeatures)) i b
+          → pbpPayload path p (c .role .pbpFeatures) ≡ some (fromPackage b)
+      second path none i e k = absurd k
+      second (some path) (some p) i e k = never {b = true} refl e
+      second none (some p) zero e k = ap (λ (x : Build). some (fromPackage x)) k
+      second none (some p) (suc i) e k = absurd k
+
+      go : In b payloads ⊎ In b pbps → Uses (planned c) b
+      go (inl k) = as-payload (first (c .head .pack) (k .0) (k .1))
+      go (inr k) = as-pbp (second (c .boot .pbp) (c .boot .pbpPack) (k .0) h (k .1))
+
+-- ---- the plan of an accepted preset
+
+module _ (r : Preset) (s : Selection) (p : Plan) (obeys : rules r ≡ fine) (made : planOf r s ≡ accepted p) where
+  groups : Groups r
+  groups = rules-groups r obeys
+
+  abbrev chosenOne : Option Application
+  chosenOne = plan-made r s p made .0
+
+  origin-of : (c : Component) → Among chosenOne (r .components) c → Origin r s c
+  origin-of c (inl h) = own (h .0) (h .1)
+  origin-of c (inr h) = selected (h .0) (plan-made r s p made .1 ∙ ap accepted (h .1)) (h .2)
+
+  of-origin : (c : Component) → Origin r s c → Among chosenOne (r .components) c
+  of-origin c (own j h) = inl (j, h)
+  of-origin c (selected a e h) = inr (a, accepted-one chosenOne (some a) (sym (plan-made r s p made .1) ∙ e), h)
+
+  kept : (j : ℕ) (c : Component) → At (r .components) j c → Kept (partitionNames (r .partitions)) c
+  kept j c h = all-of (Kept (partitionNames (r .partitions))) (r .components) j c (components-kept (partitionNames (r .partitions)) (r .components) (groups .made)) h
+
+  components-are : map planned (composition chosenOne (r .components)) ≡ p .components
+  unfolding composed
+  components-are = ap (λ (z : Plan). z .components) (plan-made r s p made .2)
+
+  builds-are : firstUses [] (wantedBy (inOrder chosenOne (r .components))) ≡ p .builds
+  unfolding composed buildsOf
+  builds-are = ap (λ (z : Plan). z .builds) (plan-made r s p made .2)
+
+  partitions-are : r .partitions ≡ p .partitions
+  unfolding composed
+  partitions-are = ap (λ (z : Plan). z .partitions) (plan-made r s p made .2)
+
+  origin : (i : ℕ) (q : PlannedComponent) → At (p .components) i q → (c : Component) × Origin r s c × (q ≡ planned c)
+  origin i q h =
+      let m = at-map planned (composition chosenOne (r .components)) i q (subst (λ (l : List PlannedComponent). At l i q) (sym components-are) h) in
+      (m .0, origin-of (m .0) (composition-in chosenOne (r .components) (m .0) (i, m .1)), m .2)
+
+  is-planned : (c : Component) → Origin r s c → In (planned c) (p .components)
+  is-planned c h =
+      let k = in-composition chosenOne (r .components) c (of-origin c h) in
+      (k .0, subst (λ (l : List PlannedComponent). At l (k .0) (planned c)) components-are (map-at planned (composition chosenOne (r .components)) (k .0) c (k .1)))
+
+  payload-of : (c : Component) → Origin r s c → Payload c (planned c .source)
+  payload-of c (own j h) = kept-payload (partitionNames (r .partitions)) c (kept j c h)
+  payload-of c (selected a e h) = subst (λ (d : Component). Payload d (planned d .source)) (sym h) (application-payload a)
+
+  known-lies : (name : List ℕ) → among name (partitionNames (r .partitions)) ≡ true → Lies (p .partitions) name
+  known-lies name t = subst (λ (ps : List Partition). Lies ps name) partitions-are (layout-lies r name groups t)
+
+  component-finds : (j : ℕ) (c : Component) → At (r .components) j c → nil? (c .role .partition) ≡ false → Finds (p .partitions) (c .role .partition)
+  component-finds j c h n = lies-finds (p .partitions) (c .role .partition) (known-lies (nameOf (c .role .partition)) (kept j c h .known n))
+
+  application-lies : (a : Application) → chosen r s ≡ accepted (some a) → Lies (p .partitions) (a .partition)
+  application-lies a e = known-lies (a .partition) (application-known (partitionNames (r .partitions)) (r .applications) a (groups .applied) (chosen-in r s a e))
+
+  finds-of : ((a : Application) → chosen r s ≡ accepted (some a) → nameOf (a .partition) ≡ a .partition) → (c : Component) → Origin r s c → nil? (c .role .partition) ≡ false → Finds (p .partitions) (c .role .partition)
+  unfolding componentOf
+  finds-of plain c (own j h) n = component-finds j c h n
+  finds-of plain c (selected a e h) n =
+      subst (λ (d : Component). Finds (p .partitions) (d .role .partition)) (sym h)
+      (lies-finds (p .partitions) (a .partition) (subst (Lies (p .partitions)) (sym (plain a e)) (application-lies a e)))
+
+  abbrev wants : List Build
+  wants = wantedBy (inOrder chosenOne (r .components))
+
+  use-wanted : (i : ℕ) (q : PlannedComponent) (b : Build) → At (p .components) i q → Uses q b → In b wants
+  use-wanted i q b h u =
+      let o = origin i q h in
+      wanted-by (inOrder chosenOne (r .components)) (o .0) b (in-order chosenOne (r .components) (o .0) (of-origin (o .0) (o .1)))
+      (uses-wanted (o .0) b (subst (λ (z : PlannedComponent). Uses z b) (o .2) u))
+
+  build-first : (k : ℕ) (d : Build) → At (p .builds) k d → First wants d
+  build-first k d h = firsts-first [] wants k d (subst (λ (l : List Build). At l k d) (sym builds-are) h) .0
+
+  once : (b : Build) → In b wants → BuiltOnce (p .builds) (b .pack)
+  once b h =
+      let f = firsts-has [] wants (h .0) b (h .1) refl in
+      subst (λ (l : List Build). BuiltOnce l (b .pack)) builds-are
+      (record { place = f .0; build = f .1; here = f .2; is = f .3; only = λ j d g e. firsts-one [] wants j (f .0) d (f .1) g (f .2) (e ∙ sym (f .3)) })
+
+  one-pbp : (c : Component) → Origin r s c → pick (given (c .boot .pbp)) (given (c .boot .pbpPack)) false ≡ false
+  unfolding componentOf
+  one-pbp c (own j h) = kept j c h .one-pbp
+  one-pbp c (selected a e h) = subst (λ (d : Component). pick (given (d .boot .pbp)) (given (d .boot .pbpPack)) false ≡ false) (sym h) refl
+
+  build-used : (d : Build) → In d wants → (i : ℕ) × (q : PlannedComponent) × At (p .components) i q × Uses q d
+  build-used d h =
+      let w = by-wanted (inOrder chosenOne (r .components)) d h in
+      let o = origin-of (w .0) (order-in chosenOne (r .components) (w .0) (w .1)) in
+      let k = is-planned (w .0) o in
+      (k .0, planned (w .0), k .1, wanted-uses (w .0) d (one-pbp (w .0) o) (w .2))
+
+  agrees-of : ((j : ℕ) (c : Component) → At (r .components) j c → Agrees c) → (c : Component) → Origin r s c → Agrees c
+  unfolding componentOf
+  agrees-of agrees c (own j h) = agrees j c h
+  agrees-of agrees c (selected a e h) = subst Agrees (sym h) (λ n k l. none-some n l)
+
+  all-alike : (a : Option Application) → chosen r s ≡ accepted a → AllAlike (allUses (inOrder a (r .components)))
+  unfolding inOrder usesOf componentOf
+  all-alike none e = uses-alike (r .components) (r .applications) (groups .built)
+  all-alike (some x) e =
+      let k = chosen-in r s x e in
+      subst AllAlike (sym (uses-append (r .components) (componentOf x ∷ []))) (application-uses (r .components) (r .applications) (groups .built) (k .0) x (k .1))
+
+  same-features : ((j : ℕ) (c : Component) → At (r .components) j c → Agrees c) → (b d : Build) → In b wants → In d wants → d .pack ≡ b .pack → d .features ≡ b .features
+  same-features agrees b d h g =
+      let cs = inOrder chosenOne (r .components) in
+      let each : (j : ℕ) (c : Component) → At cs j c → Agrees c = λ j c k. agrees-of agrees c (origin-of c (order-in chosenOne (r .components) c (j, k))) in
+      all-alike chosenOne (plan-made r s p made .1) (asked d) (asked b) (wanted-use cs d each g) (wanted-use cs b each h)
+
+-- the plan of an accepted preset meets the demand, for every selection
+pub demand : (r : Preset) (s : Selection) (p : Plan) → rules r ≡ fine → planOf r s ≡ accepted p → Demand r s p
+unfolding planned
+demand r s p obeys made =
+    record {
+      sources = λ i q h. let o = origin r s p obeys made i q h in
+          (o .0, o .1, o .2, subst (λ (z : PlannedComponent). Payload (o .0) (z .source)) (sym (o .2)) (payload-of r s p obeys made (o .0) (o .1)));
+      complete = is-planned r s p obeys made;
+      references = λ plain i q h. let o = origin r s p obeys made i q h in
+          subst (λ (z : PlannedComponent). nil? (z .spec .role .partition) ≡ false → Finds (p .partitions) (z .spec .role .partition)) (sym (o .2)) (finds-of r s p obeys made plain (o .0) (o .1));
+      own-references = component-finds r s p obeys made;
+      exactly = application-lies r s p obeys made;
+      built-once = λ i q b h u. once r s p obeys made b (use-wanted r s p obeys made i q b h u);
+      features = λ agrees i q b h u k d g. let f = build-first r s p obeys made k d g in
+          same-features r s p obeys made agrees b d (use-wanted r s p obeys made i q b h u) (f .place, f .here);
+      needed = λ k d h. let f = build-first r s p obeys made k d h in build-used r s p obeys made d (f .place, f .here);
+    }

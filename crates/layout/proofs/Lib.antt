@@ -1,0 +1,4 @@
+pub mod Judging
+pub mod Marking
+pub mod Finding
+pub mod Checking

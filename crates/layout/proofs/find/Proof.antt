@@ -1,0 +1,62 @@
+use borrow.Author.Needs.{needs}
+use Prim.Native.Nat.{_-_}
+use Rattle.layout.proofs.Finding.{Seeking, find-start, find-on, find-hit, find-end}
+use Rattle.layout.proofs.find.Statement.{statement}
+use Rattle.layout.proofs.find.Tie as tie
+use Rattle.layout.proofs.find.Reads as reads
+use Rattle.layout.proofs.find.Lts as lts
+use Rattle.schema.proofs.stored.Reads as stored-reads
+use Rattle.slices.proofs.same.Reads as same-reads
+
+abbrev Inv-loop : tie.InvT-loop
+Inv-loop bytes count name items i₀ i = Seeking name bytes items count i
+
+abbrev μ-loop : tie.MeasureT-loop
+μ-loop bytes count name items i₀ i = count - i
+
+loop-holds : tie.Need-loop-holds Inv-loop μ-loop
+loop-holds c = search (needs, find-start)
+
+mul-p : tie.Need-mul-p Inv-loop μ-loop
+mul-p c = search needs
+
+array-copy-out-p : tie.Need-array-copy-out-p Inv-loop μ-loop
+array-copy-out-p c = search needs
+
+stored-requires : tie.Need-stored-requires Inv-loop μ-loop
+stored-requires c κs = search needs
+
+same-requires : tie.Need-same-requires Inv-loop μ-loop
+same-requires c κs = search needs
+
+returns : tie.Need-returns Inv-loop μ-loop
+returns c = search (needs, find-hit)
+
+add-i : tie.Need-add-i Inv-loop μ-loop
+add-i c = search needs
+
+loop-less : tie.Need-loop-less Inv-loop μ-loop
+loop-less c = search needs
+
+loop-again : tie.Need-loop-again Inv-loop μ-loop
+loop-again c = search (needs, find-on)
+
+returns-2 : tie.Need-returns-2 Inv-loop μ-loop
+returns-2 c = search (needs, find-end)
+
+pub find-spec : {M : Type 1} → statement M
+find-spec =
+    tie.close
+    (tie.spec
+    Inv-loop
+    μ-loop
+    loop-holds
+    mul-p
+    array-copy-out-p
+    stored-requires
+    same-requires
+    returns
+    add-i
+    loop-less
+    loop-again
+    returns-2)

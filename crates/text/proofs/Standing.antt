@@ -1,0 +1,116 @@
+-- A text without comments and CRs, whose last line has its LF, is laid as it stands.
+use Prim.Native.Nat.{ℕ, zero, suc, _+_, _-_, _≤_, _<_}
+use mathlib.Core.Bool.{Bool, true, false}
+use mathlib.Core.List.{List, [], _∷_}
+use mathlib.Core.Path.{_≡_, refl, ap, _∙_}
+use native.Mathlib.Omega.{arith}
+use native.Mathlib.Numerals.{add-one}
+use borrow.Author.Tests.{lt-ltb, ltb-true, ltb-false, eqb-true, eq-eqb, ne-eqb}
+use lib.Bits.{bitOr}
+use lib.Dec.{eqb, ltb}
+use lib.ListN.{length, getD, take, drop, length-drop, take-append-drop}
+use lib.Seq.{length-take-le, take-all, getD-take, getD-drop, drop-cons}
+use Rattle.meaning.specs.Base.{pick, before}
+use Rattle.meaning.specs.Quote.{quote, hits, upTo}
+use Rattle.meaning.specs.Lines.{dropCr, kept, physical}
+use Rattle.laws.specs.Cases.{on}
+use Rattle.chars.specs.Under.{or-left, or-right}
+use Rattle.text.specs.Laid.{laid, firstLine, Bare, Bares}
+use Rattle.text.proofs.Cuts.{laid-there}
+
+-- ---- the pass over all bytes: while m is 0, those before i are bare
+pub record Marking (s : List ℕ) (i m : ℕ) : Type 0 where
+  pub high : i ≤ length s
+  pub all : m ≡ 0 → Bares s i
+
+pub mark-none : (s : List ℕ) → Marking s 0 0
+mark-none s = record { high = omega arith; all = λ z. record { fits = omega arith; all = λ k l. absurd (omega arith) } }
+
+module _ (s : List ℕ) (i m : ℕ) (a : Marking s i m) where
+  pub mark-on : (x : ℕ) → i < length s → (x ≡ 0 → Bare (getD s i 0)) → Marking s (i + 1) (bitOr m x)
+  mark-on x h b = record { high = omega arith; all = λ z. record { fits = omega arith; all = go z } }
+    where
+      go : bitOr m x ≡ 0 → (k : ℕ) → k < i + 1 → Bare (getD s k 0)
+      go z k l =
+          on (ltb k i)
+          (λ t. a .all (omega (arith, or-left m x)) .all k (ltb-true k i t))
+          (λ t.
+          let e : k ≡ i = omega (arith, ltb-false k i t) in
+          rw e (b (omega (arith, or-right m x))))
+
+  pub mark-all : length s ≤ i → eqb m 0 ≡ true → Bares s (length s)
+  mark-all h e =
+      let n : i ≡ length s = omega (arith, a .high) in
+      rw n at (a .all (eqb-true m 0 e))
+
+-- ---- a bare line is kept whole
+up-bare : (st : ℕ) (l : List ℕ) → ((k : ℕ) → k < length l → Bare (getD l k 0)) → upTo 35 st l ≡ length l
+unfolding hits
+up-bare st [] f = refl
+up-bare st (b ∷ l) f =
+    let n : pick (eqb st 0) (eqb b 35) false ≡ false = on (eqb st 0) (λ e. rw e (ne-eqb b 35 (f 0 (omega arith) .comment))) (λ e. rw e) in
+    rw n (ap suc (up-bare (quote st b) l (λ k h. f (suc k) (omega arith))))
+
+bare-line : (l : List ℕ) → ((k : ℕ) → k < length l → Bare (getD l k 0)) → kept (dropCr l) ≡ l
+unfolding kept dropCr
+bare-line l f =
+    let n : eqb (getD l (length l - 1) 0) 13 ≡ false = last l f in
+    rw (n, up-bare 0 l f) (take-all (length l) l (omega arith))
+  where
+    last : (l : List ℕ) → ((k : ℕ) → k < length l → Bare (getD l k 0)) → eqb (getD l (length l - 1) 0) 13 ≡ false
+    last [] f = refl
+    last (b ∷ l) f = ne-eqb (getD (b ∷ l) (length (b ∷ l) - 1) 0) 13 (f (length (b ∷ l) - 1) (omega arith) .cr)
+
+-- ---- line by line
+before-is : (c : ℕ) (s : List ℕ) → before c s < length s → getD s (before c s) 0 ≡ c
+before-is c [] h = absurd (omega arith)
+before-is c (b ∷ s) h =
+    on (eqb b c)
+    (λ e. rw e (eqb-true b c e))
+    (λ e. let k : suc (before c s) < suc (length s) = rw e at h in rw e (before-is c s (omega arith)))
+
+before-reach : (c : ℕ) (s : List ℕ) (i : ℕ) → i < length s → getD s i 0 ≡ c → before c s ≤ i
+before-reach c [] i h e = absurd (omega arith)
+before-reach c (b ∷ s) zero h e = rw (eq-eqb b c e) (omega arith)
+before-reach c (b ∷ s) (suc i) h e =
+    on (eqb b c) (λ p. rw p (omega arith)) (λ p. rw p (omega (arith, before-reach c s i (omega arith) e)))
+
+first-of : (s : List ℕ) (n : ℕ) → n < length s → firstLine n s ≡ dropCr (take n s)
+unfolding firstLine
+first-of s n l = rw (lt-ltb n (length s) l)
+
+pub stands : (k : ℕ) (s : List ℕ) → length s ≤ k → Bares s (length s) → (0 < length s → getD s (length s - 1) 0 ≡ 10) → laid s ≡ s
+unfolding laid physical
+stands zero [] h b e = refl
+stands zero (x ∷ s) h b e = absurd (omega arith)
+stands (suc k) s h b e = go s h b e (stands k)
+  where
+    go : (s : List ℕ) → length s ≤ suc k → Bares s (length s) → (0 < length s → getD s (length s - 1) 0 ≡ 10)
+        → ((r : List ℕ) → length r ≤ k → Bares r (length r) → (0 < length r → getD r (length r - 1) 0 ≡ 10) → laid r ≡ r) → laid s ≡ s
+    go [] h b e ih = refl
+    go (x ∷ t) h b e ih =
+        let s : List ℕ = x ∷ t in
+        let n : ℕ = before 10 s in
+        let l : n < length s = omega (arith, before-reach 10 s (length s - 1) (omega arith) (e (omega arith))) in
+        let r : List ℕ = drop (n + 1) s in
+        let d : length r ≡ length s - (n + 1) = length-drop (n + 1) s in
+        let m : length (take n s) ≡ n = length-take-le n s (omega arith) in
+        let f : (k : ℕ) → k < length (take n s) → Bare (getD (take n s) k 0) =
+        λ k q. let w : k < n = omega arith in rw (getD-take n s k 0 w) (b .all k (omega arith)) in
+        let g : Bares r (length r) =
+        record { fits = omega arith; all = λ k q. rw (getD-drop (n + 1) s k 0) (b .all (n + 1 + k) (omega arith)) } in
+        let y : 0 < length r → getD r (length r - 1) 0 ≡ 10 =
+        λ z.
+        let i : n + 1 + (length r - 1) ≡ length s - 1 = omega arith in
+        rw (getD-drop (n + 1) s (length r - 1) 0, i) (e (omega arith)) in
+        let v : drop n s ≡ 10 ∷ r = drop-cons s n 0 l ∙ rw (before-is 10 s l, add-one) in
+        laid-there s n refl l
+        ∙ rw (first-of s n l, bare-line (take n s) f, ih r (omega arith) g y) (rw v at (take-append-drop n s))
+
+-- ---- the answers
+module _ (s : List ℕ) where
+  pub clean-none : length s ≡ 0 → true ≡ true → laid s ≡ s
+  clean-none z t = stands 0 s (omega arith) (record { fits = omega arith; all = λ k l. absurd (omega arith) }) (λ l. absurd (omega arith))
+
+  pub clean-so : (r : Bool) → getD s (length s - 1) 0 ≡ 10 → (r ≡ true → Bares s (length s)) → r ≡ true → laid s ≡ s
+  clean-so r e b t = stands (length s) s (omega arith) (b t) (λ l. e)

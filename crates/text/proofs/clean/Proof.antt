@@ -1,0 +1,29 @@
+use borrow.Author.Needs.{needs}
+use mathlib.Core.Bool.{false}
+use mathlib.Core.Path.{refl}
+use Rattle.laws.specs.Cases.{never}
+use Rattle.text.proofs.Standing.{clean-none, clean-so}
+use Rattle.text.proofs.clean.Statement.{statement}
+use Rattle.text.proofs.clean.Tie as tie
+
+returns : tie.Need-returns
+returns c = search (needs, clean-none)
+
+sub-if2 : tie.Need-sub-if2
+sub-if2 c = search needs
+
+shared-slice-read-if2 : tie.Need-shared-slice-read-if2
+shared-slice-read-if2 c = search needs
+
+bare-requires : tie.Need-bare-requires
+bare-requires c κs = search needs
+
+returns-2 : tie.Need-returns-2
+returns-2 c = search (needs, clean-so)
+
+returns-3 : tie.Need-returns-3
+returns-3 c = λ e. never {b = false} e refl
+
+pub clean-spec : {M : Type 1} → statement M
+clean-spec =
+    tie.close (tie.spec returns sub-if2 shared-slice-read-if2 bare-requires returns-2 returns-3)

@@ -1,0 +1,7 @@
+pub mod Fronting
+pub mod Pairing
+pub mod Entering
+pub mod Using
+pub mod Gathering
+pub mod Placing
+pub mod Judging

@@ -1,0 +1,42 @@
+-- Two feature sets of one package: one law for each way out.
+use Prim.Native.Nat.{ℕ}
+use mathlib.Core.Bool.{Bool, true, false, not}
+use mathlib.Core.List.{List}
+use mathlib.Core.Path.{_≡_}
+use Rattle.meaning.specs.Rules.{twice, sameAll}
+use Rattle.laws.specs.Cases.{on}
+use Rattle.schema.specs.declared.Text.{Text}
+use Rattle.schema.specs.declared.Features.{Features}
+use Rattle.parse.specs.Meant.{featureList}
+use Rattle.validate.specs.declared.uses.Pair.{Pair}
+use Rattle.validate.specs.Clashes.{packed, differ, clash}
+
+-- ---- one package with two feature sets
+module _ (room store : List ℕ) (made : ℕ) (p : Text) (f : Features) (q : Text) (g : Features) (r : Bool) (e : r ≡ twice (packed store p) (packed store q)) where
+  pub differ-not : r ≡ false → false ≡ differ room store made p f q g
+  unfolding differ
+  differ-not h = rw (← e, h)
+
+  pub differ-other : (s : Bool) → r ≡ true → s ≡ sameAll (featureList room store made f) (featureList room store made g) → not s ≡ differ room store made p f q g
+  unfolding differ
+  differ-other s h d = rw (← e, h, ← d) (on s (λ t. rw t) (λ t. rw t))
+
+-- ---- some use of one and some use of the other
+module _ (room store : List ℕ) (made : ℕ) (a b : Pair) (r : Bool) (e : r ≡ differ room store made (a .«package») (a .features) (b .«package») (b .features)) where
+  pub clash-first : r ≡ true → true ≡ clash room store made a b
+  unfolding clash
+  clash-first h = rw (← e, h)
+
+  module _ (n : r ≡ false) (r2 : Bool) (e2 : r2 ≡ differ room store made (a .«package») (a .features) (b .«pbp_package») (b .«pbp_features»)) where
+    pub clash-second : r2 ≡ true → true ≡ clash room store made a b
+    unfolding clash
+    clash-second h = rw (← e, n, ← e2, h)
+
+    module _ (n2 : r2 ≡ false) (r3 : Bool) (e3 : r3 ≡ differ room store made (a .«pbp_package») (a .«pbp_features») (b .«package») (b .features)) where
+      pub clash-third : r3 ≡ true → true ≡ clash room store made a b
+      unfolding clash
+      clash-third h = rw (← e, n, ← e2, n2, ← e3, h)
+
+      pub clash-last : (r4 : Bool) → r3 ≡ false → r4 ≡ differ room store made (a .«pbp_package») (a .«pbp_features») (b .«pbp_package») (b .«pbp_features») → r4 ≡ clash room store made a b
+      unfolding clash
+      clash-last r4 n3 e4 = rw (← e, n, ← e2, n2, ← e3, n3) e4

@@ -1,0 +1,56 @@
+use borrow.Author.Needs.{needs}
+use Rattle.validate.proofs.Entering.{hollow-stored}
+use Rattle.validate.proofs.application.hollow.Statement.{statement}
+use Rattle.validate.proofs.application.hollow.Tie as tie
+use Rattle.validate.proofs.application.hollow.Reads as reads
+use Rattle.validate.proofs.application.hollow.Lts as lts
+use Rattle.schema.proofs.stored.Reads as stored-reads
+
+enum-told : tie.Need-enum-told
+enum-told c = search needs
+
+enum-known-t : tie.Need-enum-known-t
+enum-known-t c = search needs
+
+stored-requires : tie.Need-stored-requires
+stored-requires c κs = search needs
+
+enum-told-2 : tie.Need-enum-told-2
+enum-told-2 c = search needs
+
+enum-told-3 : tie.Need-enum-told-3
+enum-told-3 c = search needs
+
+enum-told-4 : tie.Need-enum-told-4
+enum-told-4 c = search needs
+
+returns : tie.Need-returns
+returns c = search needs
+
+returns-2 : tie.Need-returns-2
+returns-2 c = search (needs, hollow-stored)
+
+returns-3 : tie.Need-returns-3
+returns-3 c = search needs
+
+returns-4 : tie.Need-returns-4
+returns-4 c = search needs
+
+returns-5 : tie.Need-returns-5
+returns-5 c = search needs
+
+pub hollow-spec : {M : Type 1} → statement M
+hollow-spec =
+    tie.close
+    (tie.spec
+    enum-told
+    enum-known-t
+    stored-requires
+    enum-told-2
+    enum-told-3
+    enum-told-4
+    returns
+    returns-2
+    returns-3
+    returns-4
+    returns-5)

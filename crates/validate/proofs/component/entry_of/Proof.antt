@@ -1,0 +1,63 @@
+use borrow.Author.Needs.{needs}
+use Rattle.validate.proofs.Entering.{component-done}
+use Rattle.validate.proofs.component.entry_of.Statement.{statement}
+use Rattle.validate.proofs.component.entry_of.Tie as tie
+use Rattle.validate.proofs.component.entry_of.Reads as reads
+use Rattle.validate.proofs.component.entry_of.Lts as lts
+use Rattle.layout.proofs.find.Reads as find-reads
+use Rattle.schema.proofs.Text.length.Reads as length-reads
+use Rattle.schema.proofs.Text.start.Reads as start-reads
+use Rattle.schema.proofs.stored.Reads as stored-reads
+use Rattle.validate.proofs.component.in_first.Reads as in-first-reads
+use Rattle.validate.proofs.component.late_fault.Reads as late-fault-reads
+use Rattle.validate.proofs.component.reference.Reads as reference-reads
+use Rattle.validate.proofs.uses.pair_of.Reads as pair-of-reads
+
+reference-requires : tie.Need-reference-requires
+reference-requires c κs = search needs
+
+find-requires : tie.Need-find-requires
+find-requires c κs = search needs
+
+start-requires : tie.Need-start-requires
+start-requires c κs = search needs
+
+length-requires : tie.Need-length-requires
+length-requires c κs = search needs
+
+stored-requires : tie.Need-stored-requires
+stored-requires c κs = search needs
+
+start-requires-2 : tie.Need-start-requires-2
+start-requires-2 c κs = search needs
+
+length-requires-2 : tie.Need-length-requires-2
+length-requires-2 c κs = search needs
+
+late-fault-requires : tie.Need-late-fault-requires
+late-fault-requires c κs = search needs
+
+pair-of-requires : tie.Need-pair-of-requires
+pair-of-requires c κs = search needs
+
+in-first-requires : tie.Need-in-first-requires
+in-first-requires c κs = search needs
+
+returns : tie.Need-returns
+returns c = search (needs, component-done)
+
+pub entry-of-spec : {M : Type 1} → statement M
+entry-of-spec =
+    tie.close
+    (tie.spec
+    reference-requires
+    find-requires
+    start-requires
+    length-requires
+    stored-requires
+    start-requires-2
+    length-requires-2
+    late-fault-requires
+    pair-of-requires
+    in-first-requires
+    returns)

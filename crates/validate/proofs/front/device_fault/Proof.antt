@@ -1,0 +1,51 @@
+use borrow.Author.Needs.{needs}
+use borrow.Author.Tests.{not-false, not-true}
+use Rattle.validate.proofs.Fronting.{device-media, device-platform, device-none}
+use Rattle.validate.proofs.front.device_fault.Statement.{statement}
+use Rattle.validate.proofs.front.device_fault.Tie as tie
+use Rattle.validate.proofs.front.device_fault.Reads as reads
+use Rattle.validate.proofs.front.device_fault.Lts as lts
+use Rattle.schema.proofs.Chip.default_media.Reads as default-media-reads
+use Rattle.schema.proofs.Chip.name.Reads as name-reads
+use Rattle.validate.proofs.front.same_media.Reads as same-media-reads
+use Rattle.validate.proofs.front.text_is.Reads as text-is-reads
+
+-- src/front.rt:158:20
+default-media-requires : tie.Need-default-media-requires
+default-media-requires c κs = search needs
+
+-- src/front.rt:158:9
+same-media-requires : tie.Need-same-media-requires
+same-media-requires c κs = search needs
+
+-- src/front.rt:159:9
+returns : tie.Need-returns
+returns c = search (needs, not-true, device-media)
+
+-- src/front.rt:162:40
+name-requires : tie.Need-name-requires
+name-requires c κs = search needs
+
+-- src/front.rt:162:9
+text-is-requires : tie.Need-text-is-requires
+text-is-requires c κs = search needs
+
+-- src/front.rt:163:9
+returns-2 : tie.Need-returns-2
+returns-2 c = search (needs, not-true, not-false, device-platform)
+
+-- src/front.rt:153:1
+returns-3 : tie.Need-returns-3
+returns-3 c = search (needs, not-false, device-none)
+
+pub device-fault-spec : {M : Type 1} → statement M
+device-fault-spec =
+    tie.close
+    (tie.spec
+    default-media-requires
+    same-media-requires
+    returns
+    name-requires
+    text-is-requires
+    returns-2
+    returns-3)

@@ -1,0 +1,259 @@
+-- 01's rule 60 over components and applications is the first clash over their packages.
+use Prim.Native.Nat.{ℕ, suc, _+_, _-_}
+use mathlib.Core.Bool.{Bool, true, false}
+use mathlib.Core.List.{List, [], _∷_, _++_, map, append-assoc, append-nil}
+use mathlib.Core.Option.{Option, none, some}
+use mathlib.Core.Path.{_≡_, refl, sym, ap, _∙_}
+use native.Mathlib.Omega.{arith}
+use borrow.Author.Tests.{lt-ltb, le-ltb, ltb-true, ltb-false}
+use lib.Dec.{ltb, leb·suc-suc}
+use lib.ListN.{length, length-map}
+use Rattle.meaning.specs.Base.{pick, same, ascii}
+use Rattle.meaning.specs.Refusal.{inComponent, inApplication}
+use Rattle.meaning.specs.Verdict.{behind, inTurn}
+use Rattle.meaning.specs.Rules as meant
+use Rattle.meaning.specs.Rules.{Use, use?, twice, usesOf, useOf, allUses, sameAll, clashes, useFault, featureRules}
+use Rattle.laws.specs.Cases.{on, never}
+use Rattle.laws.specs.Order.{same-eq, eq-same}
+use Rattle.tree.specs.Doors.{field}
+use Rattle.schema.specs.declared.Text.{Text}
+use Rattle.schema.specs.declared.Text.the-variants as texts
+use Rattle.schema.specs.declared.Features.{Features}
+use Rattle.schema.specs.declared.Component.{Component}
+use Rattle.schema.specs.Texts.{optional}
+use Rattle.parse.specs.declared.Refusal.{Refusal}
+use Rattle.parse.specs.Refusals.{earlier}
+use Rattle.parse.specs.Meant.{featureList, componentMeant}
+use Rattle.parse.specs.Component.{sources, headRead, bootRead, componentRead}
+use Rattle.parse.specs.Application.{applicationRead}
+use Rattle.parse.specs.Entries as parsed
+use Rattle.parse.specs.Entries.{told}
+use Rattle.parse.specs.Reads.{Kept, text-kept}
+use Rattle.parse.specs.Answers.{Says, says-after, says-by}
+use Rattle.parse.specs.Whole.{componentOf, applicationOf}
+use Rattle.layout.specs.Marks.{anyOf, firstHit}
+use Rattle.validate.specs.declared.uses.Pair.{Pair}
+use Rattle.validate.specs.Clashes.{packed, differ, clash, pairOf}
+use Rattle.validate.specs.Entries.{componentEntry, applicationEntry, componentAt, applicationAt}
+use Rattle.validate.specs.Faults.{clashFault}
+use Rattle.validate.specs.Gathered.{either}
+
+-- ---- one of two tests
+
+either-none : (a : Bool) → either a false ≡ a
+either-none true = refl
+either-none false = refl
+
+either-two : (a b c : Bool) → either (either a b) c ≡ either a (either b c)
+either-two true b c = refl
+either-two false b c = refl
+
+-- the middle ones change places
+either-four : (a b c d : Bool) → either (either a b) (either c d) ≡ either (either a c) (either b d)
+either-four true b c d = refl
+either-four false true true d = refl
+either-four false true false d = refl
+either-four false false c d = refl
+
+-- ---- the first hit in two lists, whatever a hit is
+
+suc-pick : (b : Bool) (n m : ℕ) → suc (pick b n m) ≡ pick b (suc n) (suc m)
+suc-pick true n m = refl
+suc-pick false n m = refl
+
+-- it is in the first list, or behind it
+pub hit-two : {X : Type 0} (hit : X → X → Bool) (es xs ys : List X)
+    → firstHit hit es (xs ++ ys) ≡ pick (ltb (firstHit hit es xs) (length xs)) (firstHit hit es xs) (length xs + firstHit hit (es ++ xs) ys)
+hit-two hit es [] ys = rw (append-nil es) (omega arith)
+hit-two hit es (x ∷ xs) ys =
+    on (anyOf (hit x) es)
+    (λ e. rw (e, lt-ltb 0 (suc (length xs)) (omega arith)))
+    (λ e.
+    let k : ℕ = firstHit hit (behind es x) xs in
+    let m : ℕ = firstHit hit (es ++ (x ∷ xs)) ys in
+    let a : behind es x ++ xs ≡ es ++ (x ∷ xs) = append-assoc es (x ∷ []) xs in
+    let b : suc (length xs) + m ≡ suc (length xs + m) = omega arith in
+    rw (e, leb·suc-suc (suc k) (length xs), b) (ap suc (rw a at (hit-two hit (behind es x) xs ys)) ∙ suc-pick (ltb k (length xs)) k (length xs + m)))
+
+-- ---- uses against uses
+
+same-turn : (p q : List ℕ) → same p q ≡ same q p
+same-turn p q =
+    on (same p q)
+    (λ e. e ∙ sym (eq-same q p (sym (same-eq p q e))))
+    (λ e. on (same q p) (λ f. never (eq-same p q (sym (same-eq q p f))) e) (λ f. e ∙ sym f))
+
+all-turn : (fs gs : List (List ℕ)) → sameAll fs gs ≡ sameAll gs fs
+all-turn [] [] = refl
+all-turn [] (g ∷ gs) = refl
+all-turn (f ∷ fs) [] = refl
+all-turn (f ∷ fs) (g ∷ gs) = rw (same-turn f g, all-turn fs gs)
+
+clash-two : (vs ws : List Use) (u : Use) → meant.clash (vs ++ ws) u ≡ either (meant.clash vs u) (meant.clash ws u)
+clash-two [] ws u = refl
+clash-two (v ∷ vs) ws u = rw (clash-two vs ws u) (sym (either-two (meant.differ v u) (meant.clash vs u) (meant.clash ws u)))
+
+clashes-none : (us : List Use) → clashes [] us ≡ false
+clashes-none [] = refl
+clashes-none (u ∷ us) = clashes-none us
+
+-- earlier uses in two lists
+clashes-two : (vs ws us : List Use) → clashes (vs ++ ws) us ≡ either (clashes vs us) (clashes ws us)
+clashes-two vs ws [] = refl
+clashes-two vs ws (u ∷ us) =
+    rw (clash-two vs ws u, clashes-two vs ws us) (either-four (meant.clash vs u) (meant.clash ws u) (clashes vs us) (clashes ws us))
+
+-- an entry's uses in two lists
+two-clashes : (vs us ts : List Use) → clashes vs (us ++ ts) ≡ either (clashes vs us) (clashes vs ts)
+two-clashes vs [] ts = refl
+two-clashes vs (u ∷ us) ts = rw (two-clashes vs us ts) (sym (either-two (meant.clash vs u) (clashes vs us) (clashes vs ts)))
+
+-- at most one use of each
+one-clashes : (o q : Option (List ℕ)) (f g : List (List ℕ)) → pick (twice o q) (pick (sameAll f g) false true) false ≡ clashes (use? q g) (use? o f)
+unfolding meant.differ
+one-clashes none none f g = refl
+one-clashes none (some q) f g = refl
+one-clashes (some p) none f g = refl
+one-clashes (some p) (some q) f g =
+    let d : Bool = pick (same q p) (pick (sameAll g f) false true) false in
+    rw (same-turn p q, all-turn f g) (sym (either-none (either d false) ∙ either-none d))
+
+-- ---- entries in turn, by what they use
+
+-- 60 at the first hit where at of n entries stand before it, the first of them at place i; none where all do
+abbrev hitFault : ℕ → ℕ → ℕ → ℕ → Refusal
+hitFault section i n at = pick (ltb at n) (told section 60 (i + at)) (told 0 0 0)
+
+module _ {X : Type 0} (uses : X → List Use) where
+  abbrev gathered : List X → List Use
+  gathered [] = []
+  gathered (x ∷ xs) = uses x ++ gathered xs
+
+  gathered-behind : (xs : List X) (x : X) → gathered (behind xs x) ≡ gathered xs ++ uses x
+  gathered-behind [] x = append-nil (uses x)
+  gathered-behind (y ∷ xs) x = rw (gathered-behind xs x) (sym (append-assoc (uses y) (gathered xs) (uses x)))
+
+  module _ (hit : X → X → Bool) (hits : (a b : X) → hit a b ≡ clashes (uses b) (uses a)) where
+    any-clashes : (a : X) (es : List X) → anyOf (hit a) es ≡ clashes (gathered es) (uses a)
+    any-clashes a [] = sym (clashes-none (uses a))
+    any-clashes a (e ∷ es) = rw (hits a e, any-clashes a es) (sym (clashes-two (uses e) (gathered es) (uses a)))
+
+    module _ {Z : Type 0} (used : Z → List Use) (entry : ℕ → Z) (pair : ℕ → X) (is : (n : ℕ) → used (entry n) ≡ uses (pair n)) (section : ℕ) where
+      turn-says : (i : ℕ) (es : List X) (ns : List ℕ)
+          → Says (inTurn (λ before z. useFault before (used z)) (λ before z. before ++ used z) section i (gathered es) (map entry ns))
+          (hitFault section i (length ns) (firstHit hit es (map pair ns))) tt
+      turn-says i es [] = record { told-by = (refl, refl) }
+      turn-says i es (n ∷ ns) =
+          let a : clashes (gathered es) (used (entry n)) ≡ anyOf (hit (pair n)) es = rw (is n) (sym (any-clashes (pair n) es)) in
+          on (anyOf (hit (pair n)) es)
+          (λ e. rw (a, e, lt-ltb 0 (suc (length ns)) (omega arith)) (record { told-by = (ap (told section 60) (omega arith), omega arith) }))
+          (λ e.
+          let k : ℕ = firstHit hit (behind es (pair n)) (map pair ns) in
+          let b : i + suc k ≡ i + 1 + k = omega arith in
+          let s : gathered (behind es (pair n)) ≡ gathered es ++ used (entry n) = rw (is n) (gathered-behind es (pair n)) in
+          rw (a, e, leb·suc-suc (suc k) (length ns), b) (rw s at (turn-says (i + 1) (behind es (pair n)) ns)))
+
+-- components before applications
+hit-faults : (cs apps k l : ℕ) → earlier (hitFault 4 0 cs k) (hitFault 5 0 apps l) ≡ clashFault cs (cs + apps) (pick (ltb k cs) k (cs + l))
+unfolding clashFault
+hit-faults cs apps k l =
+    on (ltb k cs)
+    (λ e. rw (e, e) (ap (told 4 60) (omega arith)))
+    (λ e.
+    let a : ltb (cs + l) cs ≡ false = le-ltb (cs + l) cs (omega arith) in
+    let d : cs + l - cs ≡ l = omega arith in
+    rw (e, a, d)
+    (on (ltb l apps)
+    (λ f. let b : ltb (cs + l) (cs + apps) ≡ true = lt-ltb (cs + l) (cs + apps) (omega (arith, ltb-true l apps f)) in rw (f, b) (ap (told 5 60) (omega arith)))
+    (λ f. let b : ltb (cs + l) (cs + apps) ≡ false = le-ltb (cs + l) (cs + apps) (omega (arith, ltb-false l apps f)) in rw (f, b))))
+
+-- ---- an entry's packages
+
+packed-kept : (store name : List ℕ) (t : Text) → Kept t → optional store name t ≡ packed store t
+packed-kept store name texts.Absent h = refl
+packed-kept store name (texts.Stored from len) h = refl
+packed-kept store name texts.Lent h = absurd h
+packed-kept store name (texts.Fixed w) h = absurd h
+packed-kept store name (texts.WithAic from len) h = absurd h
+
+module _ (room store : List ℕ) (made : ℕ) where
+  abbrev usesAs : Text → Features → List Use
+  usesAs t f = use? (packed store t) (featureList room store made f)
+
+  -- the uses of an entry: none, one or two
+  abbrev pub usesIn : Pair → List Use
+  usesIn p = usesAs (p .«package») (p .features) ++ usesAs (p .«pbp_package») (p .«pbp_features»)
+
+  differ-is : (p : Text) (f : Features) (q : Text) (g : Features) → differ room store made p f q g ≡ clashes (usesAs q g) (usesAs p f)
+  unfolding differ
+  differ-is p f q g = one-clashes (packed store p) (packed store q) (featureList room store made f) (featureList room store made g)
+
+  -- a later entry against an earlier one
+  pub clash-is : (a b : Pair) → clash room store made a b ≡ clashes (usesIn b) (usesIn a)
+  unfolding clash
+  clash-is a b =
+      let x : List Use = usesAs (a .«package») (a .features) in
+      let y : List Use = usesAs (a .«pbp_package») (a .«pbp_features») in
+      let v : List Use = usesAs (b .«package») (b .features) in
+      let w : List Use = usesAs (b .«pbp_package») (b .«pbp_features») in
+      rw (
+        differ-is (a .«package») (a .features) (b .«package») (b .features),
+        differ-is (a .«package») (a .features) (b .«pbp_package») (b .«pbp_features»),
+        differ-is (a .«pbp_package») (a .«pbp_features») (b .«package») (b .features),
+        differ-is (a .«pbp_package») (a .«pbp_features») (b .«pbp_package») (b .«pbp_features»),
+        two-clashes (v ++ w) x y,
+        clashes-two v w x,
+        clashes-two v w y,
+      )
+      (sym (either-two (clashes v x) (clashes w x) (either (clashes v y) (clashes w y))))
+
+  module _ (name : List ℕ) where
+    uses-kept : (c : Component) → Kept (c .head .«package») → Kept (c .boot .«pbp_package») → usesOf (componentMeant room store made name c) ≡ usesIn (pairOf store c)
+    unfolding usesOf pairOf
+    uses-kept c h k =
+        rw (packed-kept store name (c .head .«package») h, packed-kept store name (c .boot .«pbp_package») k)
+        (on (twice (packed store (c .head .«package»)) (packed store (c .boot .«pbp_package»))) (λ e. rw e) (λ e. rw e))
+
+    module _ (parts : List (List ℕ)) (n : ℕ) where
+      component-uses : usesOf (componentOf room store made name 32 n) ≡ usesIn (componentAt room store made parts n .pair)
+      unfolding componentEntry parsed.componentAt componentRead headRead sources bootRead
+      component-uses =
+          let f = parsed.tableAt room store made n .fields in
+          uses-kept (parsed.componentAt room store made n 32 .component) (text-kept (field room store f (ascii "package"))) (text-kept (field room store f (ascii "pbp_package")))
+
+      application-uses : useOf (applicationOf room store made name 32 n) ≡ usesIn (applicationAt room store made parts n .pair)
+      unfolding applicationEntry parsed.applicationAt applicationRead
+      application-uses = refl
+
+-- ---- 60
+
+module _ (room store : List ℕ) (made : ℕ) (name : List ℕ) (parts : List (List ℕ)) where
+  abbrev componentPair : ℕ → Pair
+  componentPair n = componentAt room store made parts n .pair
+
+  abbrev applicationPair : ℕ → Pair
+  applicationPair n = applicationAt room store made parts n .pair
+
+  all-uses : (ns : List ℕ) → allUses (map (componentOf room store made name 32) ns) ≡ gathered (usesIn room store made) (map componentPair ns)
+  all-uses [] = refl
+  all-uses (n ∷ ns) = rw (component-uses room store made name parts n, all-uses ns)
+
+  pub features-say : (ns ms : List ℕ)
+      → Says (featureRules (map (componentOf room store made name 32) ns) (map (applicationOf room store made name 32) ms))
+      (clashFault (length ns) (length ns + length ms)
+      (firstHit (clash room store made) [] (map (λ n. componentAt room store made parts n .pair) ns ++ map (λ n. applicationAt room store made parts n .pair) ms)))
+      tt
+  unfolding featureRules
+  features-say ns ms =
+      let hit = clash room store made in
+      let is = clash-is room store made in
+      let uses = usesIn room store made in
+      let cs : List Pair = map componentPair ns in
+      let k : ℕ = firstHit hit [] cs in
+      let l : ℕ = firstHit hit cs (map applicationPair ms) in
+      let e : firstHit hit [] (cs ++ map applicationPair ms) ≡ pick (ltb k (length ns)) k (length ns + l) = rw (length-map ns componentPair) at (hit-two hit [] cs (map applicationPair ms)) in
+      rw (e, all-uses ns)
+      (says-by (hit-faults (length ns) (length ms) k l)
+      (says-after _
+      (turn-says uses hit is usesOf (componentOf room store made name 32) componentPair (component-uses room store made name parts) inComponent 0 [] ns)
+      (turn-says uses hit is useOf (applicationOf room store made name 32) applicationPair (application-uses room store made name parts) inApplication 0 cs ms)))

@@ -1,0 +1,117 @@
+-- Level 2 of an entry's own rules: 52 to 59 of a component, 61 to 64 and 66 of an application.
+use Prim.Native.Nat.{ℕ}
+use mathlib.Core.Bool.{Bool, true, false}
+use mathlib.Core.List.{List}
+use lib.Dec.{eqb, ltb}
+use lib.ListN.{length}
+use Rattle.meaning.specs.Base.{pick, nil?}
+use Rattle.meaning.specs.Verdict.{orElse, long}
+use Rattle.meaning.specs.Rules as meant
+use Rattle.schema.specs.declared.Text.{Text}
+use Rattle.schema.specs.declared.Text.the-variants as texts
+use Rattle.schema.specs.declared.Number.{Number}
+use Rattle.schema.specs.declared.Number.the-variants as numbers
+use Rattle.schema.specs.declared.Boot.{Boot}
+use Rattle.schema.specs.declared.Component.{Component}
+use Rattle.schema.specs.declared.Application.{Application}
+use Rattle.schema.specs.Words.{word}
+use Rattle.schema.specs.Texts.{clip, startOf, lengthOf, amount}
+use Rattle.parse.specs.Entries as parsed
+use Rattle.layout.specs.Marks.{rank}
+use Rattle.validate.specs.declared.Entry.{Entry}
+use Rattle.validate.specs.Clashes.{pairOf, single}
+
+-- a text that lies in the store
+abbrev pub kept : List ℕ → Text → List ℕ
+kept store t = clip (startOf t) (lengthOf t) store
+
+abbrev pub there : Text → Bool
+there texts.Absent = false
+there (texts.Stored from len) = true
+there texts.Lent = true
+there (texts.Fixed w) = true
+there (texts.WithAic from len) = true
+
+abbrev pub counted : Number → Bool
+counted numbers.Absent = false
+counted (numbers.Of n) = true
+
+-- ---- a component
+
+-- 52
+abbrev pub nameFault : List ℕ → Text → ℕ
+nameFault store t = pick (long (kept store t)) 52 0
+
+-- 55, 56
+unfoldable pub bootFault : Boot → ℕ
+bootFault b = meant.bootFault (there (b .pbp)) (there (b .«pbp_package»)) (b .updater) (counted (b .ram))
+
+-- 57, 58; whether the reference names a partition is known
+abbrev pub targetFault : Bool → Bool → Bool → ℕ
+targetFault empty updater known = pick empty (pick updater 0 57) (pick known 0 58)
+
+-- 52 to 59
+unfoldable pub lateFault : List ℕ → Bool → Component → ℕ
+lateFault store known c =
+    orElse (nameFault store (c .head .name))
+    (orElse (meant.sourceFault (there (c .head .«package»)) (there (c .head .file)))
+    (orElse (bootFault (c .boot))
+    (orElse (targetFault (nil? (kept store (c .role .partition))) (c .boot .updater) known) (meant.reserveFault (c .load .«ext_reserve»)))))
+
+-- the partition's name in a component's reference
+abbrev pub referred : List ℕ → Text → List ℕ
+referred store t = meant.nameOf (kept store t)
+
+unfoldable pub componentEntry : List ℕ → List (List ℕ) → Component → Entry
+componentEntry store parts c =
+    let at = rank (referred store (c .role .partition)) parts in
+    record {
+      mark = record { from = startOf (c .head .name); len = lengthOf (c .head .name); early = 0; late = lateFault store (ltb at (length parts)) c };
+      pair = pairOf store c;
+      first = pick (nil? (kept store (c .role .partition))) false (eqb at 0);
+    }
+
+-- ---- an application
+
+-- no bytes: a fixed word and one with `.aic` have some
+abbrev pub hollow : List ℕ → Text → Bool
+hollow store texts.Absent = true
+hollow store (texts.Stored from len) = nil? (clip from len store)
+hollow store texts.Lent = false
+hollow store (texts.Fixed w) = false
+hollow store (texts.WithAic from len) = false
+
+-- the partition with an application's name for it
+abbrev pub aim : List ℕ → List (List ℕ) → Text → ℕ
+aim store parts texts.Absent = length parts
+aim store parts (texts.Stored from len) = rank (clip from len store) parts
+aim store parts texts.Lent = length parts
+aim store parts (texts.Fixed w) = rank (word w) parts
+aim store parts (texts.WithAic from len) = length parts
+
+-- 61 to 64; whether its partition is there is known
+unfoldable pub earlyFault : List ℕ → Bool → Application → ℕ
+earlyFault store known a =
+    pick (nil? (kept store (a .name))) 61 (pick (long (kept store (a .name))) 62 (pick (hollow store (a .filename)) 63 (pick known 0 64)))
+
+unfoldable pub applicationEntry : List ℕ → List (List ℕ) → Application → Entry
+applicationEntry store parts a =
+    record {
+      mark = record {
+        from = startOf (a .name);
+        len = lengthOf (a .name);
+        early = earlyFault store (ltb (aim store parts (a .partition)) (length parts)) a;
+        late = meant.addressFault (amount (a .«load_address»));
+      };
+      pair = single (a .«package») (a .features);
+      first = false;
+    }
+
+-- ---- by the number of a value
+
+module _ (room store : List ℕ) (made : ℕ) (parts : List (List ℕ)) where
+  abbrev pub componentAt : ℕ → Entry
+  componentAt n = componentEntry store parts (parsed.componentAt room store made n 32 .component)
+
+  abbrev pub applicationAt : ℕ → Entry
+  applicationAt n = applicationEntry store parts (parsed.applicationAt room store made n 32 .application)

@@ -1,0 +1,110 @@
+-- Level 2 of the rules: the first refusal in 01's order, over marks and packages.
+use Prim.Native.Nat.{ℕ, _+_, _-_, _≤_}
+use mathlib.Core.Bool.{Bool}
+use mathlib.Core.List.{List as Seq, [], map, _++_}
+use mathlib.Core.Path.{_≡_}
+use lib.Dec.{eqb, ltb}
+use lib.ListN.{length, take}
+use Rattle.meaning.specs.Base.{pick, nil?}
+use Rattle.meaning.specs.Limits.{of01}
+use Rattle.meaning.specs.Layout as meant
+use Rattle.tree.specs.Doors.{Rooms, fieldsOf}
+use Rattle.schema.specs.declared.Chip.{Chip}
+use Rattle.schema.specs.Words.{chipMeant}
+use Rattle.parse.specs.declared.Refusal.{Refusal}
+use Rattle.parse.specs.Refusals.{earlier}
+use Rattle.parse.specs.Entries.{told, partitionAt}
+use Rattle.parse.specs.Front.{frontRead}
+use Rattle.parse.specs.Refused.{lentText, partitionNumbers}
+use Rattle.parse.specs.Verdict as verdicts
+use Rattle.layout.specs.declared.Fault.{Fault}
+use Rattle.layout.specs.declared.Mark.{Mark}
+use Rattle.layout.specs.Marks.{anyOf, firstHit, faultOf, judged}
+use Rattle.layout.specs.Parts.{partName, partMeant}
+use Rattle.validate.specs.declared.uses.Pair.{Pair}
+use Rattle.validate.specs.declared.gather.Gathered.{Gathered}
+use Rattle.validate.specs.Clashes.{clash}
+use Rattle.validate.specs.Entries.{componentAt, applicationAt}
+use Rattle.validate.specs.Fronts as fronts
+use Rattle.validate.specs.Gathered.{components, applications}
+
+-- ---- one group
+
+-- a fault among the entries of a section
+unfoldable pub inEntry : ℕ → Fault → Refusal
+inEntry section f = pick (eqb (f .number) 0) (told 0 0 0) (told section (f .number) (f .place))
+
+-- 50 to 59
+unfoldable pub componentsFault : Seq ℕ → Seq Mark → Refusal
+componentsFault store ms = pick (nil? ms) (told 4 50 0) (inEntry 4 (judged 51 store ms))
+
+-- 61 to 66
+abbrev pub applicationsFault : Seq ℕ → Seq Mark → Refusal
+applicationsFault store ms = inEntry 5 (judged 65 store ms)
+
+-- 70
+abbrev pub bootFault : Bool → Refusal
+bootFault first = pick first (told 0 0 0) (told 4 70 0)
+
+-- 60: entry number at of all, of which the first are components
+unfoldable pub clashFault : ℕ → ℕ → ℕ → Refusal
+clashFault cs all at = pick (ltb at cs) (told 4 60 at) (pick (ltb at all) (told 5 60 (at - cs)) (told 0 0 0))
+
+pub record Using (room : Seq ℕ) (made cs apps : ℕ) : Type 0 where
+  pub rooms : Rooms room made
+  pub components : cs ≤ 64
+  pub applications : apps ≤ 64
+
+module _ (room store : Seq ℕ) (made : ℕ) where
+  abbrev pub usesFault : ℕ → ℕ → Seq Pair → Refusal
+  usesFault cs apps pairs = clashFault cs (cs + apps) (firstHit (clash room store made) [] (take (cs + apps) pairs))
+
+  -- ---- all of them, the partitions' names given
+
+  module _ (parts : Seq (Seq ℕ)) where
+    abbrev pub componentMarks : Seq Mark
+    componentMarks = map (λ n. componentAt room store made parts n .mark) (components room store made)
+
+    abbrev pub applicationMarks : Seq Mark
+    applicationMarks = map (λ n. applicationAt room store made parts n .mark) (applications room store made)
+
+    abbrev pub componentPairs : Seq Pair
+    componentPairs = map (λ n. componentAt room store made parts n .pair) (components room store made)
+
+    abbrev pub applicationPairs : Seq Pair
+    applicationPairs = map (λ n. applicationAt room store made parts n .pair) (applications room store made)
+
+    -- 60 to 70, behind components of which one lies in the first partition or none
+    unfoldable pub behindFault : ℕ → Seq Pair → Bool → Refusal
+    behindFault cs pairs first =
+        let apps = length (applications room store made) in
+        earlier (clashFault cs (cs + apps) (firstHit (clash room store made) [] (pairs ++ applicationPairs)))
+        (earlier (applicationsFault store applicationMarks) (bootFault first))
+
+    abbrev pub Behind : Gathered → Refusal → Type 0
+    Behind c r = r ≡ behindFault (c .count) (take (c .count) (c .pairs)) (c .first)
+
+    -- 50 to 70
+    unfoldable pub listsFault : Refusal
+    listsFault =
+        earlier (componentsFault store componentMarks)
+        (behindFault (length (components room store made)) componentPairs (anyOf (λ n. componentAt room store made parts n .first) (components room store made)))
+
+  -- ---- of a preset
+
+  -- nothing was refused when it was read
+  pub record Clear (name : Seq ℕ) : Type 0 where
+    pub rooms : Rooms room made
+    pub clear : verdicts.verdict room store made name of01 .number ≡ 0
+
+  -- 40 to 70
+  unfoldable pub layoutFault : Chip → Refusal
+  layoutFault chip =
+      let ps = map (λ n. partitionAt room store made n .partition) (partitionNumbers room store made (fieldsOf room made 1)) in
+      earlier (inEntry 3 (faultOf (meant.layout (chipMeant chip) (map (partMeant store) ps)))) (listsFault (map (partName store) ps))
+
+  -- 30 to 70
+  unfoldable pub verdict : Seq ℕ → Refusal
+  verdict name =
+      let f = frontRead room store made (fieldsOf room made 1) (lentText name) in
+      earlier (fronts.ruled store name (f .board) (f .image)) (layoutFault (f .board .chip))

@@ -1,0 +1,89 @@
+-- Level 2 of all entries: what gathering them leaves.
+use Prim.Native.Nat.{ℕ, _+_, _≤_}
+use mathlib.Core.Bool.{Bool, true}
+use mathlib.Core.List.{List as Seq, map, _++_}
+use mathlib.Core.Path.{_≡_}
+use lib.ListN.{length, take}
+use Rattle.meaning.specs.Base.{pick}
+use Rattle.tree.specs.declared.Found.the-variants.{Nothing}
+use Rattle.tree.specs.Doors.{Rooms, fieldsOf, items}
+use Rattle.schema.specs.declared.Text.the-variants as texts
+use Rattle.schema.specs.declared.Features.the-variants as lists
+use Rattle.parse.specs.Entries.{walk}
+use Rattle.parse.specs.Refused.{componentNumbers, applicationNumbers}
+use Rattle.layout.specs.declared.Mark.{Mark}
+use Rattle.layout.specs.Marks.{anyOf}
+use Rattle.validate.specs.declared.Entry.{Entry}
+use Rattle.validate.specs.declared.uses.Pair.{Pair}
+use Rattle.validate.specs.declared.gather.Gathered.{Gathered}
+use Rattle.validate.specs.Clashes.{single}
+use Rattle.validate.specs.Entries.{componentAt, applicationAt}
+
+abbrev pub blank : Pair
+blank = single texts.Absent lists.Absent
+
+abbrev pub either : Bool → Bool → Bool
+either a b = pick a true b
+
+-- ---- entries that numbers stand for
+
+-- how many, and whether one lies in the first partition
+pub record Listed (entry : ℕ → Entry) (ns : Seq ℕ) (r : Gathered) : Type 0 where
+  pub count : r .count ≡ length ns
+  pub few : length ns ≤ 64
+  pub marks : take (length ns) (r .marks) ≡ map (λ n. entry n .mark) ns
+
+pub record Counted (room : Seq ℕ) (made place end count : ℕ) : Type 0 where
+  pub rooms : Rooms room made
+  pub within : end ≤ made
+  pub parts : count ≤ 32
+  pub few : length (items room end place 0) ≤ 64
+
+module _ (room store : Seq ℕ) (made : ℕ) where
+  pub record Gathers (parts : Seq (Seq ℕ)) (ns : Seq ℕ) (r : Gathered) : Type 0 where
+    pub listed : Listed (componentAt room store made parts) ns r
+    pub pairs : take (length ns) (r .pairs) ≡ map (λ n. componentAt room store made parts n .pair) ns
+    pub first : r .first ≡ anyOf (λ n. componentAt room store made parts n .first) ns
+
+  abbrev pub Components : ℕ → ℕ → Seq (Seq ℕ) → Gathered → Type 0
+  Components place end parts r = Gathers parts (items room end place 0) r
+
+-- the components that were gathered leave room for the applications' packages
+pub record Few (c : Gathered) : Type 0 where
+  pub few : c .count ≤ 64
+
+module _ (room store : Seq ℕ) (made : ℕ) where
+  pub record Followed (place end count : ℕ) (c : Gathered) : Type 0 where
+    pub rooms : Rooms room made
+    pub within : end ≤ made
+    pub parts : count ≤ 32
+    pub few : length (walk room store end place 65 Nothing) ≤ 64
+    pub behind : c .count ≤ 64
+
+  -- their packages stand behind those of the components
+  pub record Follows (parts : Seq (Seq ℕ)) (ns : Seq ℕ) (c r : Gathered) : Type 0 where
+    pub listed : Listed (applicationAt room store made parts) ns r
+    pub pairs : take (c .count + length ns) (r .pairs) ≡ take (c .count) (c .pairs) ++ map (λ n. applicationAt room store made parts n .pair) ns
+
+  abbrev pub Applications : ℕ → ℕ → Seq (Seq ℕ) → Gathered → Gathered → Type 0
+  Applications place end parts c r = Follows parts (walk room store end place 65 Nothing) c r
+
+  -- ---- of a preset
+
+  abbrev pub components : Seq ℕ
+  components = componentNumbers room store made (fieldsOf room made 1)
+
+  abbrev pub applications : Seq ℕ
+  applications = applicationNumbers room store made (fieldsOf room made 1) 64
+
+  pub record Ready (count : ℕ) : Type 0 where
+    pub rooms : Rooms room made
+    pub parts : count ≤ 32
+    pub components : length components ≤ 64
+    pub applications : length applications ≤ 64
+
+  abbrev pub AllComponents : Seq (Seq ℕ) → Gathered → Type 0
+  AllComponents parts r = Gathers room store made parts components r
+
+  abbrev pub AllApplications : Seq (Seq ℕ) → Gathered → Gathered → Type 0
+  AllApplications parts c r = Follows parts applications c r

@@ -1,0 +1,10 @@
+pub mod Clashes
+pub mod Entries
+pub mod Fronts
+pub mod Gathered
+pub mod Faults
+pub mod FrontSaid
+pub mod EntrySaid
+pub mod ClashSaid
+pub mod Said
+pub mod Validated

@@ -1,0 +1,17 @@
+-- The judge of validation: "fields; then validation".
+use Prim.Native.Nat.{ℕ, _≤_}
+use mathlib.Core.List.{List}
+use mathlib.Core.Path.{_≡_}
+use Rattle.parse.specs.declared.Refusal.{Refusal}
+use Rattle.parse.specs.Refusals.{earlier}
+use Rattle.parse.specs.Verdict.{reading}
+use Rattle.validate.specs.Faults as faults
+
+-- what is read, and then the rules
+abbrev pub validating : List ℕ → List ℕ → List ℕ → ℕ → Refusal
+validating name tree store made = earlier (reading name tree store made) (faults.verdict tree store made name)
+
+-- a judge's refusal, told at an entry
+pub record Told (v r : Refusal) : Type 0 where
+  pub is : r ≡ v
+  pub low : r .place ≤ 70000

@@ -1,0 +1,44 @@
+//! Validation on all sides: the port, the definitions and the original.
+use differ::record::VALIDATE;
+use differ::records::compare::check_random;
+use differ::validate::compare::judge;
+use replay::document::vector;
+use replay::met::Met;
+use replay::random::Rng;
+use replay::records::random::NAMES;
+use replay::validate::cases::CASES;
+use replay::validate::model::NUMBERS;
+use replay::validate::spelled;
+
+#[test]
+fn corners() {
+    let mut judge = judge();
+    for (i, text) in VALIDATE.texts().enumerate() {
+        judge.name = NAMES[i % NAMES.len()].to_vec();
+        judge.check(&vector::joined(&text));
+    }
+    println!("{}", judge.met.summary());
+    assert_eq!(judge.seldom(3), None, "{}", judge.met.summary());
+}
+
+// Each boundary by itself; between them all numbers are met.
+#[test]
+fn around_every_boundary() {
+    let (mut r, mut all) = (Rng::new(SEED), Met::default());
+    for (name, presets) in CASES {
+        let mut judge = judge();
+        for preset in presets() {
+            judge.check(spelled::text(&mut r, &preset).as_bytes());
+        }
+        println!("{name}: {}", judge.met.summary());
+        all.add(&judge.met);
+    }
+    assert_eq!(all.seldom(NUMBERS, 10), None, "{}", all.summary());
+}
+
+const SEED: u64 = 20_241_115;
+
+#[test]
+fn random_presets() {
+    check_random(judge, SEED, 100_000);
+}

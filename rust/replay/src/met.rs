@@ -1,0 +1,39 @@
+//! How often each refusal was met.
+
+/// By number, 0 being none.
+#[derive(Clone, Debug)]
+pub struct Met([usize; 82]);
+
+impl Default for Met {
+    fn default() -> Self {
+        Met([0; 82])
+    }
+}
+
+impl Met {
+    pub fn count(&mut self, number: u32) {
+        self.0[number as usize] += 1;
+    }
+
+    pub fn add(&mut self, other: &Met) {
+        let each = self.0.iter_mut().zip(other.0);
+        each.for_each(|(sum, n)| *sum += n);
+    }
+
+    pub fn of(&self, number: u32) -> usize {
+        self.0[number as usize]
+    }
+
+    /// The first of these numbers that was met less often.
+    pub fn seldom(&self, numbers: impl IntoIterator<Item = u32>, least: usize) -> Option<u32> {
+        let mut numbers = numbers.into_iter();
+        numbers.find(|&number| self.of(number) < least)
+    }
+
+    /// In one line.
+    pub fn summary(&self) -> String {
+        let met = self.0.iter().enumerate().skip(1).filter(|(_, n)| **n > 0);
+        let refused: String = met.map(|(number, n)| format!(" {number}: {n},")).collect();
+        format!("{} accepted; refused{refused}", self.of(0))
+    }
+}

@@ -1,0 +1,267 @@
+//! Validation against the definitions alone; these tests need no original.
+use port::preset::{Chip, Media};
+use replay::random::Rng;
+use replay::records::answer::{Preset, Refusal};
+use replay::records::ask::{Host, VALIDATE};
+use replay::records::model::{self as records, UNLIMITED};
+use replay::records::random::name;
+use replay::validate::cases::CASES;
+use replay::validate::faults::FAULTS;
+use replay::validate::plain::{plain, texts};
+use replay::validate::{model, random, sound, spelled};
+
+// What is changed in a plain preset with four entries in each list, and its refusal: number, section
+// and place, 0 for none.
+type Rule = (u32, u32, usize, fn(&mut Preset));
+
+const FRONT: [Rule; 14] = [
+    (0, 0, 0, |_| {}),
+    (30, 2, 0, |p| p.image.media = Media::SpiNand),
+    (31, 2, 0, |p| p.image.platform = b"d21x".to_vec()),
+    (31, 2, 0, |p| {
+        p.image.platform.clear();
+        p.board.profile.clear();
+    }),
+    (32, 1, 0, |p| p.board.profile.clear()),
+    (32, 1, 0, |p| {
+        p.image.boot_app = vec![b'n'; 33];
+        p.board.profile.clear();
+    }),
+    (0, 0, 0, |p| p.image.boot_app = "é".repeat(16).into()),
+    (33, 2, 0, |p| p.image.boot_app = "é".repeat(17).into()),
+    (33, 2, 0, |p| {
+        p.image.boot_app = vec![b'n'; 33];
+        p.board.target.clear();
+    }),
+    (34, 1, 0, |p| p.board.target.clear()),
+    (34, 1, 0, |p| p.board.target = b"riscv".to_vec()),
+    (35, 1, 0, |p| p.board.target = b"x-riscv64".to_vec()),
+    (0, 0, 0, |p| p.board.target = b"riscv64riscv32".to_vec()),
+    (35, 1, 0, |p| {
+        p.board.target = b"riscv64".to_vec();
+        p.partitions.clear();
+    }),
+];
+
+const PARTITIONS: [Rule; 18] = [
+    (40, 3, 0, |p| p.partitions.clear()),
+    (41, 3, 0, |p| p.partitions[0].offset = 4_096),
+    (41, 3, 0, |p| {
+        p.partitions[0].offset = 1;
+        p.partitions[0].name.clear();
+    }),
+    (42, 3, 2, |p| p.partitions[2].name.clear()),
+    (43, 3, 2, |p| {
+        p.partitions[3].name = b"p0".to_vec();
+        p.partitions[2].name = b"p1".to_vec();
+    }),
+    (44, 3, 1, |p| {
+        p.partitions[2].name = b"p1".to_vec();
+        p.partitions[1].size = 0;
+    }),
+    (45, 3, 3, |p| p.partitions[3].offset += 1),
+    (45, 3, 3, |p| p.partitions[3].offset = 4_095),
+    (46, 3, 0, |p| p.partitions[0].size = 4_095),
+    (46, 3, 3, |p| p.partitions[3].size = 4_097),
+    (47, 3, 2, |p| p.partitions[2].offset = 4_096),
+    (47, 3, 1, |p| p.partitions[0].size = 8_192),
+    (0, 0, 0, |p| p.partitions[3].offset += 4_096),
+    (0, 0, 0, |p| p.partitions[3].offset = 0xFFFF_E000),
+    (48, 3, 3, |p| p.partitions[3].offset = 0xFFFF_F000),
+    (48, 3, 3, |p| p.partitions[3].size = 0xFFFF_D000),
+    (0, 0, 0, |p| p.partitions[3].size = 0xFFFF_C000),
+    (48, 3, 3, |p| {
+        p.partitions[3].size = 0xFFFF_F000;
+        p.components.clear();
+    }),
+];
+
+const COMPONENTS: [Rule; 19] = [
+    (50, 4, 0, |p| p.components.clear()),
+    (51, 4, 2, |p| {
+        p.components[3].name = b"c0".to_vec();
+        p.components[2].name = b"c1".to_vec();
+    }),
+    (0, 0, 0, |p| p.components[1].name.clear()),
+    (0, 0, 0, |p| p.components[1].name = "漢".repeat(10).into()),
+    (52, 4, 1, |p| p.components[1].name = "漢".repeat(11).into()),
+    (53, 4, 2, |p| p.components[2].file = Some(Vec::new())),
+    (54, 4, 0, |p| p.components[0].package = None),
+    (55, 4, 3, |p| {
+        p.components[3].pbp = Some(Vec::new());
+        p.components[3].pbp_package = Some(Vec::new());
+    }),
+    (56, 4, 1, |p| p.components[1].updater = true),
+    (57, 4, 1, |p| p.components[1].partition.clear()),
+    (0, 0, 0, |p| {
+        p.components[1].partition.clear();
+        (p.components[1].updater, p.components[1].ram) = (true, Some(0));
+    }),
+    (0, 0, 0, |p| p.components[1].partition = b" p3 ;p;".to_vec()),
+    (58, 4, 1, |p| p.components[1].partition = b";p1".to_vec()),
+    (58, 4, 1, |p| p.components[1].partition = b" ".to_vec()),
+    (58, 4, 2, |p| {
+        p.partitions[2].name = b"p2 ".to_vec();
+        p.apps[2].partition = b"p2 ".to_vec();
+    }),
+    (0, 0, 0, |p| p.components[3].ext_reserve = 512),
+    (59, 4, 3, |p| p.components[3].ext_reserve = 511),
+    (59, 4, 0, |p| {
+        p.components[0].ext_reserve = 1;
+        p.components[1].name = b"c0".to_vec();
+    }),
+    (59, 4, 3, |p| {
+        p.components[3].ext_reserve = 1;
+        featured(p, 1, "f");
+    }),
+];
+
+const OTHERS: [Rule; 24] = [
+    (60, 4, 2, |p| featured(p, 2, "f")),
+    (60, 4, 1, |p| featured(p, 0, "f")),
+    (0, 0, 0, |p| (0..4).for_each(|i| featured(p, i, "f"))),
+    (0, 0, 0, |p| p.components[3].pbp_features = texts(&["f"])),
+    (60, 4, 3, |p| {
+        p.components[3].pbp_package = Some(b"p".to_vec());
+        p.components[3].pbp_features = texts(&["f"]);
+    }),
+    (60, 4, 3, |p| {
+        (0..4).for_each(|i| featured(p, i, "f"));
+        p.components[3].features = texts(&["g"]);
+    }),
+    (0, 0, 0, |p| {
+        (0..4).for_each(|i| featured(p, i, "f"));
+        p.components[3].pbp_package = Some(b"p".to_vec());
+        p.components[3].features = texts(&["g"]);
+    }),
+    (60, 5, 3, |p| {
+        p.apps[3].package = b"p".to_vec();
+        p.apps[3].features = texts(&[""]);
+        p.apps[0].name.clear();
+    }),
+    (0, 0, 0, |p| p.apps[3].package = b"p".to_vec()),
+    (61, 5, 1, |p| p.apps[1].name.clear()),
+    (0, 0, 0, |p| p.apps[1].name = "😀".repeat(8).into()),
+    (62, 5, 1, |p| p.apps[1].name = ("😀".repeat(8) + "x").into()),
+    (63, 5, 2, |p| p.apps[2].filename.clear()),
+    (64, 5, 3, |p| p.apps[3].partition = b"p3;x".to_vec()),
+    (64, 5, 3, |p| p.apps[3].partition = b" p3".to_vec()),
+    (64, 5, 0, |p| p.apps[0].partition.clear()),
+    (65, 5, 1, |p| p.apps[0].name = b"a01".to_vec()),
+    (65, 5, 2, |p| {
+        p.apps[3].name = b"a00".to_vec();
+        p.apps[2].name = b"a01".to_vec();
+    }),
+    (0, 0, 0, |p| p.apps[2].name = b"c0".to_vec()),
+    (66, 5, 0, |p| p.apps[0].load_address = Some(2)),
+    (0, 0, 0, |p| p.apps[0].load_address = Some(0xFFFF_FFFC)),
+    (0, 0, 0, |p| p.components[0].load_address = Some(2)),
+    (70, 4, 0, |p| p.components[0].partition = b"p1".to_vec()),
+    (66, 5, 3, |p| {
+        p.components[0].partition = b"p1".to_vec();
+        p.apps[3].load_address = Some(1);
+    }),
+];
+
+fn featured(p: &mut Preset, n: usize, feature: &str) {
+    p.components[n].features = texts(&[feature]);
+    p.components[n].pbp_features = texts(&[feature]);
+}
+
+fn rules() -> impl Iterator<Item = &'static Rule> {
+    let lists = PARTITIONS.iter().chain(&COMPONENTS);
+    FRONT.iter().chain(lists).chain(&OTHERS)
+}
+
+#[test]
+fn rules_of_validation() {
+    let (mut r, mut host) = (Rng::new(1), Host::new(VALIDATE));
+    for (i, (number, section, place, change)) in rules().enumerate() {
+        let mut preset = plain(Chip::D13x, [4, 4, 4]);
+        change(&mut preset);
+        let refusal = Refusal {
+            number: *number,
+            section: *section,
+            place: *place,
+        };
+        let want = (*number > 0).then_some(refusal);
+        assert_eq!(model::refusal(&preset), want, "rule {i}");
+        let text = spelled::text(&mut r, &preset);
+        let got = model::read(text.as_bytes(), b"board");
+        let told = host.judge_fully(text.as_bytes(), b"board", &got);
+        told.map_err(|e| panic!("{text}: port against definition, {e}"))
+            .ok();
+        assert_eq!(got.err(), want, "rule {i}: {text}");
+    }
+    let told = |number: &u32| rules().any(|rule| rule.0 == *number);
+    assert!(model::NUMBERS.iter().all(told));
+}
+
+#[test]
+fn sound_presets() {
+    let mut r = Rng::new(2);
+    for i in 0..2_000 {
+        let preset = match i % 100 {
+            0 => sound::wide(&mut r),
+            _ => sound::preset(&mut r),
+        };
+        assert_eq!(model::refusal(&preset), None, "{preset:?}");
+    }
+}
+
+// Each fault is refused with its number, wherever it is.
+#[test]
+fn faults_alone() {
+    let mut r = Rng::new(3);
+    for n in 0..200 {
+        for (number, fault) in FAULTS {
+            let mut preset = sound::preset(&mut r);
+            fault(&mut preset, n, &mut r);
+            let got = model::refusal(&preset).map(|refusal| refusal.number);
+            assert_eq!(got, Some(number), "{preset:?}");
+        }
+    }
+}
+
+fn judged(host: &mut Host, text: &[u8], name: &[u8]) {
+    let told = host.judge(text, name, &model::read(text, name));
+    told.map_err(|e| panic!("{}: port against definition, {e}", text.escape_ascii()))
+        .ok();
+}
+
+#[test]
+fn around_every_boundary() {
+    let (mut r, mut host) = (Rng::new(5), Host::new(VALIDATE));
+    for (_, presets) in CASES {
+        for preset in presets() {
+            let text = spelled::text(&mut r, &preset);
+            judged(&mut host, text.as_bytes(), b"board");
+        }
+    }
+}
+
+#[test]
+fn random_presets() {
+    let (mut r, mut host) = (Rng::new(6), Host::new(VALIDATE));
+    for _ in 0..10_000 {
+        let name = name(&mut r);
+        judged(&mut host, &random::text(&mut r), &name);
+    }
+}
+
+// A text that is spelled from records is read as these, also by the port.
+#[test]
+fn spelled_presets() {
+    let (mut r, mut host) = (Rng::new(4), Host::default());
+    for _ in 0..2_000 {
+        let preset = random::preset(&mut r);
+        let text = spelled::text(&mut r, &preset);
+        let read = records::read_within(text.as_bytes(), b"board", &UNLIMITED);
+        let got = read.map(|answer| answer.preset);
+        assert_eq!(got, Ok(preset), "{text}");
+        let want = records::read(text.as_bytes(), b"board");
+        let told = host.judge(text.as_bytes(), b"board", &want);
+        told.map_err(|e| panic!("{text}: port against definition, {e}"))
+            .ok();
+    }
+}
