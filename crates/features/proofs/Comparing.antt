@@ -1,4 +1,4 @@
--- Two lists side by side in byte order: one law for each way on and out.
+-- Two lists side by side, in byte order and in the order of the text: one law for each way on and out.
 use Prim.Native.Nat.{ℕ, zero, suc, _≤_, _<_}
 use mathlib.Core.Bool.{Bool, true, false}
 use mathlib.Core.List.{List, [], _∷_}
@@ -9,17 +9,26 @@ use Rattle.meaning.specs.Base.{pick, same}
 use Rattle.meaning.specs.Features.{ordered}
 use Rattle.meaning.specs.Rules.{sameAll}
 use Rattle.laws.specs.Cases.{never}
+use Rattle.laws.specs.Never.{same-refl}
+use Rattle.laws.specs.Order.{same-eq}
+use Rattle.schema.specs.declared.Features.{Features}
 use Rattle.features.specs.declared.Piece.{Piece}
 use Rattle.features.specs.declared.Feature.{Feature}
 use Rattle.features.specs.declared.Feature.the-variants.{Nothing, At}
-use Rattle.features.specs.Pieces.{bytesOf, nextOf, sameFeature}
+use Rattle.features.specs.declared.Raw.{Raw}
+use Rattle.features.specs.declared.Raw.the-variants as raws
+use Rattle.features.specs.Pieces.{Steps, piecesFrom, pieces, bound, bytesOf, nextOf, sameFeature}
 use Rattle.features.specs.Ordered.{bytesAll, Walks, walk-ordered}
+use Rattle.features.proofs.Stepping.{step-end, step-at}
 
--- ---- same_feature
+-- ---- same_piece and same_feature
 
-pub same-at : (store s t : List ℕ) (x y : Feature) (p q : Piece) (r : Bool) → x ≡ At p → y ≡ At q
-    → s ≡ bytesOf store p → t ≡ bytesOf store q → r ≡ same s t → r ≡ sameFeature store x y
-same-at store s t x y p q r e f i j h = rw (e, f, ← i, ← j) h
+pub piece-same : (store s t : List ℕ) (p q : Piece) (r : Bool) → s ≡ bytesOf store p → t ≡ bytesOf store q → r ≡ same s t → r ≡ same (bytesOf store p) (bytesOf store q)
+piece-same store s t p q r i j h = rw (← i, ← j) h
+
+pub same-at : (store : List ℕ) (x y : Feature) (p q : Piece) (r : Bool) → x ≡ At p → y ≡ At q
+    → r ≡ same (bytesOf store p) (bytesOf store q) → r ≡ sameFeature store x y
+same-at store x y p q r e f h = rw (e, f) h
 
 -- ---- how many steps a walk has left
 
@@ -42,7 +51,7 @@ steps-are store ps zero after us w h = omega arith
 steps-are store ps (suc n) after [] w h = rw w
 steps-are store ps (suc n) after (u ∷ us) w h = rw (w .1) (ap suc (steps-are store ps n (At (w .0)) us (w .3) (omega arith)))
 
--- ---- equal
+-- ---- equal_slow
 
 nothing-at : {G : Type 0} (p : Piece) → Nothing ≡ At p → G
 nothing-at p e = let z : _≡_ {A = ℕ} 0 1 = cc in absurd (omega arith)
@@ -129,3 +138,41 @@ module _ (store : List ℕ) (ps qs : List Piece) where
               steps-are store ps n a (k .us) (k .one) (k .few),
               steps-are store ps n x (drop 1 (k .us)) (behind .1) few-others,
             )
+
+-- ---- alike
+
+-- where the others are the same, all are
+pub record Pairing (tree store : List ℕ) (made : ℕ) (f g : Features) (at bt : ℕ) : Type 0 where
+  pub high : at ≤ bound tree store made f
+  pub top : bt ≤ bound tree store made g
+  pub left : bytesAll store (piecesFrom tree store made f at) ≡ bytesAll store (piecesFrom tree store made g bt)
+      → bytesAll store (pieces tree store made f) ≡ bytesAll store (pieces tree store made g)
+
+pub pair-no : {A : Type 0} → false ≡ true → A
+pair-no e = never {b = false} e refl
+
+module _ (tree store : List ℕ) (made : ℕ) (f g : Features) where
+  pub pair-start : Pairing tree store made f g 0 0
+  pair-start = record { high = omega arith; top = omega arith; left = λ e. e }
+
+  module _ (at bt : ℕ) (k : Pairing tree store made f g at bt) (r s : Raw)
+      (h : Steps (piecesFrom tree store made f) (bound tree store made f) at r) (i : Steps (piecesFrom tree store made g) (bound tree store made g) bt s) where
+    pub pair-end : r ≡ raws.End → s ≡ raws.End → true ≡ true → bytesAll store (pieces tree store made f) ≡ bytesAll store (pieces tree store made g)
+    pair-end d e t = k .left (rw (step-end tree store made at f r h d, step-end tree store made bt g s i e))
+
+    pub pair-on : (p q : Piece) (n m : ℕ) (b : Bool) → r ≡ raws.At p n → s ≡ raws.At q m → b ≡ same (bytesOf store p) (bytesOf store q) → b ≡ true
+        → Pairing tree store made f g n m
+    pair-on p q n m b d e c t =
+        let x = step-at tree store made at f r h p n d in
+        let y = step-at tree store made bt g s i q m e in
+        let z : bytesOf store p ≡ bytesOf store q = same-eq (bytesOf store p) (bytesOf store q) (sym c ∙ t) in
+        record { high = x .2; top = y .2; left = λ w. k .left (rw (x .0, y .0, z, w)) }
+
+-- ---- equal
+
+same-all : (xs : List (List ℕ)) → sameAll xs xs ≡ true
+same-all [] = refl
+same-all (x ∷ xs) = rw (same-refl x) (same-all xs)
+
+pub alike-equal : (xs ys : List (List ℕ)) (b : Bool) → (b ≡ true → xs ≡ ys) → b ≡ true → true ≡ sameAll (ordered xs) (ordered ys)
+alike-equal xs ys b h e = rw (h e) (sym (same-all (ordered ys)))

@@ -256,15 +256,18 @@ module _ (tree store : List ℕ) (made at : ℕ) (f : Features) where
     unfolding piecesFrom
     next-items place e h = rw e h
 
--- ---- is_empty and next
+-- ---- is_empty, next and alike
 
 module _ (tree store : List ℕ) (made at : ℕ) (f : Features) (r : Raw) (h : Steps (piecesFrom tree store made f) (bound tree store made f) at r) where
-  step-end : r ≡ raws.End → piecesFrom tree store made f at ≡ []
+  pub step-end : r ≡ raws.End → piecesFrom tree store made f at ≡ []
   step-end e = rw e at h
 
-  step-at : (p : Piece) (n : ℕ) → r ≡ raws.At p n
+  pub step-at : (p : Piece) (n : ℕ) → r ≡ raws.At p n
       → (piecesFrom tree store made f at ≡ p ∷ piecesFrom tree store made f n) × (at < n) × (n ≤ bound tree store made f)
   step-at p n e = rw e at h
+
+  pub step-less : (p : Piece) (n : ℕ) → r ≡ raws.At p n → bound tree store made f - n < bound tree store made f - at
+  step-less p n e = let s = step-at p n e in omega (arith, s .1, s .2)
 
 module _ (tree store : List ℕ) (made : ℕ) (f : Features) (r : Raw) (h : Steps (piecesFrom tree store made f) (bound tree store made f) 0 r) where
   pub empty-yes : r ≡ raws.End → true ≡ nil? (pieces tree store made f)
@@ -291,6 +294,3 @@ module _ (tree store : List ℕ) (made : ℕ) (f : Features) (after : Feature) w
       near-on q g =
           let s = step-at tree store made at f r h p n e in
           record { high = s .2; left = rw g (rw (s .0) at (k .left)) }
-
-      pub near-less : bound tree store made f - n < bound tree store made f - at
-      near-less = let s = step-at tree store made at f r h p n e in omega (arith, s .1, s .2)

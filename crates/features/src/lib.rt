@@ -3,10 +3,11 @@
 use schema::Features;
 use tree::Found;
 use tree::Value;
+ghost use mathlib.Core.Bool.{true};
 ghost use mathlib.Core.Path.{_≡_};
 ghost use Prim.Native.Nat.{_+_, _≤_};
 ghost use lib.ListN.{length, drop};
-ghost use Rattle.meaning.specs.Base.{pick, nil?, less};
+ghost use Rattle.meaning.specs.Base.{pick, nil?, same, less};
 ghost use Rattle.meaning.specs.Features as meant;
 ghost use Rattle.schema.specs.Texts.{clip};
 ghost use Rattle.features.specs.Pieces as piece;
@@ -340,6 +341,15 @@ pub fn next(tree: &[u8], store: &[u8], made: usize, f: Features, after: Feature)
     }
 }
 
+// Whether two pieces have the same bytes.
+fn same_piece(store: &[u8], p: Piece, q: Piece) -> bool
+    ensures { λ r. ⌜ r ≡ same (piece.bytesOf (now (store .entry)) p) (piece.bytesOf (now (store .entry)) q) ⌝ }
+{
+    let a = schema::stored(store, p.from, p.len);
+    let b = schema::stored(store, q.from, q.len);
+    slices::same(a, b)
+}
+
 // Whether both are there and have the same bytes, or neither is.
 fn same_feature(store: &[u8], x: Feature, y: Feature) -> bool
     ensures { λ r. ⌜ r ≡ piece.sameFeature (now (store .entry)) x y ⌝ }
@@ -351,16 +361,42 @@ fn same_feature(store: &[u8], x: Feature, y: Feature) -> bool
         },
         Feature::At(p) => match y {
             Feature::Nothing => false,
-            Feature::At(q) => slices::same(
-                schema::stored(store, p.from, p.len),
-                schema::stored(store, q.from, q.len),
-            ),
+            Feature::At(q) => same_piece(store, p, q),
         },
     }
 }
 
-// Whether two lists have the same items, in byte order and each once.
-pub fn equal(tree: &[u8], store: &[u8], made: usize, f: Features, g: Features) -> bool
+// Two lists with the same items in the order of the text are told by one scan of each.
+fn alike(tree: &[u8], store: &[u8], made: usize, f: Features, g: Features) -> bool
+    requires { ⌜ Rooms (now tree) made ⌝ }
+    ensures { λ r. ⌜ (r ≡ true → bytesAll (now (store .entry)) (piece.pieces (now (tree .entry)) (now (store .entry)) made f) ≡ bytesAll (now (store .entry)) (piece.pieces (now (tree .entry)) (now (store .entry)) made g)) ⌝ }
+{
+    let mut at = 0;
+    let mut bt = 0;
+    loop {
+        let r = raw_next(tree, store, made, f, at);
+        let s = raw_next(tree, store, made, g, bt);
+        match r {
+            Raw::End => match s {
+                Raw::End => return true,
+                Raw::At(_, _) => return false,
+            },
+            Raw::At(p, n) => match s {
+                Raw::End => return false,
+                Raw::At(q, m) => {
+                    if !same_piece(store, p, q) {
+                        return false;
+                    }
+                    at = n;
+                    bt = m;
+                }
+            },
+        }
+    }
+}
+
+// Side by side in byte order: each step scans both lists.
+fn equal_slow(tree: &[u8], store: &[u8], made: usize, f: Features, g: Features) -> bool
     requires { ⌜ Rooms (now tree) made ⌝ }
     ensures { λ r. ⌜ r ≡ sameAll (meant.ordered (bytesAll (now (store .entry)) (piece.pieces (now (tree .entry)) (now (store .entry)) made f))) (meant.ordered (bytesAll (now (store .entry)) (piece.pieces (now (tree .entry)) (now (store .entry)) made g))) ⌝ }
 {
@@ -377,4 +413,15 @@ pub fn equal(tree: &[u8], store: &[u8], made: usize, f: Features, g: Features) -
             Feature::At(_) => {}
         }
     }
+}
+
+// Whether two lists have the same items, in byte order and each once.
+pub fn equal(tree: &[u8], store: &[u8], made: usize, f: Features, g: Features) -> bool
+    requires { ⌜ Rooms (now tree) made ⌝ }
+    ensures { λ r. ⌜ r ≡ sameAll (meant.ordered (bytesAll (now (store .entry)) (piece.pieces (now (tree .entry)) (now (store .entry)) made f))) (meant.ordered (bytesAll (now (store .entry)) (piece.pieces (now (tree .entry)) (now (store .entry)) made g))) ⌝ }
+{
+    if alike(tree, store, made, f, g) {
+        return true;
+    }
+    equal_slow(tree, store, made, f, g)
 }

@@ -30,7 +30,7 @@ module _ {X : Type 0} (hit : X → X → Bool) (xs : List X) (n : ℕ) where
 
   module _ (i found : ℕ) (k : Later hit xs n i found) where
     -- entry number i is the first of those that are left
-    later-head : (d : X) → i < n
+    pub later-head : (d : X) → i < n
         → firstHit hit [] (take n xs)
         ≡ i + pick (anyOf (hit (getD xs i d)) (take i xs)) 0 (suc (firstHit hit (take (i + 1) xs) (slice (i + 1) n xs)))
     later-head d l =

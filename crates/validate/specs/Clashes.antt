@@ -34,6 +34,23 @@ module _ (room store : List ℕ) (made : ℕ) where
       (pick (differ (a .«package») (a .features) (b .«pbp_package») (b .«pbp_features»)) true
       (pick (differ (a .«pbp_package») (a .«pbp_features») (b .«package») (b .features)) true (differ (a .«pbp_package») (a .«pbp_features») (b .«pbp_package») (b .«pbp_features»))))
 
+module _ (store : List ℕ) where
+  -- an entry uses a package
+  unfoldable pub has : Text → Pair → Bool
+  has p b = pick (twice (packed store p) (packed store (b .«package»))) true (twice (packed store p) (packed store (b .«pbp_package»)))
+
+  -- two entries use one package
+  unfoldable pub meet : Pair → Pair → Bool
+  meet a b = pick (has (a .«package») b) true (has (a .«pbp_package») b)
+
+  -- a package that an entry does not use
+  unfoldable pub unmet : Text → Pair → Text
+  unmet p b = pick (has p b) texts.Absent p
+
+  -- what one uses that the other does not
+  unfoldable pub left : Pair → Pair → Pair
+  left a b = record { «package» = unmet (a .«package») b; features = a .features; «pbp_package» = unmet (a .«pbp_package») b; «pbp_features» = a .«pbp_features» }
+
 -- "where a component's `pbp_package` is its `package`, only `pbp_features` count"
 unfoldable pub pairOf : List ℕ → Component → Pair
 pairOf store c =

@@ -80,6 +80,58 @@ fn clash(tree: &[u8], store: &[u8], made: usize, a: Pair, b: Pair) -> bool
     differ(tree, store, made, p2, f2, q2, g2)
 }
 
+// Whether an entry uses a package.
+fn has(store: &[u8], p: Text, b: Pair) -> bool
+    ensures { λ r. ⌜ r ≡ clashes.has (now (store .entry)) p b ⌝ }
+{
+    let q = b.package;
+    let q2 = b.pbp_package;
+    if twice(store, p, q) {
+        return true;
+    }
+    twice(store, p, q2)
+}
+
+// Whether two entries use one package.
+fn meet(store: &[u8], a: Pair, b: Pair) -> bool
+    ensures { λ r. ⌜ r ≡ clashes.meet (now (store .entry)) a b ⌝ }
+{
+    let p = a.package;
+    let p2 = a.pbp_package;
+    if has(store, p, b) {
+        return true;
+    }
+    has(store, p2, b)
+}
+
+// A package that an entry does not use; none where it does.
+fn unmet(store: &[u8], p: Text, b: Pair) -> Text
+    ensures { λ r. ⌜ r ≡ clashes.unmet (now (store .entry)) p b ⌝ }
+{
+    if has(store, p, b) {
+        return Text::Absent;
+    }
+    p
+}
+
+// What an entry uses that another does not.
+fn left(store: &[u8], a: Pair, b: Pair) -> Pair
+    ensures { λ r. ⌜ r ≡ clashes.left (now (store .entry)) a b ⌝ }
+{
+    let p = a.package;
+    let f = a.features;
+    let p2 = a.pbp_package;
+    let f2 = a.pbp_features;
+    let package = unmet(store, p, b);
+    let pbp_package = unmet(store, p2, b);
+    Pair {
+        package: package,
+        features: f,
+        pbp_package: pbp_package,
+        pbp_features: f2,
+    }
+}
+
 // The first entry that clashes with an earlier one; as many as there are where there is none.
 pub fn first_clash(
     tree: &[u8],
@@ -93,11 +145,18 @@ pub fn first_clash(
 {
     let mut found = count;
     'later: for i in 0..count {
+        // one earlier use of a package is enough: those before this entry agree
+        let mut rest = pairs[i];
         for j in 0..i {
-            if clash(tree, store, made, pairs[i], pairs[j]) {
+            let b = pairs[j];
+            if !meet(store, rest, b) {
+                continue;
+            }
+            if clash(tree, store, made, rest, b) {
                 found = i;
                 break 'later;
             }
+            rest = left(store, rest, b);
         }
     }
     found

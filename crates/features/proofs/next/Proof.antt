@@ -1,7 +1,7 @@
 use borrow.Author.Needs.{needs}
 use Prim.Native.Nat.{_-_}
 use Rattle.features.specs.Pieces.{bound}
-use Rattle.features.proofs.Stepping.{Nearing, near-start, near-on, near-less, near-end}
+use Rattle.features.proofs.Stepping.{Nearing, near-start, near-on, near-end, step-less}
 use Rattle.features.proofs.next.Statement.{statement}
 use Rattle.features.proofs.next.Tie as tie
 use Rattle.features.proofs.next.Reads as reads
@@ -34,7 +34,7 @@ better-requires : tie.Need-better-requires Inv-loop μ-loop
 better-requires c κs = search needs
 
 loop-less : tie.Need-loop-less Inv-loop μ-loop
-loop-less c = search (needs, near-less)
+loop-less c = search (needs, step-less)
 
 loop-again : tie.Need-loop-again Inv-loop μ-loop
 loop-again c = search (needs, near-on)

@@ -4,8 +4,7 @@ use Rattle.features.proofs.same_feature.Statement.{statement}
 use Rattle.features.proofs.same_feature.Tie as tie
 use Rattle.features.proofs.same_feature.Reads as reads
 use Rattle.features.proofs.same_feature.Lts as lts
-use Rattle.schema.proofs.stored.Reads as stored-reads
-use Rattle.slices.proofs.same.Reads as same-reads
+use Rattle.features.proofs.same_piece.Reads as same-piece-reads
 
 enum-told : tie.Need-enum-told
 enum-told c = search needs
@@ -25,14 +24,8 @@ enum-told-4 c = search needs
 enum-known-y : tie.Need-enum-known-y
 enum-known-y c = search needs
 
-stored-requires : tie.Need-stored-requires
-stored-requires c κs = search needs
-
-stored-requires-2 : tie.Need-stored-requires-2
-stored-requires-2 c κs = search needs
-
-same-requires : tie.Need-same-requires
-same-requires c κs = search needs
+same-piece-requires : tie.Need-same-piece-requires
+same-piece-requires c κs = search needs
 
 returns : tie.Need-returns
 returns c = search needs
@@ -56,9 +49,7 @@ same-feature-spec =
     enum-known-x
     enum-told-4
     enum-known-y
-    stored-requires
-    stored-requires-2
-    same-requires
+    same-piece-requires
     returns
     returns-2
     returns-3
