@@ -153,27 +153,26 @@ pub struct FeatureView {
 mod sys {
     use super::*;
 
+    // What starts from a text and a lent name is declared alike.
+    macro_rules! from_text {
+        ($($entry:ident)*) => {
+            unsafe extern "C" {
+                $(pub fn $entry(
+                    text: *const u8,
+                    n: usize,
+                    name: *const u8,
+                    name_n: usize,
+                    store: *mut u8,
+                    store_room: usize,
+                    tree: *mut u8,
+                    tree_room: usize,
+                ) -> Outcome;)*
+            }
+        };
+    }
+    from_text!(preset_read preset_validate);
+
     unsafe extern "C" {
-        pub fn preset_read(
-            text: *const u8,
-            n: usize,
-            name: *const u8,
-            name_n: usize,
-            store: *mut u8,
-            store_room: usize,
-            tree: *mut u8,
-            tree_room: usize,
-        ) -> Outcome;
-        pub fn preset_validate(
-            text: *const u8,
-            n: usize,
-            name: *const u8,
-            name_n: usize,
-            store: *mut u8,
-            store_room: usize,
-            tree: *mut u8,
-            tree_room: usize,
-        ) -> Outcome;
         pub fn preset_counts(
             tree: *const u8,
             room: usize,
