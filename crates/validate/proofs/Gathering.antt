@@ -1,8 +1,8 @@
 -- All entries gathered into arrays: one law for each way on and out.
-use Prim.Native.Nat.{ℕ, zero, suc, _+_, _-_, _≤_, _<_}
+use Prim.Native.Nat.{ℕ, suc, _+_, _-_, _≤_, _<_}
 use mathlib.Core.Bool.{Bool, true, false}
 use mathlib.Core.List.{List as Seq, [], _∷_, _++_, map, append-assoc, append-nil}
-use mathlib.Core.Path.{_≡_, refl, sym, ap, subst, _∙_}
+use mathlib.Core.Path.{_≡_, refl, sym, ap, _∙_}
 use native.Mathlib.Omega.{arith}
 use native.Mathlib.Numerals.{add-one}
 use lib.ListN.{length, take, set, replicate, length-set, length-map}
@@ -13,7 +13,7 @@ use Rattle.tree.specs.Room.{Finds, slotAt, child}
 use Rattle.tree.specs.Order.{next}
 use Rattle.tree.specs.Doors.{Rooms, Stood, items}
 use Rattle.tree.specs.Spans.{items-step, items-end}
-use Rattle.tree.specs.Laws.{found-below, found-from}
+use Rattle.tree.specs.Laws.{found-below}
 use Rattle.parse.specs.declared.entry.List.{List}
 use Rattle.parse.specs.Entries.{walk}
 use Rattle.parse.specs.Views.{componentList, applicationList}
@@ -25,7 +25,7 @@ use Rattle.validate.specs.declared.Entry.{Entry}
 use Rattle.validate.specs.declared.uses.Pair.{Pair}
 use Rattle.validate.specs.declared.gather.Gathered.{Gathered}
 use Rattle.validate.specs.Entries.{componentAt, applicationAt}
-use Rattle.validate.specs.Gathered.{blank, either, Listed, Counted, Gathers, Components, Followed, Follows, Applications, Ready, AllComponents, AllApplications, Few}
+use Rattle.validate.specs.Gathered.{blank, either, Listed, Counted, Components, Followed, Applications, Ready, AllComponents, AllApplications, Few}
 
 -- ---- an array filled from a place on
 

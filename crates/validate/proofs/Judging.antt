@@ -2,16 +2,15 @@
 use Prim.Native.Nat.{ℕ, zero, suc, _+_, _-_, _≤_, _<_}
 use mathlib.Core.Bool.{Bool, true, false}
 use mathlib.Core.List.{List as Seq, [], _∷_, _++_, map}
-use mathlib.Core.Path.{_≡_, refl, sym, ap, subst, _∙_}
+use mathlib.Core.Path.{_≡_, refl, ap, _∙_}
 use native.Mathlib.Omega.{arith}
-use borrow.Author.Tests.{eq-eqb, ne-eqb, lt-ltb, le-ltb, eqb-true, eqb-false}
-use lib.Dec.{eqb, ltb}
+use borrow.Author.Tests.{eq-eqb, ne-eqb, lt-ltb, le-ltb}
 use lib.ListN.{length, take, replicate}
 use lib.Seq.{take-append-seam}
-use Rattle.meaning.specs.Base.{pick, nil?}
+use Rattle.meaning.specs.Base.{nil?}
 use Rattle.meaning.specs.declared.Limits.{Limits}
 use Rattle.meaning.specs.Limits.{of01}
-use Rattle.meaning.specs.Refusal.{Answer, accepted, refused}
+use Rattle.meaning.specs.Refusal.{accepted}
 use Rattle.meaning.specs.Layout as meant
 use Rattle.laws.specs.Cases.{on}
 use Rattle.tree.specs.declared.Fields.{Fields}
@@ -25,14 +24,12 @@ use Rattle.parse.specs.declared.Outcome.{Outcome}
 use Rattle.parse.specs.declared.entry.List.{List}
 use Rattle.parse.specs.declared.entry.Partitions.{Partitions}
 use Rattle.parse.specs.declared.front.Front.{Front}
-use Rattle.parse.specs.Refusals.{earlier}
 use Rattle.meaning.specs.Fields.{each, listed}
 use Rattle.parse.specs.Entries.{told, blank, Partitioned, partitions, partitionAt}
 use Rattle.parse.specs.Whole as whole
 use Rattle.parse.specs.Whole.{reader}
 use Rattle.parse.specs.Given as given
 use Rattle.parse.specs.Front.{frontRead}
-use Rattle.parse.specs.Refused as parsed
 use Rattle.parse.specs.Refused.{lentText, partitionNumbers}
 use Rattle.parse.specs.Views.{partitionList}
 use Rattle.parse.proofs.Judging.{verdict-settles}
@@ -40,7 +37,7 @@ use Rattle.parse.specs.Verdict as verdicts
 use Rattle.parse.specs.Verdict.{Kept, Settling}
 use Rattle.layout.specs.declared.Fault.{Fault}
 use Rattle.layout.specs.declared.Mark.{Mark}
-use Rattle.layout.specs.Marks.{anyOf, firstHit, faultOf, judged, Marked}
+use Rattle.layout.specs.Marks.{firstHit, faultOf, judged, Marked}
 use Rattle.layout.specs.Parts.{partName, partMeant}
 use Rattle.validate.specs.declared.uses.Pair.{Pair}
 use Rattle.validate.specs.declared.gather.Gathered.{Gathered}

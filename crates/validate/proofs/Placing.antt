@@ -1,7 +1,7 @@
 -- A rule's refusal is told at an entry, so its place is small.
 use Prim.Native.Nat.{ℕ, _+_, _-_, _≤_}
 use mathlib.Core.Bool.{Bool}
-use mathlib.Core.List.{List as Seq, [], _∷_, _++_, map}
+use mathlib.Core.List.{List as Seq, [], _∷_, map}
 use mathlib.Core.Path.{_≡_, ap}
 use native.Mathlib.Omega.{arith}
 use borrow.Author.Tests.{ltb-true}
@@ -9,7 +9,7 @@ use lib.Dec.{eqb, ltb}
 use lib.ListN.{length, length-map}
 use Rattle.meaning.specs.Base.{pick, nil?}
 use Rattle.meaning.specs.Limits.{of01}
-use Rattle.meaning.specs.Refusal.{Answer, accepted, refused}
+use Rattle.meaning.specs.Refusal.{accepted, refused}
 use Rattle.meaning.specs.Verdict as verdicts
 use Rattle.meaning.specs.Verdict.{Verdict, and, inTurn}
 use Rattle.meaning.specs.Layout as meant
@@ -32,9 +32,8 @@ use Rattle.parse.specs.Given as given
 use Rattle.parse.specs.Verdict.{Settling}
 use Rattle.layout.specs.declared.Fault.{Fault}
 use Rattle.layout.specs.declared.Mark.{Mark}
-use Rattle.layout.specs.Marks.{anyOf, firstHit, faultOf, markRule, noted, judged}
+use Rattle.layout.specs.Marks.{anyOf, faultOf, markRule, noted, judged}
 use Rattle.layout.specs.Parts.{partName, partMeant}
-use Rattle.validate.specs.declared.uses.Pair.{Pair}
 use Rattle.validate.specs.Clashes.{clash}
 use Rattle.validate.specs.Entries.{componentAt, applicationAt}
 use Rattle.validate.specs.Fronts as fronts

@@ -11,7 +11,6 @@ use Rattle.schema.specs.declared.Text.the-variants as texts
 use Rattle.schema.specs.declared.Features.the-variants as lists
 use Rattle.parse.specs.Entries.{walk}
 use Rattle.parse.specs.Refused.{componentNumbers, applicationNumbers}
-use Rattle.layout.specs.declared.Mark.{Mark}
 use Rattle.layout.specs.Marks.{anyOf}
 use Rattle.validate.specs.declared.Entry.{Entry}
 use Rattle.validate.specs.declared.uses.Pair.{Pair}

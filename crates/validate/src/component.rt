@@ -17,8 +17,6 @@ ghost use lib.ListN.{take};
 ghost use Rattle.meaning.specs.Base.{pick};
 ghost use Rattle.meaning.specs.Rules as meant;
 ghost use Rattle.tree.specs.Doors.{Rooms, Stood};
-ghost use Rattle.schema.specs.Texts.{clip, startOf, lengthOf};
-ghost use Rattle.layout.specs.Marks.{rank};
 ghost use Rattle.layout.specs.Parts.{partName};
 ghost use Rattle.validate.specs.Entries as entries;
 

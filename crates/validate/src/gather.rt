@@ -10,7 +10,6 @@ ghost use mathlib.Core.List.{map};
 ghost use mathlib.Core.Path.{_≡_};
 ghost use lib.ListN.{take, replicate};
 ghost use Rattle.layout.specs.Parts.{partName};
-ghost use Rattle.validate.specs.Entries as entries;
 ghost use Rattle.validate.specs.Gathered as gathered;
 ghost use Rattle.validate.specs.Gathered.{Counted, Components, Applications, Followed};
 
