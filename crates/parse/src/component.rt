@@ -59,7 +59,7 @@ pub struct ComponentRead {
 }
 
 // The name of a file, where there is one.
-fn name_in(store: &[u8], file: Text) -> Text
+pub fn name_in(store: &[u8], file: Text) -> Text
     ensures { λ r. ⌜ r ≡ comps.nameIn (now (store .entry)) file ⌝ }
 {
     match file {

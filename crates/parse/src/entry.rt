@@ -94,7 +94,7 @@ pub fn list_at(
 }
 
 // The table that an entry is, or 23.
-fn entry_table(tree: &[u8], made: usize, v: Value) -> crate::front::TableRead
+pub fn entry_table(tree: &[u8], made: usize, v: Value) -> crate::front::TableRead
     requires { ⌜ Rooms (now tree) made ⌝ }
     ensures { λ r. ⌜ r ≡ entries.entryTable (now (tree .entry)) made v ⌝ }
 {
