@@ -86,12 +86,13 @@ late-done store known c r name z source y boot x target reserve pack file s a n 
     let k : eqb (length s) 0 ≡ nil? (kept store (c .role .partition)) = nil-long s ∙ ap nil? (kept-is store (c .role .partition) a n p q s g) in
     rw (e1, e2, e3, e4, f1, f2, f3, f4, f5, f6, f7, k)
 
-pub reference-done : (store : List ℕ) (t : Text) (a n : ℕ) → a ≡ startOf t → n ≡ lengthOf t → (s : List ℕ) → s ≡ clip a n store → (k : ℕ) → Found 59 s k → (r : chars.Span)
-    → Trimmed (take (k - 0) (drop 0 s)) r → take (r .end - r .from) (drop (r .from) (take (k - 0) (drop 0 s))) ≡ referred store t
+pub name-done : (s : List ℕ) (k : ℕ) → Found 59 s k → (r : chars.Span) → Trimmed (take (k - 0) (drop 0 s)) r
+    → take (r .end - r .from) (drop (r .from) (take (k - 0) (drop 0 s))) ≡ meant.nameOf s
 unfolding meant.nameOf
-reference-done store t a n p q s e k f r h =
-    let z : k - 0 ≡ before 59 s = omega (arith, f .is) in
-    h .is ∙ rw (z, kept-is store t a n p q s e)
+name-done s k f r h = let z : k - 0 ≡ before 59 s = omega (arith, f .is) in h .is ∙ rw z
+
+pub reference-done : (store : List ℕ) (t : Text) (a n : ℕ) → a ≡ startOf t → n ≡ lengthOf t → (s : List ℕ) → s ≡ clip a n store → (r : List ℕ) → r ≡ meant.nameOf s → r ≡ referred store t
+reference-done store t a n p q s e r h = h ∙ rw (kept-is store t a n p q s e)
 
 pub first-not : (at : ℕ) (empty : Bool) → empty ≡ false → eqb at 0 ≡ pick empty false (eqb at 0)
 first-not at empty e = rw e

@@ -20,7 +20,7 @@ ghost use Rattle.tree.specs.Doors.{Rooms, Stood};
 ghost use Rattle.layout.specs.Parts.{partName};
 ghost use Rattle.validate.specs.Entries as entries;
 
-fn there(t: Text) -> bool
+pub fn there(t: Text) -> bool
     ensures { λ r. ⌜ r ≡ entries.there t ⌝ }
 {
     match t {
@@ -148,16 +148,22 @@ fn late_fault(store: &[u8], c: Component, known: bool) -> u32
 }
 
 // "A component's reference drops everything from the first `;` and is trimmed."
-fn reference<'a>(store: &'a [u8], t: Text) -> &'a [u8]
-    ensures { λ r. ⌜ now r ≡ entries.referred (now (store .entry)) t ⌝ }
+pub fn name_of<'a>(s: &'a [u8]) -> &'a [u8]
+    ensures { λ r. ⌜ now r ≡ meant.nameOf (now (s .entry)) ⌝ }
 {
-    let s = schema::stored(store, t.start(), t.length());
     let n = slices::find(s, 59);
     let cut = &s[0..n];
     let part = chars::trim(cut);
     let from = part.from;
     let end = part.end;
     &cut[from..end]
+}
+
+// The partition's name in a component's reference.
+fn reference<'a>(store: &'a [u8], t: Text) -> &'a [u8]
+    ensures { λ r. ⌜ now r ≡ entries.referred (now (store .entry)) t ⌝ }
+{
+    name_of(schema::stored(store, t.start(), t.length()))
 }
 
 // Whether the partition found is the first.

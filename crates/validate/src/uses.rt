@@ -21,7 +21,7 @@ pub struct Pair {
 }
 
 // Whether both are there and have the same bytes.
-fn twice(store: &[u8], p: Text, q: Text) -> bool
+pub fn twice(store: &[u8], p: Text, q: Text) -> bool
     ensures { λ r. ⌜ r ≡ meant.twice (clashes.packed (now (store .entry)) p) (clashes.packed (now (store .entry)) q) ⌝ }
 {
     if let Text::Stored { from, len } = p {
