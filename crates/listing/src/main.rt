@@ -1,5 +1,6 @@
-// Reads one preset from standard input: what it is for and its entries, or the refusal.
+// Reads one preset from standard input and plans its boot chain: what it is for, its entries, builds and stem, or the refusal.
 
+use features::Feature;
 use libc::STDIN_FILENO;
 use libc::STDOUT_FILENO;
 use parse::Outcome;
@@ -7,8 +8,11 @@ use parse::view::ApplicationFound;
 use parse::view::ComponentFound;
 use parse::view::Counts;
 use parse::view::PartitionFound;
+use plan::choice::Choice;
+use plan::component::Build;
 use schema::Application;
 use schema::Component;
+use schema::Features;
 use schema::Partition;
 use schema::Text;
 use schema::Word;
@@ -138,6 +142,63 @@ fn apps(store: &[u8], tree: &[u8], made: usize, count: usize)
     }
 }
 
+// How many features a list has, each once.
+fn feature_count(store: &[u8], tree: &[u8], made: usize, f: Features) -> u64
+    requires { ⌜ Rooms (now tree) made ⌝ }
+{
+    let mut after = Feature::Nothing;
+    let mut n = 0;
+    while n < 65000 {
+        let found = features::next(tree, store, made, f, after);
+        match found {
+            Feature::Nothing => return n,
+            Feature::At(p) => {
+                after = Feature::At(p);
+                n += 1;
+            }
+        }
+    }
+    n
+}
+
+// `build`, package, feature count.
+fn build(store: &[u8], tree: &[u8], made: usize, b: Build)
+    requires { ⌜ Rooms (now tree) made ⌝ }
+{
+    let package = b.package;
+    let features = b.features;
+    io::write_all(STDOUT_FILENO, b"build");
+    text(store, package);
+    field(feature_count(store, tree, made, features));
+    io::write_all(STDOUT_FILENO, b"\n");
+}
+
+fn builds(store: &[u8], tree: &[u8], made: usize)
+    requires { ⌜ Rooms (now tree) made ⌝ }
+{
+    let b = plan::builds::builds(tree, store, made, Choice::BootChain);
+    let items = b.items;
+    let mut i = 0;
+    while i < b.count {
+        if i < 129 {
+            build(store, tree, made, items[i]);
+        }
+        i += 1;
+    }
+}
+
+// `stem`, and the boot chain's.
+fn stem(store: &[u8], tree: &[u8], made: usize)
+    requires { ⌜ Rooms (now tree) made ⌝ }
+{
+    io::write_all(STDOUT_FILENO, b"stem");
+    text(
+        store,
+        plan::stem::stem(tree, store, made, b"board", Choice::BootChain),
+    );
+    io::write_all(STDOUT_FILENO, b"\n");
+}
+
 // `refused`, number, section, place.
 fn refuse(r: Outcome) {
     io::write_all(STDOUT_FILENO, b"refused");
@@ -153,6 +214,8 @@ fn entries(store: &[u8], tree: &[u8], made: usize, c: Counts) {
         parts(store, tree, made, c.partitions);
         comps(store, tree, made, c.components);
         apps(store, tree, made, c.applications);
+        builds(store, tree, made);
+        stem(store, tree, made);
     }
 }
 
@@ -193,7 +256,7 @@ fn main() {
     }
     let mut store = [0u8; 32768];
     let mut tree = [0u8; 65536];
-    let r = validate::validate(&input[..n], b"board", &mut store, &mut tree);
+    let r = plan::plan(&input[..n], b"board", 0, b"", &mut store, &mut tree);
     if r.number == 0 {
         accept(&store, &tree, r.made);
     } else {

@@ -1,0 +1,104 @@
+-- Level 2 of builds: the uses of packages in their order, and the first of each package.
+use Prim.Native.Nat.{ℕ, _+_, _≤_}
+use mathlib.Core.Bool.{Bool, true, false}
+use mathlib.Core.List.{List as Seq, [], _∷_, _++_}
+use mathlib.Core.Path.{_≡_}
+use lib.Dec.{ltb}
+use lib.ListN.{length, take, getD}
+use Rattle.meaning.specs.Base.{pick}
+use Rattle.meaning.specs.Rules.{twice}
+use Rattle.tree.specs.Doors.{Rooms, items}
+use Rattle.schema.specs.declared.Text.the-variants as texts
+use Rattle.schema.specs.declared.Features.the-variants as lists
+use Rattle.schema.specs.declared.Component.{Component}
+use Rattle.parse.specs.Entries.{componentAt, applicationAt}
+use Rattle.parse.specs.Views.{componentList}
+use Rattle.layout.specs.Marks.{anyOf}
+use Rattle.validate.specs.Entries.{there}
+use Rattle.validate.specs.Clashes.{packed}
+use Rattle.plan.specs.declared.choice.Choice.{Choice}
+use Rattle.plan.specs.declared.choice.Choice.the-variants as choices
+use Rattle.plan.specs.declared.component.Build.{Build}
+use Rattle.plan.specs.declared.builds.BuildList.{BuildList}
+use Rattle.plan.specs.declared.builds.Wanted.{Wanted}
+use Rattle.plan.specs.declared.builds.BuildFound.{BuildFound}
+use Rattle.plan.specs.declared.builds.BuildFound.the-variants as results
+use Rattle.plan.specs.Planned.{built}
+
+abbrev pub blank : Build
+blank = record { «package» = texts.Absent; bin = texts.Absent; features = lists.Absent }
+
+-- a component's package, then its `pbp_package`
+unfoldable pub wanted : Component → Wanted
+wanted c =
+    record {
+      own = built (c .head .«package») (c .head .bin) (c .role .features);
+      pbp = built (c .boot .«pbp_package») texts.Absent (c .role .«pbp_features»);
+    }
+
+-- ---- what arrays hold
+
+-- these stand at the head of an array, and are not more than most
+pub record Used (most : ℕ) (us : Seq Build) (r : BuildList) : Type 0 where
+  pub count : r .count ≡ length us
+  pub fits : length us ≤ most
+  pub items : take (length us) (r .items) ≡ us
+
+pub record Wanting (room : Seq ℕ) (made end : ℕ) : Type 0 where
+  pub rooms : Rooms room made
+  pub within : end ≤ made
+
+-- there is a place for one more
+pub record Room (u : BuildList) : Type 0 where
+  pub few : u .count ≤ 128
+
+-- ---- first uses
+
+-- a use of a package that none of the earlier ones is of
+unfoldable pub fresh : Seq ℕ → Seq Build → Build → Bool
+fresh store earlier u =
+    pick (there (u .«package»)) (pick (anyOf (λ (v : Build). twice (packed store (u .«package»)) (packed store (v .«package»))) earlier) false true) false
+
+abbrev pub firstUses : Seq ℕ → Seq Build → Seq Build → Seq Build
+firstUses store earlier [] = []
+firstUses store earlier (u ∷ us) =
+    let more : Seq Build = firstUses store (earlier ++ (u ∷ [])) us in
+    pick (fresh store earlier u) (u ∷ more) more
+
+-- ---- of a preset
+
+module _ (room store : Seq ℕ) (made : ℕ) where
+  abbrev pub wantedAt : ℕ → Wanted
+  wantedAt n = wanted (componentAt room store made n 32 .component)
+
+  abbrev pub usesOf : Seq ℕ → Seq Build
+  usesOf [] = []
+  usesOf (n ∷ ns) = wantedAt n .own ∷ wantedAt n .pbp ∷ usesOf ns
+
+  -- of no more than 64 components
+  abbrev pub eachComponent : ℕ → ℕ → Seq Build
+  eachComponent place end = usesOf (take 64 (items room end place 0))
+
+  -- of the application that value number n is
+  unfoldable pub applicationUse : ℕ → Build
+  applicationUse n = built (applicationAt room store made n 32 .application .«package») texts.Absent (applicationAt room store made n 32 .application .features)
+
+  -- one use behind those in an array
+  pub record Followed (n : ℕ) (u r : BuildList) : Type 0 where
+    pub count : r .count ≡ u .count + 1
+    pub items : take (u .count + 1) (r .items) ≡ take (u .count) (u .items) ++ (applicationUse n ∷ [])
+
+  abbrev pub ownUses : Seq Build
+  ownUses = eachComponent (componentList room store made .place) (componentList room store made .end)
+
+  -- "the application last"
+  abbrev pub uses : Choice → Seq Build
+  uses choices.BootChain = ownUses
+  uses choices.Undeclared = ownUses
+  uses (choices.At place n) = ownUses ++ (applicationUse n ∷ [])
+
+  unfoldable pub buildsOf : Choice → Seq Build
+  buildsOf c = firstUses store [] (uses c)
+
+  unfoldable pub build : Choice → ℕ → BuildFound
+  build c i = pick (ltb i (length (buildsOf c))) (results.At (getD (buildsOf c) i blank)) results.Nothing

@@ -1,0 +1,6 @@
+pub mod Choices
+pub mod Planned
+pub mod Builds
+pub mod Stems
+pub mod Targets
+pub mod Planning

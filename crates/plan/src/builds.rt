@@ -1,0 +1,190 @@
+// What is to be built: one build for each package, in first use.
+
+use crate::choice::Choice;
+use crate::component::Build;
+use crate::component::built;
+use schema::Component;
+use schema::Features;
+use schema::Text;
+use tree::Found;
+ghost use mathlib.Core.List.{[]};
+ghost use mathlib.Core.Path.{_≡_};
+ghost use Prim.Native.Nat.{_≤_};
+ghost use lib.ListN.{take, replicate};
+ghost use Rattle.tree.specs.Doors.{Rooms, Stood};
+ghost use Rattle.plan.specs.Choices.{Standing};
+ghost use Rattle.plan.specs.Builds as builds;
+ghost use Rattle.plan.specs.Builds.{Wanting, Used};
+
+// Uses of packages, or builds; one whose package is absent is none.
+pub struct BuildList {
+    pub count: usize,
+    pub items: [Build; 129],
+}
+
+// A component's two packages.
+pub struct Wanted {
+    pub own: Build,
+    pub pbp: Build,
+}
+
+pub enum BuildFound {
+    Nothing,
+    At(Build),
+}
+
+fn no_builds() -> [Build; 129]
+    ensures { λ r. ⌜ r ≡ replicate 129 builds.blank ⌝ }
+{
+    let blank = Build {
+        package: Text::Absent,
+        bin: Text::Absent,
+        features: Features::Absent,
+    };
+    [blank; 129]
+}
+
+// "Each component's package, then its `pbp_package`", whose bin is the package itself.
+fn wanted_by(c: Component) -> Wanted
+    ensures { λ r. ⌜ r ≡ builds.wanted c ⌝ }
+{
+    let head = c.head;
+    let role = c.role;
+    let boot = c.boot;
+    let package = head.package;
+    let bin = head.bin;
+    let features = role.features;
+    let pbp_package = boot.pbp_package;
+    let pbp_features = role.pbp_features;
+    Wanted {
+        own: built(package, bin, features),
+        pbp: built(pbp_package, Text::Absent, pbp_features),
+    }
+}
+
+fn wanted_at(tree: &[u8], store: &[u8], made: usize, n: usize) -> Wanted
+    requires { ⌜ Rooms (now tree) made × Stood (now tree) n ⌝ }
+    ensures { λ r. ⌜ r ≡ builds.wantedAt (now (tree .entry)) (now (store .entry)) made n ⌝ }
+{
+    let r = parse::entry::component_at(tree, store, made, n, 32);
+    let c = r.component;
+    wanted_by(c)
+}
+
+// The uses of all components of a list; no more than 64 of them are asked.
+fn each_component(tree: &[u8], store: &[u8], made: usize, place: u16, end: usize) -> BuildList
+    requires { ⌜ Wanting (now tree) made end ⌝ }
+    ensures { λ r. ⌜ Used 128 (builds.eachComponent (now (tree .entry)) (now (store .entry)) made place end) r ⌝ }
+{
+    let mut items = no_builds();
+    let mut i: usize = 0;
+    let mut from = 0;
+    while from < end {
+        let found = tree::child(tree, end, place, from);
+        match found {
+            Found::Nothing => break,
+            Found::At(n) => {
+                if 128 <= i {
+                    break;
+                }
+                let w = wanted_at(tree, store, made, n);
+                let own = w.own;
+                let pbp = w.pbp;
+                let next = i + 1;
+                items[i] = own;
+                items[next] = pbp;
+                i += 2;
+                from = n + 1;
+            }
+        }
+    }
+    BuildList {
+        count: i,
+        items: items,
+    }
+}
+
+// "The application last": the use of the application that value number n is.
+fn with_application(tree: &[u8], store: &[u8], made: usize, n: usize, u: BuildList) -> BuildList
+    requires { ⌜ Rooms (now tree) made × Stood (now tree) n × builds.Room u ⌝ }
+    ensures { λ r. ⌜ builds.Followed (now (tree .entry)) (now (store .entry)) made n u r ⌝ }
+{
+    let r = parse::entry::application_at(tree, store, made, n, 32);
+    let a = r.application;
+    let package = a.package;
+    let features = a.features;
+    let count = u.count;
+    let mut items = u.items;
+    items[count] = built(package, Text::Absent, features);
+    BuildList {
+        count: count + 1,
+        items: items,
+    }
+}
+
+// Those of some uses that no earlier one is of the same package as.
+fn first_uses(store: &[u8], uses: [Build; 129], count: usize) -> BuildList
+    requires { ⌜ count ≤ 129 ⌝ }
+    ensures { λ r. ⌜ Used 129 (builds.firstUses (now (store .entry)) [] (take count uses)) r ⌝ }
+{
+    let mut items = no_builds();
+    let mut n = 0;
+    'next: for i in 0..count {
+        let u = uses[i];
+        let p = u.package;
+        if !validate::component::there(p) {
+            continue;
+        }
+        for j in 0..i {
+            let v = uses[j];
+            let q = v.package;
+            if validate::uses::twice(store, p, q) {
+                continue 'next;
+            }
+        }
+        items[n] = u;
+        n += 1;
+    }
+    BuildList {
+        count: n,
+        items: items,
+    }
+}
+
+// All uses of a plan in their order.
+fn uses(tree: &[u8], store: &[u8], made: usize, c: Choice) -> BuildList
+    requires { ⌜ Rooms (now tree) made × Standing (now tree) c ⌝ }
+    ensures { λ r. ⌜ Used 129 (builds.uses (now (tree .entry)) (now (store .entry)) made c) r ⌝ }
+{
+    let l = parse::view::component_list(tree, store, made);
+    let u = each_component(tree, store, made, l.place, l.end);
+    match c {
+        Choice::BootChain => u,
+        Choice::Undeclared => u,
+        Choice::At { place: _, value } => with_application(tree, store, made, value, u),
+    }
+}
+
+// "One per package, with the first use's `bin`", and its features.
+pub fn builds(tree: &[u8], store: &[u8], made: usize, c: Choice) -> BuildList
+    requires { ⌜ Rooms (now tree) made × Standing (now tree) c ⌝ }
+    ensures { λ r. ⌜ Used 129 (builds.buildsOf (now (tree .entry)) (now (store .entry)) made c) r ⌝ }
+{
+    let u = uses(tree, store, made, c);
+    let items = u.items;
+    first_uses(store, items, u.count)
+}
+
+// Build number i of a plan.
+pub fn build(tree: &[u8], store: &[u8], made: usize, c: Choice, i: usize) -> BuildFound
+    requires { ⌜ Rooms (now tree) made × Standing (now tree) c ⌝ }
+    ensures { λ r. ⌜ r ≡ builds.build (now (tree .entry)) (now (store .entry)) made c i ⌝ }
+{
+    let b = builds(tree, store, made, c);
+    let items = b.items;
+    if i < b.count {
+        let found = items[i];
+        return BuildFound::At(found);
+    }
+    BuildFound::Nothing
+}

@@ -1,0 +1,127 @@
+// What is selected beside the boot chain: 80 where no application has the key, 81 where a component has the application's name.
+
+use parse::Refusal;
+use parse::entry::List;
+use tree::Found;
+ghost use mathlib.Core.Path.{_≡_};
+ghost use Rattle.tree.specs.Doors.{Rooms, Stood};
+ghost use Rattle.parse.specs.Entries.{Among};
+ghost use Rattle.plan.specs.Choices as choices;
+ghost use Rattle.plan.specs.Choices.{Chosen};
+
+// Nothing more; a key that none has; an application by its entry number and the number of its value.
+pub enum Choice {
+    BootChain,
+    Undeclared,
+    At { place: usize, value: usize },
+}
+
+// Whether value number n has the key.
+fn keyed(tree: &[u8], store: &[u8], n: usize, key: &[u8]) -> bool
+    requires { ⌜ Stood (now tree) n ⌝ }
+    ensures { λ r. ⌜ r ≡ choices.keyed (now (tree .entry)) (now (store .entry)) (now (key .entry)) n ⌝ }
+{
+    let v = tree::get(tree, n);
+    slices::same(key, schema::stored(store, v.key as usize, v.len as usize))
+}
+
+// The first of a table's values in byte order of key that has the key.
+fn declared(tree: &[u8], store: &[u8], made: usize, list: List, key: &[u8]) -> Choice
+    requires { ⌜ Among (now tree) made list ⌝ }
+    ensures { λ r. ⌜ Chosen (now (tree .entry)) (choices.declared (now (tree .entry)) (now (store .entry)) (now (key .entry)) list) r ⌝ }
+{
+    let place = list.place;
+    let end = list.end;
+    let mut after = Found::Nothing;
+    let mut i = 0;
+    while i <= 64 {
+        let found = tree::next(tree, store, end, place, after);
+        match found {
+            Found::Nothing => return Choice::Undeclared,
+            Found::At(n) => {
+                if keyed(tree, store, n, key) {
+                    return Choice::At { place: i, value: n };
+                }
+                after = Found::At(n);
+                i += 1;
+            }
+        }
+    }
+    Choice::Undeclared
+}
+
+// Selection 0 is the boot chain; any other, the application of the key.
+pub fn choose(tree: &[u8], store: &[u8], made: usize, app: u32, key: &[u8]) -> Choice
+    requires { ⌜ Rooms (now tree) made ⌝ }
+    ensures { λ r. ⌜ Chosen (now (tree .entry)) (choices.choice (now (tree .entry)) (now (store .entry)) made app (now (key .entry))) r ⌝ }
+{
+    if app == 0 {
+        return Choice::BootChain;
+    }
+    let l = parse::view::application_list(tree, store, made);
+    declared(tree, store, made, l, key)
+}
+
+// Whether the component that value number n is has the name.
+fn named(tree: &[u8], store: &[u8], made: usize, n: usize, name: &[u8]) -> bool
+    requires { ⌜ Rooms (now tree) made × Stood (now tree) n ⌝ }
+    ensures { λ r. ⌜ r ≡ choices.named (now (tree .entry)) (now (store .entry)) made (now (name .entry)) n ⌝ }
+{
+    let t = parse::entry::entry_table(tree, made, tree::value_at(tree, store, n));
+    let f = t.fields;
+    let own = parse::field::text_needed(tree, store, f, b"name");
+    let place = own.text;
+    slices::same(name, schema::stored(store, place.start(), place.length()))
+}
+
+// Whether some component has the name.
+fn taken(tree: &[u8], store: &[u8], made: usize, name: &[u8]) -> bool
+    requires { ⌜ Rooms (now tree) made ⌝ }
+    ensures { λ r. ⌜ r ≡ choices.taken (now (tree .entry)) (now (store .entry)) made (now (name .entry)) ⌝ }
+{
+    let l = parse::view::component_list(tree, store, made);
+    let place = l.place;
+    let end = l.end;
+    let mut from = 0;
+    while from < end {
+        let found = tree::child(tree, end, place, from);
+        match found {
+            Found::Nothing => return false,
+            Found::At(n) => {
+                if named(tree, store, made, n, name) {
+                    return true;
+                }
+                from = n + 1;
+            }
+        }
+    }
+    false
+}
+
+// 81: the application that value number n is, told at its entry.
+fn check_name(tree: &[u8], store: &[u8], made: usize, place: usize, n: usize) -> Refusal
+    requires { ⌜ Rooms (now tree) made × Stood (now tree) n ⌝ }
+    ensures { λ r. ⌜ r ≡ choices.nameFault (now (tree .entry)) (now (store .entry)) made place n ⌝ }
+{
+    let r = parse::entry::application_at(tree, store, made, n, 32);
+    let a = r.application;
+    let name = a.name;
+    let own = schema::stored(store, name.start(), name.length());
+    if taken(tree, store, made, own) {
+        return parse::told(5, 81, place);
+    }
+    parse::told(0, 0, 0)
+}
+
+// 80, then 81.
+pub fn check(tree: &[u8], store: &[u8], made: usize, app: u32, key: &[u8]) -> Refusal
+    requires { ⌜ Rooms (now tree) made ⌝ }
+    ensures { λ r. ⌜ r ≡ choices.fault (now (tree .entry)) (now (store .entry)) made (choices.choice (now (tree .entry)) (now (store .entry)) made app (now (key .entry))) ⌝ }
+{
+    let c = choose(tree, store, made, app, key);
+    match c {
+        Choice::BootChain => parse::told(0, 0, 0),
+        Choice::Undeclared => parse::told(5, 80, 0),
+        Choice::At { place, value } => check_name(tree, store, made, place, value),
+    }
+}

@@ -1,0 +1,169 @@
+// The stem of the files that a plan makes.
+
+use crate::choice::Choice;
+use parse::file::Piece;
+use schema::Component;
+use schema::Kind;
+use schema::Text;
+use tree::Found;
+ghost use mathlib.Core.Path.{_≡_};
+ghost use Rattle.tree.specs.Doors.{Rooms, Stood};
+ghost use Rattle.tree.specs.Room.{Finds};
+ghost use Rattle.plan.specs.Choices.{Standing};
+ghost use Rattle.plan.specs.Stems as stems;
+
+// Where the last dot of a file's name stands; 0 where it has none, or only a first.
+fn last_dot(s: &[u8]) -> usize
+    ensures { λ r. ⌜ stems.Dotted (now (s .entry)) r ⌝ }
+{
+    let mut i = s.len();
+    while 0 < i {
+        i -= 1;
+        if s[i] == 46 {
+            return i;
+        }
+    }
+    0
+}
+
+// "Its stem stops before the last dot, unless that dot is first": how many bytes of a file's name.
+fn stem_length(s: &[u8]) -> usize
+    ensures { λ r. ⌜ r ≡ stems.stopped (now (s .entry)) ⌝ }
+{
+    let n = last_dot(s);
+    if n == 0 {
+        return s.len();
+    }
+    n
+}
+
+// The stem of a file in the store.
+fn stem_of(store: &[u8], file: Text) -> Text
+    ensures { λ r. ⌜ r ≡ stems.stemOf (now (store .entry)) file ⌝ }
+{
+    let t = parse::component::name_in(store, file);
+    match t {
+        Text::Stored { from, len } => Text::Stored {
+            from: from,
+            len: stem_length(schema::stored(store, from, len)),
+        },
+        Text::Absent => Text::Absent,
+        Text::Lent => Text::Absent,
+        Text::Fixed(_) => Text::Absent,
+        Text::WithAic { from: _, len: _ } => Text::Absent,
+    }
+}
+
+// "The package, else `bin`, else file stem."
+fn own_stem(store: &[u8], c: Component) -> Text
+    ensures { λ r. ⌜ r ≡ stems.ownStem (now (store .entry)) c ⌝ }
+{
+    let head = c.head;
+    let package = head.package;
+    let bin = head.bin;
+    let file = head.file;
+    let last = bin.or(stem_of(store, file));
+    package.or(last)
+}
+
+fn is_app(k: Kind) -> bool
+    ensures { λ r. ⌜ r ≡ stems.isApp k ⌝ }
+{
+    match k {
+        Kind::App => true,
+        Kind::Pbp => false,
+        Kind::Raw => false,
+    }
+}
+
+// Whether the component that value number n is an `app` with a partition.
+fn leads(tree: &[u8], store: &[u8], made: usize, n: usize) -> bool
+    requires { ⌜ Rooms (now tree) made × Stood (now tree) n ⌝ }
+    ensures { λ r. ⌜ r ≡ stems.leads (now (tree .entry)) (now (store .entry)) made n ⌝ }
+{
+    if crate::component::placed(tree, store, made, n) {
+        let t = parse::entry::entry_table(tree, made, tree::value_at(tree, store, n));
+        let f = t.fields;
+        let k = parse::field::kind(tree, store, f);
+        let kind = k.kind;
+        return is_app(kind);
+    }
+    false
+}
+
+// The first of them.
+fn leader(tree: &[u8], store: &[u8], made: usize) -> Found
+    requires { ⌜ Rooms (now tree) made ⌝ }
+    ensures { λ r. ⌜ Finds 0 made (stems.leader (now (tree .entry)) (now (store .entry)) made) r ⌝ }
+{
+    let l = parse::view::component_list(tree, store, made);
+    let place = l.place;
+    let end = l.end;
+    let mut from = 0;
+    while from < end {
+        let found = tree::child(tree, end, place, from);
+        match found {
+            Found::Nothing => return Found::Nothing,
+            Found::At(n) => {
+                if leads(tree, store, made, n) {
+                    return Found::At(n);
+                }
+                from = n + 1;
+            }
+        }
+    }
+    Found::Nothing
+}
+
+// What the first `app` component with a partition is called, if there is one.
+fn leading(tree: &[u8], store: &[u8], made: usize) -> Text
+    requires { ⌜ Rooms (now tree) made ⌝ }
+    ensures { λ r. ⌜ r ≡ stems.leading (now (tree .entry)) (now (store .entry)) made ⌝ }
+{
+    let found = leader(tree, store, made);
+    match found {
+        Found::Nothing => Text::Absent,
+        Found::At(n) => {
+            let r = parse::entry::component_at(tree, store, made, n, 32);
+            let c = r.component;
+            own_stem(store, c)
+        }
+    }
+}
+
+// "Else the board name."
+fn boot_stem(tree: &[u8], store: &[u8], made: usize, name: &[u8]) -> Text
+    requires { ⌜ Rooms (now tree) made ⌝ }
+    ensures { λ r. ⌜ r ≡ stems.bootStem (now (tree .entry)) (now (store .entry)) made (now (name .entry)) ⌝ }
+{
+    let root = tree::fields_at(tree, made, 1);
+    let f = parse::front::read_front(tree, store, made, root, parse::lent_name(name));
+    let board = f.board;
+    let last = board.name;
+    let t = leading(tree, store, made);
+    t.or(last)
+}
+
+// The key of the application that value number n is.
+fn key_of(tree: &[u8], n: usize) -> Text
+    requires { ⌜ Stood (now tree) n ⌝ }
+    ensures { λ r. ⌜ r ≡ stems.keyOf (now (tree .entry)) n ⌝ }
+{
+    let v = tree::get(tree, n);
+    Text::Stored {
+        from: v.key as usize,
+        len: v.len as usize,
+    }
+}
+
+// "The stem is the selected package; for the boot chain" that of its first `app` component with a partition.
+pub fn stem(tree: &[u8], store: &[u8], made: usize, name: &[u8], c: Choice) -> Text
+    requires { ⌜ Rooms (now tree) made × Standing (now tree) c ⌝ }
+    ensures { λ r. ⌜ r ≡ stems.stem (now (tree .entry)) (now (store .entry)) made (now (name .entry)) c ⌝ }
+{
+    match c {
+        Choice::BootChain => boot_stem(tree, store, made, name),
+        Choice::Undeclared => Text::Absent,
+        Choice::At { place: _, value } => key_of(tree, value),
+    }
+}
