@@ -1,15 +1,15 @@
 -- What each loop keeps, and one law for each way on and out of it.
-use Prim.Native.Nat.{ℕ, zero, suc, _+_, _-_, _≤_, _<_}
+use Prim.Native.Nat.{ℕ, suc, _+_, _-_, _≤_, _<_}
 use mathlib.Core.Bool.{Bool, true, false}
-use mathlib.Core.List.{List, [], _∷_, _++_, append-assoc, append-nil}
+use mathlib.Core.List.{List, [], _∷_, _++_, append-assoc}
 use mathlib.Core.Path.{_≡_, refl, sym, ap, _∙_}
 use native.Mathlib.Omega.{arith}
 use native.Mathlib.Numerals.{add-one}
 use borrow.Author.Tests.{eq-eqb, ne-eqb, lt-ltb, le-ltb, ltb-true, ltb-false}
-use lib.Dec.{eqb, ltb, leb·suc-suc}
+use lib.Dec.{eqb, ltb}
 use lib.ListN.{length, getD, take, drop, set, length-set, length-drop, drop-of-length-le, List·getD-eq-default}
-use lib.Seq.{drop-cons, drop-length, take-suc, take-length, set-at, length-take-le}
-use Rattle.meaning.specs.Base.{pick, zeros, before, same, less}
+use lib.Seq.{drop-cons, take-suc, take-length, set-at, length-take-le}
+use Rattle.meaning.specs.Base.{before, same, less}
 use Rattle.laws.specs.Cases.{on}
 use Rattle.slices.specs.Found.{Found}
 
@@ -135,28 +135,3 @@ pub laid-end : (src dst₀ dst : List ℕ) (i : ℕ) → Laid src dst₀ dst i �
 laid-end src dst₀ dst i k h =
     let e : i ≡ length src = omega arith in
     k .left ∙ rw (e, take-length src)
-
--- ---- zeros
-length-zeros : (n : ℕ) → length (zeros n) ≡ n
-length-zeros zero = refl
-length-zeros (suc n) = ap suc (length-zeros n)
-
-getD-zeros : (n i : ℕ) → getD (zeros n) i 0 ≡ 0
-getD-zeros zero i = refl
-getD-zeros (suc n) zero = refl
-getD-zeros (suc n) (suc i) = getD-zeros n i
-
-pub zero-start : (s : List ℕ) → Laid (zeros (length s)) s s 0
-zero-start s = laid-start (zeros (length s)) s (omega (arith, length-zeros (length s)))
-
-pub zero-on : (s₀ s : List ℕ) (i : ℕ) → Laid (zeros (length s₀)) s₀ s i → i < length s → Laid (zeros (length s₀)) s₀ (set s i 0) (i + 1)
-zero-on s₀ s i k h =
-    let r : List ℕ = zeros (length s₀) in
-    let l : i < length r = omega (arith, length-zeros (length s₀), k .long) in
-    rw (getD-zeros (length s₀) i) at (laid-on r s₀ s i k l)
-
-pub zero-end : (s₀ s : List ℕ) (i : ℕ) → Laid (zeros (length s₀)) s₀ s i → length s ≤ i → s ≡ zeros (length s₀)
-zero-end s₀ s i k h =
-    let r : List ℕ = zeros (length s₀) in
-    let n : length r ≡ length s₀ = length-zeros (length s₀) in
-    laid-end r s₀ s i k (omega (arith, k .long)) ∙ rw (drop-of-length-le s₀ {i = length r} (omega arith)) (append-nil r)

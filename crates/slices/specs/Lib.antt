@@ -1,2 +1,3 @@
+pub mod Clear
 pub mod Found
 pub mod Numbers

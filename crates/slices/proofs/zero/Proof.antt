@@ -1,22 +1,24 @@
-use borrow.Author.Needs.{needs}
-use Rattle.slices.proofs.Bytes.{Laid, zero-start, zero-on, zero-end}
-use lib.ListN.{length}
-use Rattle.meaning.specs.Base.{zeros}
 use Prim.Native.Nat.{_-_}
+use lib.ListN.{length}
+use borrow.Author.Needs.{needs}
+use Rattle.slices.proofs.Zeroing.{Emptying, empty-start, empty-on, empty-end}
 use Rattle.slices.proofs.zero.Statement.{statement}
 use Rattle.slices.proofs.zero.Tie as tie
 
 abbrev Inv-loop : tie.InvT-loop
-Inv-loop s₀ i₀ s i = Laid (zeros (length s₀)) s₀ s i
+Inv-loop s₀ i₀ s i = Emptying s₀ s i
 
 abbrev μ-loop : tie.MeasureT-loop
-μ-loop s₀ i₀ s i = length s₀ - i
+μ-loop s₀ i₀ s i = length s - i
 
 loop-holds : tie.Need-loop-holds Inv-loop μ-loop
-loop-holds c = search (needs, zero-start)
+loop-holds c = search (needs, empty-start)
 
-slice-write-s : tie.Need-slice-write-s Inv-loop μ-loop
-slice-write-s c = search needs
+sub-loop : tie.Need-sub-loop Inv-loop μ-loop
+sub-loop c = search needs
+
+wipe-block-requires : tie.Need-wipe-block-requires Inv-loop μ-loop
+wipe-block-requires c κs = search needs
 
 add-i : tie.Need-add-i Inv-loop μ-loop
 add-i c = search needs
@@ -25,13 +27,19 @@ loop-less : tie.Need-loop-less Inv-loop μ-loop
 loop-less c = search needs
 
 loop-again : tie.Need-loop-again Inv-loop μ-loop
-loop-again c = search (needs, zero-on)
+loop-again c = search (needs, empty-on)
+
+sub-left : tie.Need-sub-left Inv-loop μ-loop
+sub-left c = search needs
+
+wipe-requires : tie.Need-wipe-requires Inv-loop μ-loop
+wipe-requires c κs = search needs
 
 same-length : tie.Need-same-length Inv-loop μ-loop
 same-length c = search needs
 
 returns : tie.Need-returns Inv-loop μ-loop
-returns c = search (needs, zero-end)
+returns c = search (needs, empty-end)
 
 pub zero-spec : {M : Type 1} → statement M
 zero-spec =
@@ -40,9 +48,12 @@ zero-spec =
     Inv-loop
     μ-loop
     loop-holds
-    slice-write-s
+    sub-loop
+    wipe-block-requires
     add-i
     loop-less
     loop-again
+    sub-left
+    wipe-requires
     same-length
     returns)
