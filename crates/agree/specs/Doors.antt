@@ -116,10 +116,10 @@ flag true = refl
 flag false = refl
 
 module _ (s : Slot) (size : ℕ) where
-  says-text : (place long : ℕ) → s .kind ≡ 1 → s .«data» / 65536 ≡ long → s .«data» % 65536 + s .«data» / 65536 ≤ size
+  says-text : (place long : ℕ) → s .kind ≡ 1 → s .«data» / 65536 ≡ long → s .«data» ≤ 4294967295 → s .«data» % 65536 + s .«data» / 65536 ≤ size
       → valueOf s size place ≡ read.Text (s .«data» % 65536) long
   unfolding valueOf textOf
-  says-text place long k e l = rw (k, le-leb (s .«data» % 65536 + s .«data» / 65536) size l, e)
+  says-text place long k e b l = rw (k, le-leb (s .«data») 4294967295 b, le-leb (s .«data» % 65536 + s .«data» / 65536) size l, e)
 
   says-int : (from place : ℕ) (i : ℤ) (neg : Bool) → s .kind ≡ pick neg 6 2 → i ≡ numberOf neg (s .«data»)
       → valueOf s size place ≡ valueFor from place (some (int i))
@@ -165,10 +165,11 @@ module _ (room store bytes : List ℕ) (vs : List Slot) (x : Value) (made : ℕ)
         let long : d / 65536 ≡ length s = string-long bytes d s (w .1) (h .small) in
         let ends : d % 65536 + d / 65536 ≤ length bytes = string-in bytes d s (w .1) (h .small) in
         let fits : d % 65536 + d / 65536 ≤ length store = omega (arith, store-long) in
+        let short : d ≤ 4294967295 = omega (arith, h .small) in
         let there : part (d % 65536) (d % 65536 + d / 65536) store ≡ s =
         ap (part (d % 65536) (d % 65536 + d / 65536)) (h .carried .is) ∙ part-more bytes (h .carried .rest) (d % 65536) (d / 65536) ends
         ∙ string-is bytes d s (w .1) (h .small) in
-        sees-as (str s) (d % 65536) (says-text (slotAt room n) (length store) (n + 2) (length s) (w .0) long fits) (omega arith, rw long at there) p
+        sees-as (str s) (d % 65536) (says-text (slotAt room n) (length store) (n + 2) (length s) (w .0) long short fits) (omega arith, rw long at there) p
     sees-by (int i) w p = sees-as (int i) 0 (says-int (slotAt room n) (length store) 0 (n + 2) i (w .0) (w .1) (w .2)) tt p
     sees-by (boolean b) w p = sees-as (boolean b) 0 (says-flag (slotAt room n) (length store) (n + 2) b (w .0) (w .1)) tt p
     sees-by (array a) w p = sees-as (array a) 0 (says-array (slotAt room n) (length store) (n + 2) w) tt p

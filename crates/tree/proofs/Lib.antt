@@ -2,3 +2,4 @@ pub mod Cells
 pub mod Walks
 pub mod Ranking
 pub mod Opening
+pub mod Skipping

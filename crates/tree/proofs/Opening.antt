@@ -47,9 +47,6 @@ pub record Sinking (tree : List ℕ) (made parent i : ℕ) : Type 0 where
   pub left : newest tree i parent ≡ newest tree made parent
 
 module _ (tree : List ℕ) (made parent : ℕ) where
-  pub sink-start : Sinking tree made parent made
-  sink-start = record { high = omega arith; left = refl }
-
   pub sink-room : (i : ℕ) → Holds tree made → Sinking tree made parent i → 0 < i → Holds tree (i - 1 + 1)
   sink-room i h k l = record { fits = omega (arith, h .fits) }
 

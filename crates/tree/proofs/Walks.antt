@@ -80,10 +80,6 @@ pub record Walking (tree : List ℕ) (made parent from i : ℕ) : Type 0 where
   pub left : first tree parent (made - i) i ≡ child tree made parent from
 
 module _ (tree : List ℕ) (made parent from : ℕ) where
-  pub walk-start : Walking tree made parent from from
-  unfolding child
-  walk-start = record { low = omega arith; left = refl }
-
   module _ (i : ℕ) (r : Bool) where
     pub walk-on : Walking tree made parent from i → i < made → r ≡ under tree i parent → r ≡ false → Walking tree made parent from (i + 1)
     walk-on k h e f =

@@ -28,9 +28,9 @@ pub record Rooms (room : List ℕ) (made : ℕ) : Type 0 where
 abbrev pub nonzero : ℕ → Bool
 nonzero n = pick (eqb n 0) false true
 
--- a string's bytes by its data; what runs past the store is none
+-- a string's bytes by its data; what runs past the store is none, and no text that is read is longer than 65,535 bytes
 unfoldable pub textOf : ℕ → ℕ → Value
-textOf bits size = pick (leb (bits % 65536 + bits / 65536) size) (Text (bits % 65536) (bits / 65536)) Absent
+textOf bits size = pick (leb bits 4294967295) (pick (leb (bits % 65536 + bits / 65536) size) (Text (bits % 65536) (bits / 65536)) Absent) Absent
 
 -- what a slot is, at its place; a minus before 0 says nothing
 unfoldable pub valueOf : Slot → ℕ → ℕ → Value

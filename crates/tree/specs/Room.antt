@@ -74,6 +74,16 @@ first room parent (suc k) i = pick (under room i parent) (At i) (first room pare
 unfoldable pub child : List ℕ → ℕ → ℕ → ℕ → Found
 child room made parent from = first room parent (made - from) from
 
+-- none of k values from number i on has the parent
+abbrev pub idle : List ℕ → ℕ → ℕ → ℕ → Bool
+idle room parent zero i = true
+idle room parent (suc k) i = pick (under room i parent) false (idle room parent k (i + 1))
+
+-- no value from low to before high has the parent
+pub record Clear (room : List ℕ) (parent low high : ℕ) : Type 0 where
+  pub order : low ≤ high
+  pub none : (j : ℕ) → low ≤ j → j < high → under room j parent ≡ false
+
 -- how many of the values made have the parent
 abbrev pub count : List ℕ → ℕ → ℕ → ℕ
 count room zero parent = 0

@@ -6,7 +6,7 @@ ghost use Prim.Native.Nat.{_+_, _*_, _/_, _≤_};
 ghost use lib.ListN.{length};
 ghost use Rattle.laws.specs.Stored.{stored};
 ghost use Rattle.tree.specs.Room as room;
-ghost use Rattle.tree.specs.Room.{Holds, Finds, Counts, cell, slotAt, hung};
+ghost use Rattle.tree.specs.Room.{Holds, Finds, Counts, Clear, cell, slotAt, hung};
 ghost use Rattle.tree.specs.Doors as doors;
 ghost use Rattle.tree.specs.Doors.{Stood, Spread};
 ghost use Rattle.tree.specs.Order as order;
@@ -142,6 +142,56 @@ fn under(tree: &[u8], n: usize, parent: u16) -> bool
     slices::get2(tree, at + 2) == parent
 }
 
+// Whether none of the 8 values from number n on hangs under the parent. Their tests stand one behind the other in the machine's code, which is quicker than a loop over all values.
+fn idle(tree: &[u8], n: usize, parent: u16) -> bool
+    requires { ⌜ Holds (now tree) (n + 8) ⌝ }
+    ensures { λ r. ⌜ r ≡ room.idle (now (tree .entry)) parent 8 n ⌝ }
+{
+    let mut k = 0;
+    while k < 8 {
+        if under(tree, n + k, parent) {
+            return false;
+        }
+        k += 1;
+    }
+    true
+}
+
+// Up from a number, 8 values at a time, as long as none of them hangs under the parent.
+fn skip_up(tree: &[u8], made: usize, parent: u16, from: usize) -> usize
+    requires { ⌜ Holds (now tree) made ⌝ }
+    ensures { λ r. ⌜ Clear (now (tree .entry)) parent from r ⌝ }
+{
+    if made < from {
+        return from;
+    }
+    let mut n = from;
+    while 8 <= made - n {
+        if idle(tree, n, parent) {
+            n += 8;
+        } else {
+            return n;
+        }
+    }
+    n
+}
+
+// Down from the newest of the values made, 8 at a time, as long as none of them hangs under the parent.
+fn skip_down(tree: &[u8], made: usize, parent: u16) -> usize
+    requires { ⌜ Holds (now tree) made ⌝ }
+    ensures { λ r. ⌜ Clear (now (tree .entry)) parent r made ⌝ }
+{
+    let mut i = made;
+    while 8 <= i {
+        if idle(tree, i - 8, parent) {
+            i -= 8;
+        } else {
+            return i;
+        }
+    }
+    i
+}
+
 // Whether the value's key is these bytes.
 fn keyed(store: &[u8], v: Slot, key: &[u8]) -> bool
     ensures { λ r. ⌜ r ≡ room.keyed (now (store .entry)) v (now (key .entry)) ⌝ }
@@ -185,7 +235,7 @@ pub fn child(tree: &[u8], made: usize, parent: u16, from: usize) -> Found
     requires { ⌜ Holds (now tree) made ⌝ }
     ensures { λ r. ⌜ Finds from made (room.child (now (tree .entry)) made parent from) r ⌝ }
 {
-    let mut n = from;
+    let mut n = skip_up(tree, made, parent, from);
     while n < made {
         if under(tree, n, parent) {
             return Found::At(n);
@@ -329,10 +379,13 @@ pub fn next(tree: &[u8], store: &[u8], made: usize, parent: u16, after: Found) -
     Found::Nothing
 }
 
-// A string's bytes by its data, where they lie in a store of so many bytes.
+// A string's bytes by its data, where they lie in a store of so many bytes. No text that is read is longer than 65,535 bytes.
 fn text(bits: u64, size: usize) -> Value
     ensures { λ r. ⌜ r ≡ doors.textOf bits size ⌝ }
 {
+    if 4294967295 < bits {
+        return Value::Absent;
+    }
     let from = (bits % 65536) as usize;
     let len = (bits / 65536) as usize;
     if size < from + len {
@@ -390,7 +443,7 @@ fn newest(tree: &[u8], made: usize, parent: u16) -> usize
     requires { ⌜ Holds (now tree) made ⌝ }
     ensures { λ r. ⌜ r ≡ doors.newest (now (tree .entry)) made parent ⌝ }
 {
-    let mut i = made;
+    let mut i = skip_down(tree, made, parent);
     while 0 < i {
         if under(tree, i - 1, parent) {
             return i;

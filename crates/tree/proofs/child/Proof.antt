@@ -1,10 +1,12 @@
-use Rattle.tree.proofs.Walks.{Walking, holds-next, walk-start, walk-on, walk-hit, walk-end}
+use Rattle.tree.proofs.Walks.{Walking, holds-next, walk-on, walk-hit, walk-end}
+use Rattle.tree.proofs.Skipping.{walk-skipped}
 use Prim.Native.Nat.{_-_}
 use borrow.Author.Needs.{needs}
 use Rattle.tree.proofs.child.Statement.{statement}
 use Rattle.tree.proofs.child.Tie as tie
 use Rattle.tree.proofs.child.Reads as reads
 use Rattle.tree.proofs.child.Lts as lts
+use Rattle.tree.proofs.skip_up.Reads as skip-up-reads
 use Rattle.tree.proofs.under.Reads as under-reads
 
 abbrev Inv-loop : tie.InvT-loop
@@ -13,8 +15,11 @@ Inv-loop tree made parent from n₀ n = Walking tree made parent from n
 abbrev μ-loop : tie.MeasureT-loop
 μ-loop tree made parent from n₀ n = made - n
 
+skip-up-requires : tie.Need-skip-up-requires Inv-loop μ-loop
+skip-up-requires c κs = search needs
+
 loop-holds : tie.Need-loop-holds Inv-loop μ-loop
-loop-holds c = search (needs, walk-start)
+loop-holds c = search (needs, walk-skipped)
 
 under-requires : tie.Need-under-requires Inv-loop μ-loop
 under-requires c κs = search (needs, holds-next)
@@ -40,6 +45,7 @@ child-spec =
     (tie.spec
     Inv-loop
     μ-loop
+    skip-up-requires
     loop-holds
     under-requires
     returns

@@ -1,9 +1,11 @@
-use Rattle.tree.proofs.Opening.{Sinking, sink-start, sink-room, sink-on, sink-hit, sink-end}
+use Rattle.tree.proofs.Opening.{Sinking, sink-room, sink-on, sink-hit, sink-end}
+use Rattle.tree.proofs.Skipping.{sink-skipped}
 use borrow.Author.Needs.{needs}
 use Rattle.tree.proofs.newest.Statement.{statement}
 use Rattle.tree.proofs.newest.Tie as tie
 use Rattle.tree.proofs.newest.Reads as reads
 use Rattle.tree.proofs.newest.Lts as lts
+use Rattle.tree.proofs.skip_down.Reads as skip-down-reads
 use Rattle.tree.proofs.under.Reads as under-reads
 
 abbrev Inv-loop : tie.InvT-loop
@@ -12,8 +14,11 @@ Inv-loop tree made parent i₀ i = Sinking tree made parent i
 abbrev μ-loop : tie.MeasureT-loop
 μ-loop tree made parent i₀ i = i
 
+skip-down-requires : tie.Need-skip-down-requires Inv-loop μ-loop
+skip-down-requires c κs = search needs
+
 loop-holds : tie.Need-loop-holds Inv-loop μ-loop
-loop-holds c = search (needs, sink-start)
+loop-holds c = search (needs, sink-skipped)
 
 sub-under : tie.Need-sub-under Inv-loop μ-loop
 sub-under c = search needs
@@ -42,6 +47,7 @@ newest-spec =
     (tie.spec
     Inv-loop
     μ-loop
+    skip-down-requires
     loop-holds
     sub-under
     under-requires

@@ -6,16 +6,20 @@ use Rattle.tree.proofs.text.Tie as tie
 use Rattle.tree.proofs.text.Reads as reads
 use Rattle.tree.proofs.text.Lts as lts
 
-add-if1 : tie.Need-add-if1
-add-if1 c = search needs
-
 returns : tie.Need-returns
 unfolding textOf
 returns c = search tests
+
+add-if2 : tie.Need-add-if2
+add-if2 c = search needs
 
 returns-2 : tie.Need-returns-2
 unfolding textOf
 returns-2 c = search tests
 
+returns-3 : tie.Need-returns-3
+unfolding textOf
+returns-3 c = search tests
+
 pub text-spec : {M : Type 1} → statement M
-text-spec = tie.close (tie.spec add-if1 returns returns-2)
+text-spec = tie.close (tie.spec returns add-if2 returns-2 returns-3)
