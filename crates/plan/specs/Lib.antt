@@ -4,3 +4,6 @@ pub mod Builds
 pub mod Stems
 pub mod Targets
 pub mod Planning
+pub mod ChoiceSaid
+pub mod PlannedSaid
+pub mod BuildsSaid

@@ -1,8 +1,9 @@
 -- Level 2 of planned components: a component's record and sources, and all of them in composition order.
-use Prim.Native.Nat.{ℕ, suc, _-_}
+use Prim.Native.Nat.{ℕ, suc, _+_, _-_}
 use mathlib.Core.Bool.{Bool, true, false}
 use mathlib.Core.List.{List as Seq, [], _∷_}
 use lib.Dec.{eqb, ltb}
+use lib.ListN.{length}
 use Rattle.meaning.specs.Base.{pick, nil?}
 use Rattle.schema.specs.declared.Text.{Text}
 use Rattle.schema.specs.declared.Text.the-variants as texts
@@ -127,6 +128,11 @@ module _ (room store : Seq ℕ) (made : ℕ) where
   -- the application stands directly before the first component with a partition
   unfoldable pub composed : ℕ → ℕ → PlannedFound
   composed n i = pick (ltb i ahead) (own i) (pick (eqb i ahead) (selected n) (own (i - 1)))
+
+  abbrev pub count : Choice → ℕ
+  count choices.BootChain = length (components room store made)
+  count choices.Undeclared = 0
+  count (choices.At place n) = length (components room store made) + 1
 
   abbrev pub component : Choice → ℕ → PlannedFound
   component choices.BootChain i = own i

@@ -276,6 +276,20 @@ fn composed(tree: &[u8], store: &[u8], made: usize, n: usize, i: usize) -> Plann
     own(tree, store, made, i - 1)
 }
 
+// How many components the plan has.
+pub fn count(tree: &[u8], store: &[u8], made: usize, c: Choice) -> usize
+    requires { ⌜ Rooms (now tree) made ⌝ }
+    ensures { λ r. ⌜ r ≡ plans.count (now (tree .entry)) (now (store .entry)) made c ⌝ }
+{
+    let l = parse::view::component_list(tree, store, made);
+    let n = tree::count(tree, l.end, l.place);
+    match c {
+        Choice::BootChain => n,
+        Choice::Undeclared => 0,
+        Choice::At { place: _, value: _ } => n + 1,
+    }
+}
+
 // Component number i of the plan.
 pub fn component(tree: &[u8], store: &[u8], made: usize, c: Choice, i: usize) -> PlannedFound
     requires { ⌜ Rooms (now tree) made × Standing (now tree) c ⌝ }

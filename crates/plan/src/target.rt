@@ -38,13 +38,17 @@ fn aim(store: &[u8], items: [Partition; 32], count: usize, t: Text) -> usize
     }
 }
 
-// The partition of that name.
+// The partition of that name: none where the list has a wrong one.
 pub fn partition(tree: &[u8], store: &[u8], made: usize, t: Text) -> PartitionFound
     requires { ⌜ Rooms (now tree) made ⌝ }
     ensures { λ r. ⌜ r ≡ targets.partition (now (tree .entry)) (now (store .entry)) made t ⌝ }
 {
     let l = parse::view::partition_list(tree, store, made);
     let p = parse::entry::read_partitions(tree, store, made, l, 32);
+    let fault = p.fault;
+    if fault.number != 0 {
+        return PartitionFound::Nothing;
+    }
     let items = p.items;
     let count = p.count;
     let at = aim(store, items, count, t);

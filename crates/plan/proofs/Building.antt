@@ -1,0 +1,301 @@
+-- The uses of packages gathered, and the first of each: one law for each way on and out.
+use Prim.Native.Nat.{ℕ, zero, suc, _+_, _-_, _≤_, _<_}
+use mathlib.Core.Bool.{Bool, true, false, not}
+use mathlib.Core.List.{List as Seq, [], _∷_, _++_, map, append-assoc, append-nil}
+use mathlib.Core.Path.{_≡_, refl, sym, ap, _∙_}
+use native.Mathlib.Omega.{arith}
+use native.Mathlib.Numerals.{add-one}
+use borrow.Author.Tests.{lt-ltb, le-ltb}
+use lib.Dec.{ltb}
+use lib.ListN.{length, take, getD, set, replicate, length-set, length-map, length-append}
+use lib.Seq.{length-take-le, getD-take, take-nil, take-suc, take-suc-set, slice, slice-cons, slice-empty}
+use Rattle.meaning.specs.Base.{pick}
+use Rattle.meaning.specs.Rules.{twice}
+use Rattle.laws.specs.Cases.{on, never}
+use Rattle.tree.specs.declared.Found.{Found}
+use Rattle.tree.specs.declared.Found.the-variants.{At, Nothing}
+use Rattle.tree.specs.Room.{Finds, child}
+use Rattle.tree.specs.Doors as doors
+use Rattle.tree.specs.Doors.{Rooms, Stood}
+use Rattle.tree.specs.Spans.{items-step, items-end}
+use Rattle.tree.specs.Laws.{found-below}
+use Rattle.schema.specs.declared.Text.{Text}
+use Rattle.schema.specs.declared.Text.the-variants as texts
+use Rattle.schema.specs.declared.Features.{Features}
+use Rattle.schema.specs.declared.Component.{Component}
+use Rattle.schema.specs.Texts.{orText}
+use Rattle.parse.specs.declared.component.ComponentRead.{ComponentRead}
+use Rattle.parse.specs.declared.application.ApplicationRead.{ApplicationRead}
+use Rattle.parse.specs.declared.entry.List.{List}
+use Rattle.parse.specs.Entries.{componentAt, applicationAt}
+use Rattle.parse.specs.Views.{componentList}
+use Rattle.parse.proofs.Judging.{components-among}
+use Rattle.layout.specs.Marks.{anyOf}
+use Rattle.validate.specs.Entries.{there}
+use Rattle.validate.specs.Clashes.{packed}
+use Rattle.plan.specs.declared.component.Build.{Build}
+use Rattle.plan.specs.declared.builds.BuildList.{BuildList}
+use Rattle.plan.specs.declared.builds.Wanted.{Wanted}
+use Rattle.plan.specs.Planned.{built}
+use Rattle.plan.specs.declared.builds.BuildFound.the-variants as results
+use Rattle.plan.specs.declared.choice.Choice.{Choice}
+use Rattle.plan.specs.declared.choice.Choice.the-variants as choices
+use Rattle.plan.specs.Choices.{Standing}
+use Rattle.plan.specs.Builds.{blank, wanted, Used, Wanting, Room, fresh, firstUses, wantedAt, usesOf, eachComponent, applicationUse, Followed, ownUses, uses, buildsOf, build}
+
+-- ---- one use
+
+pub built-made : (p bin r : Text) (fs : Features) → r ≡ orText bin p → record { «package» = p; bin = r; features = fs } ≡ built p bin fs
+built-made p bin r fs e = rw e
+
+pub wanted-made : (c : Component) (own pbp : Build) → own ≡ built (c .head .«package») (c .head .bin) (c .role .features)
+    → pbp ≡ built (c .boot .«pbp_package») texts.Absent (c .role .«pbp_features») → record { own = own; pbp = pbp } ≡ wanted c
+unfolding wanted
+wanted-made c own pbp e f = rw (e, f)
+
+pub wanted-of : (room store : Seq ℕ) (made n : ℕ) (r : ComponentRead) (w : Wanted) → r ≡ componentAt room store made n 32 → w ≡ wanted (r .component)
+    → w ≡ wantedAt room store made n
+wanted-of room store made n r w e f = rw (← e) f
+
+-- ---- two more in an array
+
+module _ {X : Type 0} (xs : Seq X) (i : ℕ) (a b : X) where
+  pub take-two-set : i + 1 < length xs → take (i + 2) (set (set xs i a) (i + 1) b) ≡ take i xs ++ (a ∷ b ∷ [])
+  take-two-set l =
+      let e : i + 2 ≡ suc (i + 1) = omega arith in
+      let f : take (suc (i + 1)) (set (set xs i a) (i + 1) b) ≡ take (i + 1) (set xs i a) ++ (b ∷ []) = take-suc-set (set xs i a) (i + 1) b (omega (arith, l, length-set xs i a)) in
+      let g : take (suc i) (set xs i a) ≡ take i xs ++ (a ∷ []) = take-suc-set xs i a (omega (arith, l)) in
+      rw (e, f, add-one i, g, append-assoc)
+
+-- these stand at the head of an array
+pub used-by : (most i : ℕ) (us xs : Seq Build) → us ≡ take i xs → i ≤ length xs → i ≤ most → Used most us (record { count = i; items = xs })
+used-by most i us xs e l m =
+    let n : length us ≡ i = ap length e ∙ length-take-le i xs l in
+    record { count = sym n; fits = omega (arith, n); items = rw n (sym e) }
+
+-- ---- components
+
+-- the uses of those that were met stand in the array; m more may come
+pub record Gathering (room store : Seq ℕ) (made place end : ℕ) (xs : Seq Build) (i from : ℕ) : Type 0 where
+  pub high : from ≤ end
+  pub long : length xs ≡ 129
+  pub more : ℕ
+  pub few : i + more + more ≡ 128
+  pub left : eachComponent room store made place end ≡ take i xs ++ usesOf room store made (take more (doors.items room end place from))
+
+module _ (room store : Seq ℕ) (made place end : ℕ) where
+  pub comps-start : (xs : Seq Build) → xs ≡ replicate 129 blank → Gathering room store made place end xs 0 0
+  comps-start xs e = record { high = omega arith; long = ap length e; more = 64; few = refl; left = refl }
+
+  module _ (xs : Seq Build) (i from : ℕ) (k : Gathering room store made place end xs i from) where
+    -- no more are asked
+    comps-done : take (k .more) (doors.items room end place from) ≡ [] → Used 128 (eachComponent room store made place end) (record { count = i; items = xs })
+    comps-done g = used-by 128 i (eachComponent room store made place end) xs (rw (g, append-nil) at (k .left)) (omega (arith, k .few, k .long)) (omega (arith, k .few))
+
+    comps-empty : doors.items room end place from ≡ [] → Used 128 (eachComponent room store made place end) (record { count = i; items = xs })
+    comps-empty g = comps-done (rw g (take-nil (k .more)))
+
+    pub comps-end : end ≤ from → Used 128 (eachComponent room store made place end) (record { count = i; items = xs })
+    unfolding doors.items
+    comps-end l = let d : end - from ≡ 0 = omega arith in comps-empty (rw d)
+
+    pub comps-full : 128 ≤ i → Used 128 (eachComponent room store made place end) (record { count = i; items = xs })
+    comps-full l = let d : k .more ≡ 0 = omega (arith, k .few) in comps-done (rw d)
+
+    module _ (found : Found) (h : Finds from end (child room end place from) found) where
+      pub comps-none : found ≡ Nothing → Used 128 (eachComponent room store made place end) (record { count = i; items = xs })
+      comps-none g = comps-empty (items-end room end place from found h g)
+
+      module _ (n : ℕ) (g : found ≡ At n) (l : i < 128) where
+        pub comps-room : i + 1 < 129
+        comps-room = omega arith
+
+        pub comps-on : (w : Wanted) → w ≡ wantedAt room store made n
+            → Gathering room store made place end (set (set xs i (w .own)) (i + 1) (w .pbp)) (i + 2) (n + 1)
+        comps-on w e = by (k .more) (k .few) (k .left)
+          where
+            by : (m : ℕ) → i + m + m ≡ 128 → eachComponent room store made place end ≡ take i xs ++ usesOf room store made (take m (doors.items room end place from))
+                → Gathering room store made place end (set (set xs i (w .own)) (i + 1) (w .pbp)) (i + 2) (n + 1)
+            by zero f z = absurd (omega (arith, f))
+            by (suc m) f z =
+                let s : doors.items room end place from ≡ n ∷ doors.items room end place (n + 1) = items-step room end place from n found h g in
+                let y : eachComponent room store made place end ≡ take i xs ++ (w .own ∷ w .pbp ∷ usesOf room store made (take m (doors.items room end place (n + 1)))) = rw (s, ← e) at z in
+                record {
+                  high = omega (arith, found-below found end n (h .below) g);
+                  long = length-set (set xs i (w .own)) (i + 1) (w .pbp) ∙ length-set xs i (w .own) ∙ k .long;
+                  more = m;
+                  few = omega (arith, f);
+                  left = rw (take-two-set xs i (w .own) (w .pbp) (omega (arith, f, k .long)), append-assoc) y;
+                }
+
+-- ---- the application's use behind them
+
+-- an array in a struct is as long as its elements in the machine
+module _ {X : Type 0} (f : Build → X) (u : BuildList) (h : Room u) (w : length (map f (u .items)) ≡ 129) where
+  pub behind-room : u .count < 129
+  behind-room = omega (arith, h .few)
+
+  pub follows : (room store : Seq ℕ) (made n : ℕ) (r : ApplicationRead) (b : Build) → r ≡ applicationAt room store made n 32
+      → b ≡ built (r .application .«package») texts.Absent (r .application .features)
+      → Followed room store made n u (record { count = u .count + 1; items = set (u .items) (u .count) b })
+  unfolding applicationUse
+  follows room store made n r b e g =
+      record {
+        count = refl;
+        items = rw (add-one (u .count), take-suc-set (u .items) (u .count) b (omega (arith, h .few, w, length-map (u .items) f)), g, e);
+      }
+
+-- ---- first uses
+
+not-true : (r : Bool) → not r ≡ true → r ≡ false
+not-true r e = on r (λ f. never {b = false} (rw f at e) refl) (λ f. f)
+
+not-false : (r : Bool) → not r ≡ false → r ≡ true
+not-false r e = on r (λ f. f) (λ f. never {b = true} refl (rw f at e))
+
+abbrev same-package : Seq ℕ → Build → Build → Bool
+same-package store u v = twice (packed store (u .«package»)) (packed store (v .«package»))
+
+-- the first uses among those before number i stand in the array
+pub record Firsts (store : Seq ℕ) (uses : Seq Build) (count : ℕ) (xs : Seq Build) (n i : ℕ) : Type 0 where
+  pub high : i ≤ count
+  pub fits : count ≤ 129
+  pub whole : length uses ≡ 129
+  pub long : length xs ≡ 129
+  pub few : n ≤ i
+  pub left : firstUses store [] (take count uses) ≡ take n xs ++ firstUses store (take i uses) (slice i count uses)
+
+-- use number i₀ is of no package that one before number j is of; the inner loop leaves its number as it is
+pub record Unused (store : Seq ℕ) (uses : Seq Build) (u : Build) (i₀ i j : ℕ) : Type 0 where
+  pub is : i ≡ i₀
+  pub high : j ≤ i₀
+  pub whole : i₀ ≤ length uses
+  pub yes : there (u .«package») ≡ true
+  pub left : anyOf (same-package store u) (take i₀ uses) ≡ anyOf (same-package store u) (slice j i₀ uses)
+
+module _ (store : Seq ℕ) (uses : Seq Build) (i i′ j : ℕ) (h : Unused store uses (getD uses i blank) i i′ j) (m : j < i′) where
+  unused-head : anyOf (same-package store (getD uses i blank)) (take i uses)
+      ≡ pick (same-package store (getD uses i blank) (getD uses j blank)) true (anyOf (same-package store (getD uses i blank)) (slice (j + 1) i uses))
+  unused-head =
+      let a : slice j i uses ≡ getD uses j blank ∷ slice (suc j) i uses = slice-cons j i uses blank (omega (arith, m, h .is)) (h .whole) in
+      rw (add-one j) (rw a at (h .left))
+
+  pub unused-on : (r : Bool) → r ≡ same-package store (getD uses i blank) (getD uses j blank) → r ≡ false → Unused store uses (getD uses i blank) i i′ (j + 1)
+  unused-on r t e = record { is = h .is; high = omega (arith, m, h .is); whole = h .whole; yes = h .yes; left = rw (← t, e) at unused-head }
+
+module _ (store : Seq ℕ) (uses : Seq Build) (count : ℕ) where
+  pub firsts-start : (xs : Seq Build) → xs ≡ replicate 129 blank → count ≤ 129 → length uses ≡ 129 → Firsts store uses count xs 0 0
+  firsts-start xs e l w = record { high = omega arith; fits = l; whole = w; long = ap length e; few = omega arith; left = refl }
+
+  module _ (xs : Seq Build) (n i : ℕ) (k : Firsts store uses count xs n i) where
+    pub firsts-end : count ≤ i → Used 129 (firstUses store [] (take count uses)) (record { count = n; items = xs })
+    firsts-end l =
+        let e : i ≡ count = omega (arith, k .high) in
+        used-by 129 n (firstUses store [] (take count uses)) xs (rw (e, slice-empty count uses, append-nil) at (k .left)) (omega (arith, k .few, k .high, k .fits, k .long)) (omega (arith, k .few, k .high, k .fits))
+
+    module _ (l : i < count) where
+      -- use number i is the first of those that are left
+      firsts-head : firstUses store [] (take count uses)
+          ≡ take n xs ++ pick (fresh store (take i uses) (getD uses i blank)) (getD uses i blank ∷ firstUses store (take (i + 1) uses) (slice (i + 1) count uses)) (firstUses store (take (i + 1) uses) (slice (i + 1) count uses))
+      firsts-head =
+          let a : slice i count uses ≡ getD uses i blank ∷ slice (suc i) count uses = slice-cons i count uses blank l (omega (arith, k .fits, k .whole)) in
+          let b : take (suc i) uses ≡ take i uses ++ (getD uses i blank ∷ []) = take-suc uses i blank (omega (arith, k .fits, k .whole)) in
+          rw (add-one i, b) (rw a at (k .left))
+
+      skipped : fresh store (take i uses) (getD uses i blank) ≡ false → Firsts store uses count xs n (i + 1)
+      skipped e =
+          record { high = omega arith; fits = k .fits; whole = k .whole; long = k .long; few = omega (arith, k .few); left = rw e at firsts-head }
+
+      module _ (r : Bool) (t : r ≡ there (getD uses i blank .«package»)) where
+        pub firsts-absent : not r ≡ true → Firsts store uses count xs n (i + 1)
+        unfolding fresh
+        firsts-absent e = skipped (rw (← t, not-true r e))
+
+        pub unused-start : not r ≡ false → Unused store uses (getD uses i blank) i i 0
+        unused-start e = record { is = refl; high = omega arith; whole = omega (arith, k .fits, k .whole); yes = sym t ∙ not-false r e; left = refl }
+
+      module _ (i′ j : ℕ) (h : Unused store uses (getD uses i blank) i i′ j) where
+        pub unused-low : j ≤ 129
+        unused-low = omega (arith, h .high, k .fits, l)
+
+        pub number-low : i′ < 129
+        number-low = omega (arith, h .is, k .fits, l)
+
+        pub firsts-less : count - (i′ + 1) < count - i
+        firsts-less = omega (arith, h .is, l)
+
+        pub firsts-again : (r : Bool) → r ≡ same-package store (getD uses i blank) (getD uses j blank) → j < i′ → r ≡ true → Firsts store uses count xs n (i′ + 1)
+        unfolding fresh
+        firsts-again r t m e = let a = rw (← t, e) at (unused-head store uses i i′ j h m) in rw (h .is) (skipped (rw (h .yes, a)))
+
+        pub firsts-room : n < 129
+        firsts-room = omega (arith, k .few, k .fits, l)
+
+        pub firsts-on : i′ ≤ j → Firsts store uses count (set xs n (getD uses i blank)) (n + 1) (i′ + 1)
+        unfolding fresh
+        firsts-on m =
+            let e : j ≡ i = omega (arith, h .high, h .is) in
+            let a : anyOf (same-package store (getD uses i blank)) (take i uses) ≡ false = rw (e, slice-empty i uses) at (h .left) in
+            let b : fresh store (take i uses) (getD uses i blank) ≡ true = rw (h .yes, a) in
+            let c : take (suc n) (set xs n (getD uses i blank)) ≡ take n xs ++ (getD uses i blank ∷ []) = take-suc-set xs n (getD uses i blank) (omega (arith, k .few, k .fits, k .long, l)) in
+            record {
+              high = omega (arith, h .is, l);
+              fits = k .fits;
+              whole = k .whole;
+              long = length-set xs n (getD uses i blank) ∙ k .long;
+              few = omega (arith, k .few, h .is);
+              left = rw (h .is, add-one n, c, append-assoc) (rw b at firsts-head);
+            }
+
+-- ---- all uses
+
+pub wanting : (room store : Seq ℕ) (made : ℕ) (l : List) → Rooms room made → l ≡ componentList room store made → Wanting room made (l .end)
+wanting room store made l h e = record { rooms = h; within = components-among room store made l h e .end }
+
+pub chosen-stood : (room : Seq ℕ) (c : Choice) (place n : ℕ) → Standing room c → c ≡ choices.At place n → Stood room n
+chosen-stood room c place n h e = rw e at h
+
+module _ (room store : Seq ℕ) (made : ℕ) (l : List) (e : l ≡ componentList room store made) (u : BuildList) (h : Used 128 (eachComponent room store made (l .place) (l .end)) u) where
+  pub used-room : Room u
+  used-room = record { few = omega (arith, h .count, h .fits) }
+
+  own : Used 128 (ownUses room store made) u
+  own = rw e at h
+
+  widened : Used 129 (ownUses room store made) u
+  widened = record { count = own .count; fits = omega (arith, own .fits); items = own .items }
+
+  pub uses-own : (c : Choice) → c ≡ choices.BootChain → Used 129 (uses room store made c) u
+  uses-own c g = rw g widened
+
+  pub uses-undeclared : (c : Choice) → c ≡ choices.Undeclared → Used 129 (uses room store made c) u
+  uses-undeclared c g = rw g widened
+
+  pub uses-followed : (c : Choice) (place n : ℕ) (r : BuildList) → c ≡ choices.At place n → Followed room store made n u r → Used 129 (uses room store made c) r
+  uses-followed c place n r g f =
+      let d : length (ownUses room store made ++ (applicationUse room store made n ∷ [])) ≡ u .count + 1
+      = length-append (ownUses room store made) (applicationUse room store made n ∷ []) ∙ ap (λ (k : ℕ). k + 1) (sym (own .count)) in
+      let a : take (u .count) (u .items) ≡ ownUses room store made = rw (own .count) (own .items) in
+      rw g (record { count = f .count ∙ sym d; fits = omega (arith, d, own .count, own .fits); items = rw (d, f .items, a) })
+
+-- ---- builds
+
+pub builds-used : (room store : Seq ℕ) (made : ℕ) (c : Choice) (u r : BuildList) → Used 129 (uses room store made c) u
+    → Used 129 (firstUses store [] (take (u .count) (u .items))) r → Used 129 (buildsOf room store made c) r
+unfolding buildsOf
+builds-used room store made c u r h k = let a : take (u .count) (u .items) ≡ uses room store made c = rw (h .count) (h .items) in rw a at k
+
+module _ (room store : Seq ℕ) (made : ℕ) (c : Choice) (i : ℕ) (b : BuildList) (h : Used 129 (buildsOf room store made c) b) where
+  pub build-at : (r : Build) → i < b .count → r ≡ getD (b .items) i blank → results.At r ≡ build room store made c i
+  unfolding build
+  build-at r l e =
+      let t : ltb i (length (buildsOf room store made c)) ≡ true = lt-ltb i (length (buildsOf room store made c)) (omega (arith, l, h .count)) in
+      let d : getD (buildsOf room store made c) i blank ≡ getD (b .items) i blank
+      = ap (λ (x : Seq Build). getD x i blank) (sym (h .items)) ∙ getD-take (length (buildsOf room store made c)) (b .items) i blank (omega (arith, l, h .count)) in
+      rw (t, d, e)
+
+  pub build-none : b .count ≤ i → results.Nothing ≡ build room store made c i
+  unfolding build
+  build-none l =
+      let t : ltb i (length (buildsOf room store made c)) ≡ false = le-ltb i (length (buildsOf room store made c)) (omega (arith, l, h .count)) in
+      rw t

@@ -1,0 +1,78 @@
+use borrow.Author.Needs.{needs}
+use Prim.Native.Nat.{_-_}
+use Rattle.parse.proofs.Entering.{holds-end}
+use Rattle.plan.proofs.Choosing.{Seeking, seek-start, seek-on, seek-end, seek-none, seek-stood, seek-hit}
+use Rattle.plan.proofs.choice.declared.Statement.{statement}
+use Rattle.plan.proofs.choice.declared.Tie as tie
+use Rattle.plan.proofs.choice.declared.Reads as reads
+use Rattle.plan.proofs.choice.declared.Lts as lts
+use Rattle.plan.proofs.choice.keyed.Reads as keyed-reads
+use Rattle.tree.proofs.next.Reads as next-reads
+
+abbrev Inv-loop : tie.InvT-loop
+Inv-loop tree store made key place end after₀ i₀ after i = Seeking tree store key end place after i
+
+abbrev μ-loop : tie.MeasureT-loop
+μ-loop tree store made key place end after₀ i₀ after i = 65 - i
+
+-- src/choice.rt:37:5
+loop-holds : tie.Need-loop-holds Inv-loop μ-loop
+loop-holds c = search (needs, seek-start)
+
+-- src/choice.rt:38:13
+next-requires : tie.Need-next-requires Inv-loop μ-loop
+next-requires c κs = search (needs, holds-end)
+
+-- src/choice.rt:40:31
+enum-told : tie.Need-enum-told Inv-loop μ-loop
+enum-told c = search needs
+
+-- src/choice.rt:40:31
+returns : tie.Need-returns Inv-loop μ-loop
+returns c = search (needs, seek-none)
+
+-- src/choice.rt:41:23
+enum-known-found : tie.Need-enum-known-found Inv-loop μ-loop
+enum-known-found c = search needs
+
+-- src/choice.rt:42:20
+keyed-requires : tie.Need-keyed-requires Inv-loop μ-loop
+keyed-requires c κs = search (needs, seek-stood)
+
+-- src/choice.rt:43:21
+returns-2 : tie.Need-returns-2 Inv-loop μ-loop
+returns-2 c = search (needs, seek-hit)
+
+-- src/choice.rt:46:17
+add-i : tie.Need-add-i Inv-loop μ-loop
+add-i c = search needs
+
+-- src/choice.rt:37:5
+loop-less : tie.Need-loop-less Inv-loop μ-loop
+loop-less c = search needs
+
+-- src/choice.rt:37:5
+loop-again : tie.Need-loop-again Inv-loop μ-loop
+loop-again c = search (needs, seek-on)
+
+-- src/choice.rt:29:1
+returns-3 : tie.Need-returns-3 Inv-loop μ-loop
+returns-3 c = search (needs, seek-end)
+
+pub declared-spec : {M : Type 1} → statement M
+declared-spec =
+    tie.close
+    (tie.spec
+    Inv-loop
+    μ-loop
+    loop-holds
+    next-requires
+    enum-told
+    returns
+    enum-known-found
+    keyed-requires
+    returns-2
+    add-i
+    loop-less
+    loop-again
+    returns-3)

@@ -1,0 +1,23 @@
+use borrow.Author.Needs.{needs}
+use Rattle.plan.proofs.Composing.{component-of-is}
+use Rattle.plan.proofs.component.component_of.Statement.{statement}
+use Rattle.plan.proofs.component.component_of.Tie as tie
+use Rattle.plan.proofs.component.component_of.Reads as reads
+use Rattle.plan.proofs.component.component_of.Lts as lts
+use Rattle.plan.proofs.component.loads.Reads as loads-reads
+use Rattle.plan.proofs.component.no_boot.Reads as no-boot-reads
+
+-- src/component.rt:174:15
+no-boot-requires : tie.Need-no-boot-requires
+no-boot-requires c κs = search needs
+
+-- src/component.rt:175:15
+loads-requires : tie.Need-loads-requires
+loads-requires c κs = search needs
+
+-- src/component.rt:146:1
+returns : tie.Need-returns
+returns c = search (needs, component-of-is)
+
+pub component-of-spec : {M : Type 1} → statement M
+component-of-spec = tie.close (tie.spec no-boot-requires loads-requires returns)

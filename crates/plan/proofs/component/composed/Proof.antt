@@ -1,0 +1,54 @@
+use borrow.Author.Needs.{needs}
+use Rattle.plan.proofs.Composing.{composed-before, composed-behind, composed-here}
+use Rattle.plan.proofs.component.composed.Statement.{statement}
+use Rattle.plan.proofs.component.composed.Tie as tie
+use Rattle.plan.proofs.component.composed.Reads as reads
+use Rattle.plan.proofs.component.composed.Lts as lts
+use Rattle.plan.proofs.component.ahead.Reads as ahead-reads
+use Rattle.plan.proofs.component.own.Reads as own-reads
+use Rattle.plan.proofs.component.selected.Reads as selected-reads
+
+-- src/component.rt:269:9
+ahead-requires : tie.Need-ahead-requires
+ahead-requires c κs = search needs
+
+-- src/component.rt:271:9
+own-requires : tie.Need-own-requires
+own-requires c κs = search needs
+
+-- src/component.rt:271:9
+returns : tie.Need-returns
+returns c = search (needs, composed-before)
+
+-- src/component.rt:274:9
+selected-requires : tie.Need-selected-requires
+selected-requires c κs = search needs
+
+-- src/component.rt:274:9
+returns-2 : tie.Need-returns-2
+returns-2 c = search (needs, composed-here)
+
+-- src/component.rt:276:28
+sub-own : tie.Need-sub-own
+sub-own c = search needs
+
+-- src/component.rt:276:5
+own-requires-2 : tie.Need-own-requires-2
+own-requires-2 c κs = search needs
+
+-- src/component.rt:265:1
+returns-3 : tie.Need-returns-3
+returns-3 c = search (needs, composed-behind)
+
+pub composed-spec : {M : Type 1} → statement M
+composed-spec =
+    tie.close
+    (tie.spec
+    ahead-requires
+    own-requires
+    returns
+    selected-requires
+    returns-2
+    sub-own
+    own-requires-2
+    returns-3)

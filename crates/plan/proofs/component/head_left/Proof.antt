@@ -1,0 +1,22 @@
+use borrow.Author.Needs.{needs}
+use Rattle.plan.proofs.Composing.{left-whole, left-without}
+use Rattle.plan.proofs.component.head_left.Statement.{statement}
+use Rattle.plan.proofs.component.head_left.Tie as tie
+use Rattle.plan.proofs.component.head_left.Reads as reads
+use Rattle.plan.proofs.component.head_left.Lts as lts
+use Rattle.validate.proofs.component.there.Reads as there-reads
+
+-- src/component.rt:96:8
+there-requires : tie.Need-there-requires
+there-requires c κs = search needs
+
+-- src/component.rt:97:9
+returns : tie.Need-returns
+returns c = search (needs, left-whole)
+
+-- src/component.rt:87:1
+returns-2 : tie.Need-returns-2
+returns-2 c = search (needs, left-without)
+
+pub head-left-spec : {M : Type 1} → statement M
+head-left-spec = tie.close (tie.spec there-requires returns returns-2)

@@ -1,0 +1,29 @@
+use borrow.Author.Needs.{needs}
+use Rattle.plan.proofs.Composing.{selected-is}
+use Rattle.plan.proofs.component.selected.Statement.{statement}
+use Rattle.plan.proofs.component.selected.Tie as tie
+use Rattle.plan.proofs.component.selected.Reads as reads
+use Rattle.plan.proofs.component.selected.Lts as lts
+use Rattle.parse.proofs.entry.application_at.Reads as application-at-reads
+use Rattle.plan.proofs.component.component_of.Reads as component-of-reads
+use Rattle.plan.proofs.component.plan_of.Reads as plan-of-reads
+
+-- src/component.rt:259:9
+application-at-requires : tie.Need-application-at-requires
+application-at-requires c κs = search needs
+
+-- src/component.rt:261:30
+component-of-requires : tie.Need-component-of-requires
+component-of-requires c κs = search needs
+
+-- src/component.rt:261:22
+plan-of-requires : tie.Need-plan-of-requires
+plan-of-requires c κs = search needs
+
+-- src/component.rt:255:1
+returns : tie.Need-returns
+returns c = search (needs, selected-is)
+
+pub selected-spec : {M : Type 1} → statement M
+selected-spec =
+    tie.close (tie.spec application-at-requires component-of-requires plan-of-requires returns)
