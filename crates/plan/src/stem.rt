@@ -1,7 +1,6 @@
 // The stem of the files that a plan makes.
 
 use crate::choice::Choice;
-use parse::file::Piece;
 use schema::Component;
 use schema::Kind;
 use schema::Text;
