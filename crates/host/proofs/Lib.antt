@@ -4,5 +4,6 @@ pub mod Keyed
 pub mod Readouts
 pub mod Presenting
 pub mod Viewing
+pub mod Plotting
 pub mod Recording
 pub mod Shown

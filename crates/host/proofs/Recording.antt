@@ -16,6 +16,7 @@ use Rattle.meaning.specs.Schema as meant
 use Rattle.meaning.specs.Records.{presetOf}
 use Rattle.meaning.specs.Preset.{Read, read, validate}
 use Rattle.meaning.specs.Rules.{rules}
+use Rattle.meaning.specs.Plan as plans
 use Rattle.laws.specs.Cases.{on}
 use Rattle.scalar.specs.Stores.{over}
 use Rattle.tree.specs.declared.Slot.{Slot}
@@ -34,6 +35,7 @@ use Rattle.document.specs.Rooms.{suffice, judged}
 use Rattle.document.proofs.Reading.{suffices}
 use Rattle.parse.specs.declared.Refusal.{Refusal}
 use Rattle.parse.specs.declared.Outcome as parsed
+use Rattle.parse.specs.Refusals.{earlier}
 use Rattle.parse.specs.Refused.{lentText, verdict}
 use Rattle.parse.specs.Views.{sound}
 use Rattle.parse.specs.Verdict as verdicts
@@ -43,9 +45,13 @@ use Rattle.parse.specs.Whole.{presetMeant, preset-says, lent-is}
 use Rattle.validate.specs.Faults as faults
 use Rattle.validate.specs.Validated.{validating}
 use Rattle.validate.specs.Said.{rules-say}
+use Rattle.plan.specs.Choices.{choice, fault}
+use Rattle.plan.specs.ChoiceSaid.{selection, selected, plan-says}
+use Rattle.plan.specs.Planning.{planning}
 use Rattle.host.specs.declared.documents.Outcome.{Outcome}
 use Rattle.host.specs.Documents.{Shown}
 use Rattle.host.specs.Presets.{outcomeBy, storeBy, treeBy, Recorded, Records, Answered, recorded, validated, exported}
+use Rattle.host.specs.Plans.{planned}
 use Rattle.host.proofs.Exports.{length-zeros}
 use Rattle.host.proofs.Presenting.{judged-agrees}
 
@@ -225,40 +231,78 @@ pub preset-is : (text name store tree store' tree' : List ℕ) (o : parsed.Outco
 unfolding read
 preset-is text name store tree store' tree' o q r e = rw e (answered-is (verdicts.reading name) (presetOf of01 name) text name store tree store' tree' o (reading-judges name) r)
 
--- ---- rules
+-- ---- one judge behind another
 
--- a root's preset, where no rule refuses it
-abbrev rulesOver : List ℕ → Table → Answer meant.Preset
-rulesOver name root = after (presetOf of01 name root) (λ preset. after (rules preset) (λ u. accepted preset))
+-- a root's preset, where what is asked of it is not refused
+abbrev held : {X : Type 0} → (meant.Preset → Answer X) → (Table → Answer meant.Preset) → Table → Answer meant.Preset
+held rule way root = after (way root) (λ preset. after (rule preset) (λ y. accepted preset))
 
-validating-judges : (name : List ℕ) → Judges name (validating name) (rulesOver name)
-validating-judges name =
+pub judges-next : {X : Type 0} (name : List ℕ) (judge second : List ℕ → List ℕ → ℕ → Refusal) (way : Table → Answer meant.Preset) (rule : meant.Preset → Answer X)
+    (given : List ℕ → List ℕ → ℕ → X) → Judges name judge way
+    → ((room store : List ℕ) (made : ℕ) → Says (rule (presetIn room store made name)) (second room store made) (given room store made))
+    → Judges name (λ room store made. earlier (judge room store made) (second room store made)) (held rule way)
+judges-next name judge second way rule given js says =
     record {
-      clear = λ room store made z. earlier-clear (verdicts.reading name room store made) (faults.verdict room store made name) z .0;
-      says = λ room store made root s. says-after (λ preset. after (rules preset) (λ u. accepted preset)) s (says-made (λ u. presetIn room store made name) (rules-say room store made name));
+      clear = λ room store made z. js .clear room store made (earlier-clear (judge room store made) (second room store made) z .0);
+      says = λ room store made root s.
+          says-after (λ preset. after (rule preset) (λ y. accepted preset)) (js .says room store made root s) (says-made (λ y. presetIn room store made name) (says room store made));
     }
 
--- one after the other
-ruled-after : (a : Answer Parsed) (way : Table → Answer meant.Preset)
-    → after {Y = Read} (answer way a) (λ r. after {Y = Read} (rules (r .preset)) (λ u. accepted r)) ≡ answer (λ root. after (way root) (λ preset. after (rules preset) (λ u. accepted preset))) a
-ruled-after (refused f s p) way = refl
-ruled-after (accepted p) way = one (way (p .root))
+-- of a text's answer
+answer-next : {X : Type 0} (a : Answer Parsed) (way : Table → Answer meant.Preset) (rule : meant.Preset → Answer X)
+    → after {Y = Read} (answer way a) (λ r. after {Y = Read} (rule (r .preset)) (λ y. accepted r)) ≡ answer (held rule way) a
+answer-next (refused f s p) way rule = refl
+answer-next {X} (accepted p) way rule = one (way (p .root))
   where
-    two : (m : meant.Preset) (v : Answer (Unit {0})) → after {Y = Read} v (λ u. accepted (record { parsed = p; preset = m })) ≡ after {Y = Read} (after {Y = meant.Preset} v (λ u. accepted m)) (λ preset. accepted (record { parsed = p; preset = preset }))
+    two : (m : meant.Preset) (v : Answer X)
+        → after {Y = Read} v (λ y. accepted (record { parsed = p; preset = m })) ≡ after {Y = Read} (after {Y = meant.Preset} v (λ y. accepted m)) (λ preset. accepted (record { parsed = p; preset = preset }))
     two m (accepted u) = refl
     two m (refused f s q) = refl
 
     one : (m : Answer meant.Preset)
-        → after {Y = Read} (after {Y = Read} m (λ preset. accepted (record { parsed = p; preset = preset }))) (λ r. after {Y = Read} (rules (r .preset)) (λ u. accepted r))
-        ≡ after {Y = Read} (after {Y = meant.Preset} m (λ preset. after {Y = meant.Preset} (rules preset) (λ u. accepted preset))) (λ preset. accepted (record { parsed = p; preset = preset }))
+        → after {Y = Read} (after {Y = Read} m (λ preset. accepted (record { parsed = p; preset = preset }))) (λ r. after {Y = Read} (rule (r .preset)) (λ y. accepted r))
+        ≡ after {Y = Read} (after {Y = meant.Preset} m (λ preset. after {Y = meant.Preset} (rule preset) (λ y. accepted preset))) (λ preset. accepted (record { parsed = p; preset = preset }))
     one (refused f s q) = refl
-    one (accepted m) = two m (rules m)
+    one (accepted m) = two m (rule m)
+
+-- ---- rules
+
+abbrev rulesOver : List ℕ → Table → Answer meant.Preset
+rulesOver name = held rules (presetOf of01 name)
+
+validating-judges : (name : List ℕ) → Judges name (validating name) (rulesOver name)
+validating-judges name =
+    judges-next name (verdicts.reading name) (λ room store made. faults.verdict room store made name) (presetOf of01 name) rules (λ room store made. tt) (reading-judges name)
+    (λ room store made. rules-say room store made name)
 
 validated-is : (text name store tree : List ℕ) → validated text name store tree ≡ answer (rulesOver name) (inRooms of01 32 (length store) (length tree) text)
 unfolding validate read
-validated-is text name store tree = ruled-after (inRooms of01 32 (length store) (length tree) text) (presetOf of01 name)
+validated-is text name store tree = answer-next (inRooms of01 32 (length store) (length tree) text) (presetOf of01 name) rules
 
 pub valid-is : (text name store tree store' tree' : List ℕ) (o : parsed.Outcome) (q : Outcome) → verdicts.Parsed (validating name) text store tree store' tree' o → q ≡ exported o
     → Answered (validated text name store tree) text name store tree store' tree' q
 valid-is text name store tree store' tree' o q r e =
     rw (e, validated-is text name store tree) (answered-is (validating name) (rulesOver name) text name store tree store' tree' o (validating-judges name) r)
+
+-- ---- a selection
+
+abbrev planOver : List ℕ → ℕ → List ℕ → Table → Answer meant.Preset
+planOver name app key = held (λ preset. plans.planOf preset (selection app key)) (rulesOver name)
+
+planning-judges : (name : List ℕ) (app : ℕ) (key : List ℕ) → Judges name (planning name app key) (planOver name app key)
+planning-judges name app key =
+    judges-next name (validating name) (λ room store made. fault room store made (choice room store made app key)) (rulesOver name) (λ preset. plans.planOf preset (selection app key))
+    (λ room store made. plans.composed (presetIn room store made name) (selection app key) (selected room store made name (choice room store made app key))) (validating-judges name)
+    (λ room store made. plan-says room store made name app key)
+
+planned-is : (text name : List ℕ) (app : ℕ) (key store tree : List ℕ)
+    → planned text name app key store tree ≡ answer (planOver name app key) (inRooms of01 32 (length store) (length tree) text)
+planned-is text name app key store tree =
+    rw (validated-is text name store tree)
+    (answer-next (inRooms of01 32 (length store) (length tree) text) (rulesOver name) (λ preset. plans.planOf preset (selection app key)))
+
+pub plan-is : (text name : List ℕ) (app : ℕ) (key store tree store' tree' : List ℕ) (o : parsed.Outcome) (q : Outcome) → verdicts.Parsed (planning name app key) text store tree store' tree' o
+    → q ≡ exported o → Answered (planned text name app key store tree) text name store tree store' tree' q
+plan-is text name app key store tree store' tree' o q r e =
+    rw (e, planned-is text name app key store tree)
+    (answered-is (planning name app key) (planOver name app key) text name store tree store' tree' o (planning-judges name app key) r)

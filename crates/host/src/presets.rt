@@ -7,7 +7,7 @@ ghost use Rattle.host.specs.Presets as presets;
 ghost use Rattle.host.specs.Presets.{Answered, recorded, validated};
 
 // An outcome in the numbers of the boundary.
-fn exported(r: parse::Outcome) -> Outcome
+pub fn exported(r: parse::Outcome) -> Outcome
     requires { ⌜ Small r ⌝ }
     ensures { λ q. ⌜ q ≡ presets.exported r ⌝ }
 {

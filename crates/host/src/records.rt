@@ -174,7 +174,7 @@ fn word_number(w: Word) -> u32
     }
 }
 
-fn bytes_of(t: Text) -> Bytes
+pub fn bytes_of(t: Text) -> Bytes
     ensures { λ r. ⌜ r ≡ records.bytesOf t ⌝ }
 {
     match t {
@@ -220,7 +220,7 @@ fn amount_of(n: Number) -> Amount
     }
 }
 
-fn list_of(f: Features) -> FeatureList
+pub fn list_of(f: Features) -> FeatureList
     ensures { λ r. ⌜ r ≡ records.listOf f ⌝ }
 {
     match f {
@@ -398,7 +398,7 @@ fn no_partition() -> PartitionView
     }
 }
 
-fn partition_of(f: PartitionFound) -> PartitionView
+pub fn partition_of(f: PartitionFound) -> PartitionView
     ensures { λ r. ⌜ r ≡ records.partitionOf f ⌝ }
 {
     match f {
@@ -439,7 +439,7 @@ fn component(tree: &[u8], store: &[u8], made: usize, i: usize) -> ComponentFound
     ComponentFound::Nothing
 }
 
-fn head_of(f: ComponentFound) -> HeadView
+pub fn head_of(f: ComponentFound) -> HeadView
     ensures { λ r. ⌜ r ≡ records.headOf f ⌝ }
 {
     match f {
@@ -481,7 +481,7 @@ pub extern "C" fn component_head(tree: &[u8], store: &[u8], made: usize, i: usiz
     head_of(component(tree, store, made, i))
 }
 
-fn role_of(f: ComponentFound) -> RoleView
+pub fn role_of(f: ComponentFound) -> RoleView
     ensures { λ r. ⌜ r ≡ records.roleOf f ⌝ }
 {
     match f {
@@ -523,7 +523,7 @@ pub extern "C" fn component_role(tree: &[u8], store: &[u8], made: usize, i: usiz
     role_of(component(tree, store, made, i))
 }
 
-fn boot_of(f: ComponentFound) -> BootView
+pub fn boot_of(f: ComponentFound) -> BootView
     ensures { λ r. ⌜ r ≡ records.bootOf f ⌝ }
 {
     match f {
@@ -561,7 +561,7 @@ pub extern "C" fn component_boot(tree: &[u8], store: &[u8], made: usize, i: usiz
     boot_of(component(tree, store, made, i))
 }
 
-fn load_of(f: ComponentFound) -> LoadView
+pub fn load_of(f: ComponentFound) -> LoadView
     ensures { λ r. ⌜ r ≡ records.loadOf f ⌝ }
 {
     match f {

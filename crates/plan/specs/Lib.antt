@@ -7,3 +7,5 @@ pub mod Planning
 pub mod ChoiceSaid
 pub mod PlannedSaid
 pub mod BuildsSaid
+pub mod StemSaid
+pub mod TargetSaid

@@ -13,6 +13,8 @@ use Rattle.meaning.specs.Rules as meant
 use Rattle.chars.specs.Trimmed.{Trimmed}
 use Rattle.chars.specs.declared.Span as chars
 use Rattle.slices.specs.Found.{Found}
+use Rattle.tree.specs.declared.Slot.{Slot}
+use Rattle.tree.specs.Room.{slotAt}
 use Rattle.schema.specs.declared.Text.{Text}
 use Rattle.schema.specs.declared.Text.the-variants as texts
 use Rattle.schema.specs.declared.Word.{Word}
@@ -99,20 +101,20 @@ first-not at empty e = rw e
 
 -- ---- the entry of a component
 
-pub component-done : (store : List ℕ) (c : Component) (items : List Partition) (count : ℕ) → count ≤ 32 → length items ≡ 32
+pub component-done : (store : List ℕ) (fault : ℕ) (c : Component) (items : List Partition) (count : ℕ) → count ≤ 32 → length items ≡ 32
     → (named : List ℕ) (at a n : ℕ) (s : List ℕ) (from len late : ℕ) (pair : Pair) (front : Bool)
     → named ≡ referred store (c .role .partition) → at ≡ rank named (map (partName store) (take count items))
     → a ≡ startOf (c .role .partition) → n ≡ lengthOf (c .role .partition) → s ≡ clip a n store
     → from ≡ startOf (c .head .name) → len ≡ lengthOf (c .head .name) → late ≡ entries.lateFault store (ltb at count) c
     → pair ≡ pairOf store c → front ≡ pick (eqb (length s) 0) false (eqb at 0)
-    → record { mark = record { from = from; len = len; early = 0; late = late }; pair = pair; first = front } ≡ componentEntry store (map (partName store) (take count items)) c
+    → record { fault = fault; mark = record { from = from; len = len; early = 0; late = late }; pair = pair; first = front } ≡ componentEntry store (map (partName store) (take count items)) fault c
 unfolding componentEntry
-component-done store c items count l m named at a n s from len late pair front f g p q e h k j o i =
+component-done store fault c items count l m named at a n s from len late pair front f g p q e h k j o i =
     let z : eqb (length s) 0 ≡ nil? (kept store (c .role .partition)) = nil-long s ∙ ap nil? (kept-is store (c .role .partition) a n p q s e) in
     rw (h, k, j, o, i, z, g, f, parts-long store items count (omega arith))
 
 pub component-read : (room store : List ℕ) (made n : ℕ) (parts : List (List ℕ)) (r : ComponentRead) (x : Entry) → r ≡ parsed.componentAt room store made n 32
-    → x ≡ componentEntry store parts (r .component) → x ≡ entries.componentAt room store made parts n
+    → x ≡ componentEntry store parts (r .fault) (r .component) → x ≡ entries.componentAt room store made parts n
 component-read room store made n parts r x e h = rw (h, e)
 
 -- ---- an application's rules
@@ -179,15 +181,16 @@ module _ (n : Number) (a : ℕ) (e : n ≡ numbers.Of a) where
 
 -- ---- the entry of an application
 
-pub application-done : (store : List ℕ) (a : Application) (items : List Partition) (count : ℕ) → count ≤ 32 → length items ≡ 32
-    → (at from len early late : ℕ) (pair : Pair)
+pub application-done : (store : List ℕ) (fault : ℕ) (pair : Pair) (a : Application) (items : List Partition) (count : ℕ) → count ≤ 32 → length items ≡ 32
+    → (at from len early late : ℕ)
     → at ≡ aim store (map (partName store) (take count items)) (a .partition)
     → from ≡ startOf (a .name) → len ≡ lengthOf (a .name) → early ≡ entries.earlyFault store (ltb at count) a
-    → late ≡ meant.addressFault (amount (a .«load_address»)) → pair ≡ single (a .«package») (a .features)
-    → record { mark = record { from = from; len = len; early = early; late = late }; pair = pair; first = false } ≡ applicationEntry store (map (partName store) (take count items)) a
+    → late ≡ meant.addressFault (amount (a .«load_address»))
+    → record { fault = fault; mark = record { from = from; len = len; early = early; late = late }; pair = pair; first = false } ≡ applicationEntry store (map (partName store) (take count items)) fault pair a
 unfolding applicationEntry
-application-done store a items count l m at from len early late pair g h k j o i = rw (h, k, j, o, i, g, parts-long store items count (omega arith))
+application-done store fault pair a items count l m at from len early late g h k j o = rw (h, k, j, o, g, parts-long store items count (omega arith))
 
-pub application-read : (room store : List ℕ) (made n : ℕ) (parts : List (List ℕ)) (r : ApplicationRead) (x : Entry) → r ≡ parsed.applicationAt room store made n 32
-    → x ≡ applicationEntry store parts (r .application) → x ≡ entries.applicationAt room store made parts n
-application-read room store made n parts r x e h = rw (h, e)
+pub application-read : (room store : List ℕ) (made n : ℕ) (parts : List (List ℕ)) (r : ApplicationRead) (v : Slot) (pair : Pair) (x : Entry) → r ≡ parsed.applicationAt room store made n 32
+    → v ≡ slotAt room n → pair ≡ single (v .key) (v .len) (r .application .features) → x ≡ applicationEntry store parts (r .fault) pair (r .application)
+    → x ≡ entries.applicationAt room store made parts n
+application-read room store made n parts r v pair x e f g h = rw (h, g, f, e)

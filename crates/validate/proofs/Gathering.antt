@@ -5,6 +5,7 @@ use mathlib.Core.List.{List as Seq, [], _∷_, _++_, map, append-assoc, append-n
 use mathlib.Core.Path.{_≡_, refl, sym, ap, _∙_}
 use native.Mathlib.Omega.{arith}
 use native.Mathlib.Numerals.{add-one}
+use borrow.Author.Tests.{eq-eqb, ne-eqb}
 use lib.ListN.{length, take, set, replicate, length-set, length-map}
 use lib.Seq.{take-suc-set}
 use Rattle.tree.specs.declared.Found.{Found}
@@ -14,65 +15,64 @@ use Rattle.tree.specs.Order.{next}
 use Rattle.tree.specs.Doors.{Rooms, Stood, items}
 use Rattle.tree.specs.Spans.{items-step, items-end}
 use Rattle.tree.specs.Laws.{found-below}
-use Rattle.parse.specs.declared.entry.List.{List}
-use Rattle.parse.specs.Entries.{walk}
-use Rattle.parse.specs.Views.{componentList, applicationList}
-use Rattle.parse.proofs.Judging.{components-among, applications-among}
+use Rattle.parse.specs.declared.Refusal.{Refusal}
+use Rattle.parse.specs.Refusals.{earlier}
+use Rattle.parse.specs.Entries as parsed
+use Rattle.parse.specs.Entries.{told, walk, eachComponent, applicationFault}
+use Rattle.parse.proofs.Entering as reading
 use Rattle.layout.specs.declared.Mark.{Mark}
 use Rattle.layout.specs.Marks.{anyOf}
 use Rattle.layout.specs.Parts.{noMarks}
 use Rattle.validate.specs.declared.Entry.{Entry}
+use Rattle.validate.specs.declared.uses.Spot.{Spot}
 use Rattle.validate.specs.declared.uses.Pair.{Pair}
 use Rattle.validate.specs.declared.gather.Gathered.{Gathered}
-use Rattle.validate.specs.Entries.{componentAt, applicationAt}
-use Rattle.validate.specs.Gathered.{blank, either, Listed, Counted, Components, Followed, Applications, Ready, AllComponents, AllApplications, Few}
+use Rattle.validate.specs.Clashes.{noSpot}
+use Rattle.validate.specs.Entries.{componentEntry, applicationEntry, componentAt, applicationAt}
+use Rattle.validate.specs.Gathered.{blank, either, faultAt, Listed, Counted, Components, Followed, Applications}
 
--- ---- an array filled from a place on
-
--- what stands before the place, and what the numbers that are left stand for, are all
-pub record Filled {X : Type 0} (f : ℕ → X) (all xs : Seq X) (at : ℕ) (left : Seq ℕ) : Type 0 where
-  pub few : at + length left ≤ length xs
-  pub is : all ≡ take at xs ++ map f left
-
-module _ {X : Type 0} (f : ℕ → X) (all xs : Seq X) (at : ℕ) where
-  filled-on : (n : ℕ) (ns : Seq ℕ) (x : X) → x ≡ f n → Filled f all xs at (n ∷ ns) → Filled f all (set xs at x) (at + 1) ns
-  filled-on n ns x e k =
-      let b : take (suc at) (set xs at x) ≡ take at xs ++ (x ∷ []) = take-suc-set xs at x (omega (arith, k .few)) in
-      record { few = omega (arith, k .few, length-set xs at x); is = rw (add-one at, b, append-assoc, e) (k .is) }
-
-  filled-end : Filled f all xs at [] → take at xs ≡ all
-  filled-end k = sym (rw append-nil at (k .is))
+-- no packages
+pub blank-is : (s : Spot) → s ≡ noSpot → replicate 128 (record { «package» = s; features = s; «pbp_package» = s; «pbp_features» = s }) ≡ replicate 128 blank
+blank-is s e = rw e
 
 -- ---- both arrays
 
--- marks of the entries that were met and, behind those in front, their packages
+-- one more stands behind the place
+one-more : {X : Type 0} (f : ℕ → X) (all xs : Seq X) (at n : ℕ) (ns : Seq ℕ) (x : X) → at < length xs → x ≡ f n → all ≡ take at xs ++ map f (n ∷ ns) → all ≡ take (at + 1) (set xs at x) ++ map f ns
+one-more f all xs at n ns x l e k =
+    let b : take (suc at) (set xs at x) ≡ take at xs ++ (x ∷ []) = take-suc-set xs at x l in
+    rw (add-one at, b, append-assoc, e) k
+
+-- marks of the entries that were met and, behind those in front, their packages; what the numbers that are left stand for is missing
 pub record Passed (entry : ℕ → Entry) (all left : Seq ℕ) (front : Seq Pair) (ms : Seq Mark) (ps : Seq Pair) (i at : ℕ) : Type 0 where
   pub count : length all ≡ i + length left
-  pub few : length all ≤ 64
-  pub marks : Filled (λ n. entry n .mark) (map (λ n. entry n .mark) all) ms i left
-  pub pairs : Filled (λ n. entry n .pair) (front ++ map (λ n. entry n .pair) all) ps at left
+  pub mark-room : length ms ≡ 64
+  pub pair-room : length ps ≡ 128
+  pub marks : map (λ n. entry n .mark) all ≡ take i ms ++ map (λ n. entry n .mark) left
+  pub pairs : front ++ map (λ n. entry n .pair) all ≡ take at ps ++ map (λ n. entry n .pair) left
 
 module _ (entry : ℕ → Entry) (all : Seq ℕ) (front : Seq Pair) (marks : Seq Mark) (pairs : Seq Pair) (i at : ℕ) where
-  passed-on : (n : ℕ) (ns : Seq ℕ) (e : Entry) → e ≡ entry n → Passed entry all (n ∷ ns) front marks pairs i at
+  passed-on : (n : ℕ) (ns : Seq ℕ) (e : Entry) → i < 64 → at < 128 → e ≡ entry n → Passed entry all (n ∷ ns) front marks pairs i at
       → Passed entry all ns front (set marks i (e .mark)) (set pairs at (e .pair)) (i + 1) (at + 1)
-  passed-on n ns e h k =
+  passed-on n ns e l m h k =
       record {
         count = omega (arith, k .count);
-        few = k .few;
-        marks = filled-on (λ n. entry n .mark) (map (λ n. entry n .mark) all) marks i n ns (e .mark) (ap (λ (x : Entry). x .mark) h) (k .marks);
-        pairs = filled-on (λ n. entry n .pair) (front ++ map (λ n. entry n .pair) all) pairs at n ns (e .pair) (ap (λ (x : Entry). x .pair) h) (k .pairs);
+        mark-room = length-set marks i (e .mark) ∙ k .mark-room;
+        pair-room = length-set pairs at (e .pair) ∙ k .pair-room;
+        marks = one-more (λ n. entry n .mark) (map (λ n. entry n .mark) all) marks i n ns (e .mark) (omega (arith, k .mark-room)) (ap (λ (x : Entry). x .mark) h) (k .marks);
+        pairs = one-more (λ n. entry n .pair) (front ++ map (λ n. entry n .pair) all) pairs at n ns (e .pair) (omega (arith, k .pair-room)) (ap (λ (x : Entry). x .pair) h) (k .pairs);
       }
 
   module _ (k : Passed entry all [] front marks pairs i at) where
     all-passed : i ≡ length all
     all-passed = omega (arith, k .count)
 
-    passed-listed : (first : Bool) → Listed entry all (record { count = i; first = first; marks = marks; pairs = pairs })
-    passed-listed first =
-        record { count = all-passed; few = k .few; marks = rw (← all-passed) (filled-end (λ n. entry n .mark) (map (λ n. entry n .mark) all) marks i (k .marks)) }
+    passed-listed : (fault : Refusal) (first : Bool) → i ≤ 64 → Listed entry all (record { fault = fault; count = i; first = first; marks = marks; pairs = pairs })
+    passed-listed fault first l =
+        record { count = all-passed; few = omega (arith, all-passed); marks = rw (← all-passed) (sym (rw append-nil at (k .marks))) }
 
     passed-pairs : take at pairs ≡ front ++ map (λ n. entry n .pair) all
-    passed-pairs = filled-end (λ n. entry n .pair) (front ++ map (λ n. entry n .pair) all) pairs at (k .pairs)
+    passed-pairs = sym (rw append-nil at (k .pairs))
 
 -- ---- components
 
@@ -84,68 +84,88 @@ either-none : (a : Bool) → either a false ≡ a
 either-none true = refl
 either-none false = refl
 
-pub record Composed (room store : Seq ℕ) (made : ℕ) (parts : Seq (Seq ℕ)) (place end : ℕ) (marks : Seq Mark) (pairs : Seq Pair) (first : Bool) (i from : ℕ) : Type 0 where
-  pub high : from ≤ end
+pub record Composed (room store : Seq ℕ) (made : ℕ) (parts : Seq (Seq ℕ)) (place end : ℕ) (marks : Seq Mark) (pairs : Seq Pair) (fault : Refusal) (first : Bool) (i from : ℕ) : Type 0 where
+  pub reads : reading.Composed room store made place end 32 i from
+  pub few : length (items room end place 0) ≤ 64
+  pub none : fault ≡ told 0 0 0
   pub passed : Passed (componentAt room store made parts) (items room end place 0) (items room end place from) [] marks pairs i i
   pub left : anyOf (λ n. componentAt room store made parts n .first) (items room end place 0)
       ≡ either first (anyOf (λ n. componentAt room store made parts n .first) (items room end place from))
 
 module _ (room store : Seq ℕ) (made : ℕ) (parts : Seq (Seq ℕ)) (place end : ℕ) where
-  pub comps-start : (count : ℕ) (marks : Seq Mark) (pairs : Seq Pair) → Counted room made place end count → marks ≡ noMarks → pairs ≡ replicate 128 blank
-      → Composed room store made parts place end marks pairs false 0 0
-  comps-start count marks pairs h m p =
+  pub comps-start : (count : ℕ) (marks : Seq Mark) (pairs : Seq Pair) (fault : Refusal) → Counted room made place end count → marks ≡ noMarks → pairs ≡ replicate 128 blank → fault ≡ told 0 0 0
+      → Composed room store made parts place end marks pairs fault false 0 0
+  comps-start count marks pairs fault h m p f =
       record {
-        high = omega arith;
-        passed = record {
-          count = omega arith;
-          few = h .few;
-          marks = record { few = omega (arith, ap length m, h .few); is = refl };
-          pairs = record { few = omega (arith, ap length p, h .few); is = refl };
-        };
+        reads = reading.comps-start room store made place end 32;
+        few = h .few;
+        none = f;
+        passed = record { count = omega arith; mark-room = ap length m; pair-room = ap length p; marks = refl; pairs = refl };
         left = refl;
       }
 
-  module _ (marks : Seq Mark) (pairs : Seq Pair) (first : Bool) (i from : ℕ) (k : Composed room store made parts place end marks pairs first i from) where
+  module _ (marks : Seq Mark) (pairs : Seq Pair) (fault : Refusal) (first : Bool) (i from : ℕ) (k : Composed room store made parts place end marks pairs fault first i from) where
     -- no item is left
-    comps-done : items room end place from ≡ [] → Components room store made place end parts (record { count = i; first = first; marks = marks; pairs = pairs })
-    comps-done g =
+    comps-done : fault ≡ eachComponent room store made place end 32 → items room end place from ≡ []
+        → Components room store made place end parts (record { fault = fault; count = i; first = first; marks = marks; pairs = pairs })
+    comps-done f g =
         let p : Passed (componentAt room store made parts) (items room end place 0) [] [] marks pairs i i = rw g at (k .passed) in
         let n : i ≡ length (items room end place 0) = all-passed (componentAt room store made parts) (items room end place 0) [] marks pairs i i p in
         record {
-          listed = passed-listed (componentAt room store made parts) (items room end place 0) [] marks pairs i i p first;
-          pairs = rw (← n) (passed-pairs (componentAt room store made parts) (items room end place 0) [] marks pairs i i p);
-          first = sym (rw g at (k .left) ∙ either-none first);
+          fault = f;
+          gathers = λ _. record {
+            listed = passed-listed (componentAt room store made parts) (items room end place 0) [] marks pairs i i p fault first (omega (arith, n, k .few));
+            pairs = rw (← n) (passed-pairs (componentAt room store made parts) (items room end place 0) [] marks pairs i i p);
+            first = sym (rw g at (k .left) ∙ either-none first);
+          };
         }
 
-    pub comps-end : end ≤ from → Components room store made place end parts (record { count = i; first = first; marks = marks; pairs = pairs })
+    pub comps-end : end ≤ from → Components room store made place end parts (record { fault = fault; count = i; first = first; marks = marks; pairs = pairs })
     unfolding items
-    comps-end l = let d : end - from ≡ 0 = omega arith in comps-done (rw d)
+    comps-end l = let d : end - from ≡ 0 = omega arith in comps-done (reading.comps-end room store made place end 32 i from (k .reads) fault l (k .none)) (rw d)
 
     module _ (found : Found) (h : Finds from end (child room end place from) found) where
-      pub comps-none : found ≡ Nothing → Components room store made place end parts (record { count = i; first = first; marks = marks; pairs = pairs })
-      comps-none g = comps-done (items-end room end place from found h g)
+      pub comps-none : found ≡ Nothing → Components room store made place end parts (record { fault = fault; count = i; first = first; marks = marks; pairs = pairs })
+      comps-none g = comps-done (reading.comps-none room store made place end 32 i from (k .reads) fault found h g (k .none)) (items-end room end place from found h g)
 
       module _ (n : ℕ) (g : found ≡ At n) where
         pub comps-room : i < 64
-        comps-room = omega (arith, k .passed .count, k .passed .few, ap length (items-step room end place from n found h g))
+        comps-room = omega (arith, k .passed .count, k .few, ap length (items-step room end place from n found h g))
 
-        pub comps-on : (e : Entry) (first' : Bool) → e ≡ componentAt room store made parts n → first' ≡ either first (e .first)
-            → Composed room store made parts place end (set marks i (e .mark)) (set pairs i (e .pair)) first' (i + 1) (n + 1)
-        comps-on e first' d f =
-            let s : items room end place from ≡ n ∷ items room end place (n + 1) = items-step room end place from n found h g in
-            let rest = anyOf (λ m. componentAt room store made parts m .first) (items room end place (n + 1)) in
-            let p : Passed (componentAt room store made parts) (items room end place 0) (n ∷ items room end place (n + 1)) [] marks pairs i i = rw s at (k .passed) in
-            record {
-              high = omega (arith, found-below found end n (h .below) g);
-              passed = passed-on (componentAt room store made parts) (items room end place 0) [] marks pairs i i n (items room end place (n + 1)) e d p;
-              left = rw f (rw (s, ← d) at (k .left) ∙ either-both first (e .first) rest);
-            }
+        module _ (e : Entry) (d : e ≡ componentAt room store made parts n) where
+          fault-is : e .fault ≡ parsed.componentAt room store made n 32 .fault
+          unfolding componentEntry
+          fault-is = ap (λ (x : Entry). x .fault) d
+
+          pub comps-not : (r : Refusal) → (e .fault ≡ 0 → ⊥) → r ≡ told 4 (e .fault) i
+              → Components room store made place end parts (record { fault = r; count = i; first = first; marks = marks; pairs = pairs })
+          comps-not r z t =
+              record {
+                fault = reading.comps-not room store made place end 32 i from (k .reads) r found h n (parsed.componentAt room store made n 32) g refl (rw (← fault-is) z) (rw (← fault-is) t);
+                gathers = λ y. absurd (z (sym (ap (λ (x : Refusal). x .number) t) ∙ y));
+              }
+
+          pub comps-on : (first' : Bool) → e .fault ≡ 0 → first' ≡ either first (e .first)
+              → Composed room store made parts place end (set marks i (e .mark)) (set pairs i (e .pair)) fault first' (i + 1) (n + 1)
+          comps-on first' z f =
+              let s : items room end place from ≡ n ∷ items room end place (n + 1) = items-step room end place from n found h g in
+              let rest = anyOf (λ m. componentAt room store made parts m .first) (items room end place (n + 1)) in
+              let p : Passed (componentAt room store made parts) (items room end place 0) (n ∷ items room end place (n + 1)) [] marks pairs i i = rw s at (k .passed) in
+              record {
+                reads = reading.comps-on room store made place end 32 i from (k .reads) n found (parsed.componentAt room store made n 32) h g refl (sym fault-is ∙ z);
+                few = k .few;
+                none = k .none;
+                passed = passed-on (componentAt room store made parts) (items room end place 0) [] marks pairs i i n (items room end place (n + 1)) e comps-room (omega (arith, comps-room)) d p;
+                left = rw f (rw (s, ← d) at (k .left) ∙ either-both first (e .first) rest);
+              }
 
 -- ---- applications
 
-pub record Applied (room store : Seq ℕ) (made : ℕ) (parts : Seq (Seq ℕ)) (place end : ℕ) (c : Gathered) (behind : ℕ) (marks : Seq Mark) (pairs : Seq Pair) (after : Found) (i : ℕ) : Type 0 where
+pub record Applied (room store : Seq ℕ) (made : ℕ) (parts : Seq (Seq ℕ)) (place end : ℕ) (c : Gathered) (behind : ℕ) (marks : Seq Mark) (pairs : Seq Pair) (fault : Refusal) (after : Found) (i : ℕ) : Type 0 where
   pub is : behind ≡ c .count
   pub low : behind ≤ 64
+  pub high : i ≤ 64
+  pub reads : reading.Walking room store made 64 32 end place after fault i
   pub passed : Passed (applicationAt room store made parts) (walk room store end place 65 Nothing) (walk room store end place (65 - i) after) (take (c .count) (c .pairs)) marks pairs i (behind + i)
 
 pub key-stood : (room store : Seq ℕ) (made place end n : ℕ) (after found : Found) → Finds 0 end (next (slotAt room) store end place after) found → found ≡ At n → Rooms room made → end ≤ made → Stood room n
@@ -155,79 +175,82 @@ key-stood room store made place end n after found h g r l =
 
 module _ (room store : Seq ℕ) (made : ℕ) (parts : Seq (Seq ℕ)) (place end : ℕ) (c : Gathered) where
   -- an array in a struct is as long as its elements in the machine
-  pub apps-start : (count : ℕ) (marks : Seq Mark) {X : Type 0} (f : Pair → X) → Followed room store made place end count c → length (map f (c .pairs)) ≡ 128 → marks ≡ noMarks
-      → Applied room store made parts place end c (c .count) marks (c .pairs) Nothing 0
-  apps-start count marks f h w m =
+  pub apps-start : (count : ℕ) (marks : Seq Mark) (fault : Refusal) {X : Type 0} (f : Pair → X) → Followed room made end count c → length (map f (c .pairs)) ≡ 128 → marks ≡ noMarks → fault ≡ told 0 0 0
+      → Applied room store made parts place end c (c .count) marks (c .pairs) fault Nothing 0
+  apps-start count marks fault f h w m e =
       let z : c .count + 0 ≡ c .count = omega arith in
       record {
         is = refl;
         low = h .behind;
-        passed = record {
-          count = omega arith;
-          few = h .few;
-          marks = record { few = omega (arith, ap length m, h .few); is = refl };
-          pairs = record { few = omega (arith, w, length-map (c .pairs) f, h .few, h .behind); is = rw z };
-        };
+        high = omega arith;
+        reads = reading.apps-start room store made 64 32 end place fault e;
+        passed = record { count = omega arith; mark-room = ap length m; pair-room = sym (length-map (c .pairs) f) ∙ w; marks = refl; pairs = rw z };
       }
 
-  module _ (behind : ℕ) (marks : Seq Mark) (pairs : Seq Pair) (after : Found) (i : ℕ) (k : Applied room store made parts place end c behind marks pairs after i) where
-    pub apps-few : i ≤ 64
-    apps-few = omega (arith, k .passed .count, k .passed .few)
-
-    pub apps-end : 64 < i → Applications room store made place end parts c (record { count = i; first = c .first; marks = marks; pairs = pairs })
-    apps-end l = absurd (omega (arith, apps-few))
+  module _ (behind : ℕ) (marks : Seq Mark) (pairs : Seq Pair) (fault : Refusal) (after : Found) (i : ℕ) (k : Applied room store made parts place end c behind marks pairs fault after i) where
+    pub apps-end : 64 < i → Applications room store made place end parts c (record { fault = fault; count = i; first = c .first; marks = marks; pairs = pairs })
+    apps-end l = absurd (omega (arith, k .high))
 
     module _ (found : Found) (h : Finds 0 end (next (slotAt room) store end place after) found) where
-      pub apps-none : found ≡ Nothing → Applications room store made place end parts c (record { count = i; first = c .first; marks = marks; pairs = pairs })
+      pub apps-none : found ≡ Nothing → Applications room store made place end parts c (record { fault = fault; count = i; first = c .first; marks = marks; pairs = pairs })
       apps-none g =
-          let d : 65 - i ≡ suc (64 - i) = omega (arith, apps-few) in
+          let d : 65 - i ≡ suc (64 - i) = omega (arith, k .high) in
           let e : next (slotAt room) store end place after ≡ Nothing = sym (h .is) ∙ g in
           let p : Passed (applicationAt room store made parts) (walk room store end place 65 Nothing) [] (take (c .count) (c .pairs)) marks pairs i (behind + i) = rw (d, e) at (k .passed) in
           let n : i ≡ length (walk room store end place 65 Nothing)
           = all-passed (applicationAt room store made parts) (walk room store end place 65 Nothing) (take (c .count) (c .pairs)) marks pairs i (behind + i) p in
           record {
-            listed = passed-listed (applicationAt room store made parts) (walk room store end place 65 Nothing) (take (c .count) (c .pairs)) marks pairs i (behind + i) p (c .first);
-            pairs = rw (← n, ← (k .is)) (rw (← (k .is)) at (passed-pairs (applicationAt room store made parts) (walk room store end place 65 Nothing) (take (c .count) (c .pairs)) marks pairs i (behind + i) p));
+            fault = reading.apps-none room store made 64 32 (record { fault = 0; place = place; end = end }) after fault i (k .reads) found (k .high) h g;
+            gathers = λ _. record {
+              listed = passed-listed (applicationAt room store made parts) (walk room store end place 65 Nothing) (take (c .count) (c .pairs)) marks pairs i (behind + i) p fault (c .first) (k .high);
+              pairs = rw (← n, ← (k .is)) (rw (← (k .is)) at (passed-pairs (applicationAt room store made parts) (walk room store end place 65 Nothing) (take (c .count) (c .pairs)) marks pairs i (behind + i) p));
+            };
           }
 
       module _ (n : ℕ) (g : found ≡ At n) where
-        onward : walk room store end place (65 - i) after ≡ n ∷ walk room store end place (65 - (i + 1)) (At n)
-        onward =
-            let d : 65 - i ≡ suc (65 - (i + 1)) = omega (arith, apps-few) in
-            let e : next (slotAt room) store end place after ≡ At n = sym (h .is) ∙ g in
-            rw (d, e)
-
-        pub apps-room : i < 64
-        apps-room = omega (arith, k .passed .count, k .passed .few, ap length onward)
-
-        pub apps-behind : behind + i < 128
-        apps-behind = omega (arith, apps-room, k .low)
-
-        pub apps-on : (e : Entry) → e ≡ applicationAt room store made parts n → Applied room store made parts place end c behind (set marks i (e .mark)) (set pairs (behind + i) (e .pair)) (At n) (i + 1)
-        apps-on e d =
-            let p : Passed (applicationAt room store made parts) (walk room store end place 65 Nothing) (n ∷ walk room store end place (65 - (i + 1)) (At n)) (take (c .count) (c .pairs)) marks pairs i (behind + i)
-            = rw onward at (k .passed) in
-            let z : behind + (i + 1) ≡ behind + i + 1 = omega arith in
+        -- one more than there may be
+        pub apps-many : (r : Refusal) → 64 ≤ i → r ≡ told 5 25 64 → Applications room store made place end parts c (record { fault = r; count = i; first = c .first; marks = marks; pairs = pairs })
+        apps-many r l t =
+            let w = reading.apps-on room store made 64 32 end place after fault i (k .reads) (k .high) found h n g (earlier fault (applicationFault room store made 32 i n)) refl in
             record {
-              is = k .is;
-              low = k .low;
-              passed = rw z (passed-on (applicationAt room store made parts) (walk room store end place 65 Nothing) (take (c .count) (c .pairs)) marks pairs i (behind + i) n (walk room store end place (65 - (i + 1)) (At n)) e d p);
+              fault = reading.apps-many room store made 64 32 (record { fault = 0; place = place; end = end }) (At n) (earlier fault (applicationFault room store made 32 i n)) (i + 1) w r (omega arith) t;
+              gathers = λ y. let z : _≡_ {A = ℕ} 25 0 = sym (ap (λ (x : Refusal). x .number) t) ∙ y in absurd (omega arith);
             }
 
--- ---- of a preset
+        module _ (l : i < 64) where
+          onward : walk room store end place (65 - i) after ≡ n ∷ walk room store end place (65 - (i + 1)) (At n)
+          onward =
+              let d : 65 - i ≡ suc (65 - (i + 1)) = omega arith in
+              let e : next (slotAt room) store end place after ≡ At n = sym (h .is) ∙ g in
+              rw (d, e)
 
-module _ (room store : Seq ℕ) (made count : ℕ) (l : List) (h : Ready room store made count) where
-  pub components-counted : l ≡ componentList room store made → Counted room made (l .place) (l .end) count
-  components-counted e =
-      record { rooms = h .rooms; within = components-among room store made l (h .rooms) e .end; parts = h .parts; few = rw e (h .components) }
+          pub apps-behind : behind + i < 128
+          apps-behind = omega (arith, k .low)
 
-  pub applications-followed : (c : Gathered) → l ≡ applicationList room store made → Few c → Followed room store made (l .place) (l .end) count c
-  applications-followed c e f =
-      record { rooms = h .rooms; within = applications-among room store made l (h .rooms) e .end; parts = h .parts; few = rw e (h .applications); behind = f .few }
+          pub apps-on : (e : Entry) (r : Refusal) → e ≡ applicationAt room store made parts n → r ≡ earlier fault (faultAt 5 (e .fault) i)
+              → Applied room store made parts place end c behind (set marks i (e .mark)) (set pairs (behind + i) (e .pair)) r (At n) (i + 1)
+          unfolding applicationEntry
+          apps-on e r d f =
+              let p : Passed (applicationAt room store made parts) (walk room store end place 65 Nothing) (n ∷ walk room store end place (65 - (i + 1)) (At n)) (take (c .count) (c .pairs)) marks pairs i (behind + i)
+              = rw onward at (k .passed) in
+              let z : behind + (i + 1) ≡ behind + i + 1 = omega arith in
+              let q : e .fault ≡ parsed.applicationAt room store made n 32 .fault = ap (λ (x : Entry). x .fault) d in
+              record {
+                is = k .is;
+                low = k .low;
+                high = omega arith;
+                reads = reading.apps-on room store made 64 32 end place after fault i (k .reads) (k .high) found h n g r (rw (← q) f);
+                passed = rw z (passed-on (applicationAt room store made parts) (walk room store end place 65 Nothing) (take (c .count) (c .pairs)) marks pairs i (behind + i) n (walk room store end place (65 - (i + 1)) (At n)) e l apps-behind d p);
+              }
 
-module _ (room store : Seq ℕ) (made : ℕ) (parts : Seq (Seq ℕ)) (l : List) (r : Gathered) where
-  pub components-all : l ≡ componentList room store made → Components room store made (l .place) (l .end) parts r → AllComponents room store made parts r
-  components-all e h = rw e at h
+-- ---- the first fault
 
-  pub applications-all : (c : Gathered) → l ≡ applicationList room store made → Applications room store made (l .place) (l .end) parts c r → AllApplications room store made parts c r
-  applications-all c e h = rw e at h
+module _ (fault r : Refusal) (section number place : ℕ) where
+  pub fault-so-far : (fault .number ≡ 0 → ⊥) → fault ≡ earlier fault (faultAt section number place)
+  fault-so-far z = rw (ne-eqb (fault .number) 0 z)
+
+  pub fault-here : fault .number ≡ 0 → (number ≡ 0 → ⊥) → r ≡ told section number place → r ≡ earlier fault (faultAt section number place)
+  fault-here z w e = rw (eq-eqb (fault .number) 0 z, ne-eqb number 0 w) e
+
+  pub fault-none : fault .number ≡ 0 → number ≡ 0 → r ≡ told 0 0 0 → r ≡ earlier fault (faultAt section number place)
+  fault-none z w e = rw (eq-eqb (fault .number) 0 z, eq-eqb number 0 w) e

@@ -1,20 +1,23 @@
 -- The groups of rules in 01's order, and validation: one law for each way out.
 use Prim.Native.Nat.{ℕ, zero, suc, _+_, _-_, _≤_, _<_}
 use mathlib.Core.Bool.{Bool, true, false}
-use mathlib.Core.List.{List as Seq, [], _∷_, _++_, map}
-use mathlib.Core.Path.{_≡_, refl, ap, _∙_}
+use mathlib.Core.List.{List as Seq, [], _∷_, map}
+use mathlib.Core.Path.{_≡_, refl, sym, ap, _∙_}
 use native.Mathlib.Omega.{arith}
-use borrow.Author.Tests.{eq-eqb, ne-eqb, lt-ltb, le-ltb}
+use borrow.Author.Tests.{eq-eqb, ne-eqb, eqb-true, lt-ltb, le-ltb, ltb-true, ltb-false}
+use lib.Dec.{eqb, ltb}
 use lib.ListN.{length, take, replicate}
 use lib.Seq.{take-append-seam}
 use Rattle.meaning.specs.Base.{nil?}
-use Rattle.meaning.specs.declared.Limits.{Limits}
 use Rattle.meaning.specs.Limits.{of01}
 use Rattle.meaning.specs.Refusal.{accepted}
+use Rattle.meaning.specs.Fields.{each, listed}
 use Rattle.meaning.specs.Layout as meant
 use Rattle.laws.specs.Cases.{on}
 use Rattle.tree.specs.declared.Fields.{Fields}
+use Rattle.tree.specs.Room.{Counts}
 use Rattle.tree.specs.Doors.{Rooms, fieldsOf}
+use Rattle.tree.specs.Spans.{items-count}
 use Rattle.schema.specs.declared.Chip.{Chip}
 use Rattle.schema.specs.declared.Text.{Text}
 use Rattle.schema.specs.declared.Partition.{Partition}
@@ -24,17 +27,21 @@ use Rattle.parse.specs.declared.Outcome.{Outcome}
 use Rattle.parse.specs.declared.entry.List.{List}
 use Rattle.parse.specs.declared.entry.Partitions.{Partitions}
 use Rattle.parse.specs.declared.front.Front.{Front}
-use Rattle.meaning.specs.Fields.{each, listed}
-use Rattle.parse.specs.Entries.{told, blank, Partitioned, partitions, partitionAt}
+use Rattle.parse.specs.Refusals.{inSection, earlier}
+use Rattle.parse.specs.Entries as entries
+use Rattle.parse.specs.Entries.{told, refusalOf, blank, Partitioned, partitions, partitionAt}
+use Rattle.parse.specs.Answers.{earlier-two, earlier-clear}
 use Rattle.parse.specs.Whole as whole
-use Rattle.parse.specs.Whole.{reader}
-use Rattle.parse.specs.Given as given
+use Rattle.parse.specs.Whole.{reader, listed-few, listed-clear}
+use Rattle.parse.specs.Given.{partitioned-fault}
 use Rattle.parse.specs.Front.{frontRead}
+use Rattle.parse.specs.Refused as refused
 use Rattle.parse.specs.Refused.{lentText, partitionNumbers}
-use Rattle.parse.specs.Views.{partitionList}
-use Rattle.parse.proofs.Judging.{verdict-settles}
+use Rattle.parse.specs.Views.{partitionList, componentList, applicationList}
 use Rattle.parse.specs.Verdict as verdicts
 use Rattle.parse.specs.Verdict.{Kept, Settling}
+use Rattle.parse.proofs.Entering.{comps-many, comps-few}
+use Rattle.parse.proofs.Judging.{components-among, applications-among, partitions-judged, components-judged, applications-judged, verdict-settles}
 use Rattle.layout.specs.declared.Fault.{Fault}
 use Rattle.layout.specs.declared.Mark.{Mark}
 use Rattle.layout.specs.Marks.{firstHit, faultOf, judged, Marked}
@@ -44,11 +51,27 @@ use Rattle.validate.specs.declared.gather.Gathered.{Gathered}
 use Rattle.validate.specs.Clashes.{clash}
 use Rattle.validate.specs.Fronts as fronts
 use Rattle.validate.specs.FrontSaid.{front-plain}
-use Rattle.validate.specs.Gathered.{applications, Few, Ready, AllComponents, AllApplications}
+use Rattle.validate.specs.Gathered.{components, applications, Few, Counted, Gathers, Components, Followed, Follows, Applications}
 use Rattle.validate.specs.Faults as faults
-use Rattle.validate.specs.Faults.{inEntry, componentsFault, applicationsFault, bootFault, clashFault, usesFault, behindFault, listsFault, layoutFault, Using, Clear}
+use Rattle.validate.specs.Faults.{
+  inEntry,
+  lengthFault,
+  componentsFault,
+  applicationsFault,
+  bootFault,
+  clashFault,
+  usesFault,
+  gatheredFault,
+  behindFault,
+  listsFault,
+  layoutFault,
+  applicationsJudged,
+  componentsJudged,
+  partitionsJudged,
+  Using,
+}
 use Rattle.validate.specs.Validated.{validating, Told}
-use Rattle.validate.proofs.Placing.{rules-settle}
+use Rattle.validate.proofs.Placing.{rules-low}
 
 -- ---- one group
 
@@ -100,140 +123,204 @@ module _ (room store : Seq ℕ) (made cs apps at : ℕ) (pairs : Seq Pair) (r : 
   unfolding clashFault
   clash-none h k q = rw (← e, le-ltb at cs h, le-ltb at (cs + apps) k) q
 
--- ---- 60 to 70
+-- ---- 60 to 70, of what was gathered
 
-module _ (room store : Seq ℕ) (made : ℕ) (parts : Seq (Seq ℕ)) (c a : Gathered) (g : AllApplications room store made parts c a) where
-  pub uses-fit : (count : ℕ) → Ready room store made count → Few c → Using room made (c .count) (a .count)
-  uses-fit count h k = record { rooms = h .rooms; components = k .few; applications = omega (arith, g .listed .count, g .listed .few) }
+module _ (room store : Seq ℕ) (made cs : ℕ) (first : Bool) (a : Gathered) (b : Refusal) (eb : b ≡ usesFault room store made cs (a .count) (a .pairs)) where
+  pub behind-uses : (b .number ≡ 0 → ⊥) → b ≡ gatheredFault room store made cs first a
+  unfolding gatheredFault
+  behind-uses z = rw (← eb, ne-eqb (b .number) 0 z)
 
-  pub applications-fit : a .count ≤ 64
-  applications-fit = omega (arith, g .listed .count, g .listed .few)
+  module _ (zb : b .number ≡ 0) (d : Refusal) (ed : d ≡ applicationsFault store (take (a .count) (a .marks))) where
+    pub behind-applications : (d .number ≡ 0 → ⊥) → d ≡ gatheredFault room store made cs first a
+    unfolding gatheredFault
+    behind-applications z = rw (← eb, eq-eqb (b .number) 0 zb, ← ed, ne-eqb (d .number) 0 z)
 
-  module _ (b : Refusal) (eb : b ≡ usesFault room store made (c .count) (a .count) (a .pairs)) where
-    uses-are : b ≡ clashFault (c .count) (c .count + length (applications room store made)) (firstHit (clash room store made) [] (take (c .count) (c .pairs) ++ faults.applicationPairs room store made parts))
-    uses-are = eb ∙ rw (g .listed .count, g .pairs)
+    pub behind-first : d .number ≡ 0 → (r : Refusal) → r ≡ bootFault first → r ≡ gatheredFault room store made cs first a
+    unfolding gatheredFault
+    behind-first z r e = rw (← eb, eq-eqb (b .number) 0 zb, ← ed, eq-eqb (d .number) 0 z) e
 
-    pub behind-uses : (b .number ≡ 0 → ⊥) → b ≡ behindFault room store made parts (c .count) (take (c .count) (c .pairs)) (c .first)
-    unfolding behindFault
-    behind-uses z = rw (← uses-are, ne-eqb (b .number) 0 z)
+-- ---- the applications
 
-    module _ (zb : b .number ≡ 0) (d : Refusal) (ed : d ≡ applicationsFault store (take (a .count) (a .marks))) where
-      applications-are : d ≡ applicationsFault store (faults.applicationMarks room store made parts)
-      applications-are = ed ∙ rw (g .listed .count, g .listed .marks)
+module _ (room store : Seq ℕ) (made : ℕ) (l : List) (el : l ≡ applicationList room store made) where
+  pub applications-followed : (count : ℕ) (c : Gathered) → Rooms room made → count ≤ 32 → Few c → Followed room made (l .end) count c
+  applications-followed count c h k f = record { rooms = h; within = applications-among room store made l h el .end; parts = k; behind = f .few }
 
-      pub behind-applications : (d .number ≡ 0 → ⊥) → d ≡ behindFault room store made parts (c .count) (take (c .count) (c .pairs)) (c .first)
-      unfolding behindFault
-      behind-applications z = rw (← uses-are, eq-eqb (b .number) 0 zb, ← applications-are, ne-eqb (d .number) 0 z)
+  module _ (parts : Seq (Seq ℕ)) (c a : Gathered) (g : Applications room store made (l .place) (l .end) parts c a) (s b : Refusal) (es : s ≡ inSection 5 (l .fault)) (eb : b ≡ earlier s (a .fault)) where
+    applications-are : b ≡ verdicts.applicationFault room store made of01
+    applications-are = applications-judged room store made of01 l (a .fault) s b el (g .fault) es eb
 
-      pub behind-first : d .number ≡ 0 → (r : Refusal) → r ≡ bootFault (c .first) → r ≡ behindFault room store made parts (c .count) (take (c .count) (c .pairs)) (c .first)
-      unfolding behindFault
-      behind-first z r e = rw (← uses-are, eq-eqb (b .number) 0 zb, ← applications-are, eq-eqb (d .number) 0 z) e
+    pub applications-refused : (rules : Refusal) → (b .number ≡ 0 → ⊥) → b ≡ applicationsJudged room store made parts rules (c .count) (take (c .count) (c .pairs)) (c .first)
+    unfolding applicationsJudged
+    applications-refused rules z = rw (← applications-are, ne-eqb (b .number) 0 z)
 
--- ---- 50 to 70
+    module _ (z : b .number ≡ 0) where
+      pub rules-refused : (rules : Refusal) → (rules .number ≡ 0 → ⊥) → rules ≡ applicationsJudged room store made parts rules (c .count) (take (c .count) (c .pairs)) (c .first)
+      unfolding applicationsJudged
+      rules-refused rules y = rw (← applications-are, eq-eqb (b .number) 0 z, ne-eqb (rules .number) 0 y)
 
-module _ (room store : Seq ℕ) (made : ℕ) (parts : Seq (Seq ℕ)) (c : Gathered) (g : AllComponents room store made parts c) where
-  pub components-fit : c .count ≤ 64
-  components-fit = omega (arith, g .listed .count, g .listed .few)
+      follows : Follows room store made parts (applications room store made) c a
+      follows = rw el at (g .gathers (earlier-clear s (a .fault) (rw (← eb) z) .1))
 
-  pub components-few : Few c
-  components-few = record { few = components-fit }
+      pub uses-fit : Rooms room made → Few c → Using room made (c .count) (a .count)
+      uses-fit h k = record { rooms = h; components = k .few; applications = omega (arith, follows .listed .count, follows .listed .few) }
 
-  module _ (a : Refusal) (ea : a ≡ componentsFault store (take (c .count) (c .marks))) where
-    components-are : a ≡ componentsFault store (faults.componentMarks room store made parts)
-    components-are = ea ∙ rw (g .listed .count, g .listed .marks)
+      pub applications-passed : (rules r : Refusal) → rules .number ≡ 0 → r ≡ gatheredFault room store made (c .count) (c .first) a
+          → r ≡ applicationsJudged room store made parts rules (c .count) (take (c .count) (c .pairs)) (c .first)
+      unfolding applicationsJudged gatheredFault behindFault
+      applications-passed rules r y e =
+          rw (← applications-are, eq-eqb (b .number) 0 z, eq-eqb (rules .number) 0 y) (rw (follows .listed .count, follows .listed .marks, follows .pairs) at e)
 
-    pub lists-components : (a .number ≡ 0 → ⊥) → a ≡ listsFault room store made parts
-    unfolding listsFault
-    lists-components z = rw (← components-are, ne-eqb (a .number) 0 z)
+-- ---- the components
 
-    pub lists-behind : a .number ≡ 0 → (r : Refusal) → r ≡ behindFault room store made parts (c .count) (take (c .count) (c .pairs)) (c .first) → r ≡ listsFault room store made parts
-    unfolding listsFault
-    lists-behind z r e = rw (← components-are, eq-eqb (a .number) 0 z) (e ∙ rw (g .listed .count, g .pairs, g .first))
+module _ (section n : ℕ) (r : Refusal) where
+  pub length-many : 64 < n → r ≡ told section 25 64 → r ≡ lengthFault section n
+  unfolding lengthFault
+  length-many h e = rw (lt-ltb 64 n h) e
 
--- ---- 40 to 70
+  pub length-few : n ≤ 64 → r ≡ told 0 0 0 → r ≡ lengthFault section n
+  unfolding lengthFault
+  length-few h e = rw (le-ltb 64 n h) e
+
+module _ (room store : Seq ℕ) (made : ℕ) (l : List) (el : l ≡ componentList room store made) (n : ℕ) (hn : Counts room (l .end) (l .place) n)
+    (s m a : Refusal) (es : s ≡ inSection 4 (l .fault)) (em : m ≡ lengthFault 4 n) (ea : a ≡ earlier s m) where
+  list-are : (a .number ≡ 0 → ⊥) → a ≡ verdicts.componentFault room store made of01
+  unfolding lengthFault
+  list-are z =
+      on (ltb 64 n)
+      (λ f. components-judged room store made of01 l m s a el (comps-many room store made n l hn 64 32 m (ltb-true 64 n f) (em ∙ rw f)) es ea)
+      (λ f.
+      let w : m ≡ told 0 0 0 = em ∙ rw f in
+      on (eqb (s .number) 0)
+      (λ e. let y : a ≡ told 0 0 0 = ea ∙ rw e w in absurd (z (ap (λ (x : Refusal). x .number) y)))
+      (λ e. components-judged room store made of01 l (entries.components room store made l 64 32) s a el refl es (ea ∙ rw e)))
+
+  pub list-refused : (parts : Seq (Seq ℕ)) (rules : Refusal) → (a .number ≡ 0 → ⊥) → a ≡ componentsJudged room store made parts rules
+  unfolding componentsJudged
+  list-refused parts rules z = rw (← list-are z, ne-eqb (a .number) 0 z)
+
+  module _ (z : a .number ≡ 0) where
+    few : n ≤ 64
+    unfolding lengthFault
+    few =
+        let y : m .number ≡ 0 = earlier-clear s m (rw (← ea) z) .1 in
+        on (ltb 64 n) (λ f. let x : _≡_ {A = ℕ} 25 0 = rw (em, f) at y in absurd (omega arith)) (λ f. ltb-false 64 n f)
+
+    pub components-counted : (count : ℕ) → Rooms room made → count ≤ 32 → Counted room made (l .place) (l .end) count
+    components-counted count h k =
+        record { rooms = h; within = components-among room store made l h el .end; parts = k; few = omega (arith, few, items-count room (l .end) (l .place), hn .is) }
+
+    module _ (parts : Seq (Seq ℕ)) (c : Gathered) (g : Components room store made (l .place) (l .end) parts c) where
+      components-are : c .fault ≡ verdicts.componentFault room store made of01
+      components-are =
+          components-judged room store made of01 l (c .fault) s (c .fault) el (comps-few room store made n l hn 64 32 (c .fault) few (g .fault)) es
+          (rw (eq-eqb (s .number) 0 (earlier-clear s m (rw (← ea) z) .0)))
+
+      pub components-refused : (rules : Refusal) → (c .fault .number ≡ 0 → ⊥) → c .fault ≡ componentsJudged room store made parts rules
+      unfolding componentsJudged
+      components-refused rules y = rw (← components-are, ne-eqb (c .fault .number) 0 y)
+
+      module _ (y : c .fault .number ≡ 0) where
+        gathers : Gathers room store made parts (components room store made) c
+        gathers = rw el at (g .gathers y)
+
+        pub components-fit : c .count ≤ 64
+        components-fit = omega (arith, gathers .listed .count, gathers .listed .few)
+
+        pub components-few : Few c
+        components-few = record { few = components-fit }
+
+        pub components-passed : (rules own f r : Refusal) → f ≡ componentsFault store (take (c .count) (c .marks)) → own ≡ earlier rules f
+            → r ≡ applicationsJudged room store made parts own (c .count) (take (c .count) (c .pairs)) (c .first) → r ≡ componentsJudged room store made parts rules
+        unfolding componentsJudged applicationsJudged listsFault
+        components-passed rules own f r ef eo er =
+            let behind = behindFault room store made parts (c .count) (take (c .count) (c .pairs)) (c .first) in
+            let e : earlier own behind ≡ earlier rules (earlier f behind) = rw eo (sym (earlier-two rules f behind)) in
+            let d : earlier f behind ≡ listsFault room store made parts = rw (ef, gathers .listed .count, gathers .listed .marks, gathers .pairs, gathers .first) in
+            rw (← components-are, eq-eqb (c .fault .number) 0 y) (rw (e, d) at er)
+
+-- ---- the partitions
 
 -- where no entry has a fault a list is what its numbers give
 each-fine : {Y : Type 0} (fault : ℕ → ℕ) (given : ℕ → Y) (section : ℕ) (ns : Seq ℕ) (i : ℕ) → whole.Clear fault ns → each (reader fault given section) section i ns ≡ accepted (map given ns)
 each-fine fault given section [] i c = refl
 each-fine fault given section (n ∷ ns) i c = rw (c .0, each-fine fault given section ns (i + 1) (c .1))
 
+listed-fine : {Y : Type 0} (fault : ℕ → ℕ) (given : ℕ → Y) (section : ℕ) (ns : Seq ℕ) (limit : ℕ) → refusalOf (listed (reader fault given section) section limit ns) .number ≡ 0
+    → listed (reader fault given section) section limit ns ≡ accepted (map given ns)
+unfolding listed
+listed-fine fault given section ns limit z =
+    rw (le-ltb limit (length ns) (listed-few fault given section ns limit z)) (each-fine fault given section ns 0 (listed-clear fault given section ns limit z))
+
 module _ (room store : Seq ℕ) (made : ℕ) where
   abbrev partitionsRead : Seq Partition
   partitionsRead = map (λ n. partitionAt room store made n .partition) (partitionNumbers room store made (fieldsOf room made 1))
 
-  -- the partitions that were read, at the head of their array
-  pub record Taken (items : Seq Partition) (count : ℕ) : Type 0 where
-    pub fits : count ≤ 32
-    pub are : take count items ≡ partitionsRead
+  module _ (l : List) (p : Partitions) (s b : Refusal) (el : l ≡ partitionList room store made) (q : Partitioned (partitions room store made l 32) p) (es : s ≡ inSection 3 (l .fault)) (eb : b ≡ earlier s (p .fault)) where
+    partitions-are : b ≡ verdicts.partitionFault room store made of01
+    partitions-are = partitions-judged room store made of01 l p s b el q es eb
 
-  module _ (name : Seq ℕ) (h : Clear room store made name) where
-    partitions-fine : partitions room store made (partitionList room store made) 32 ≡ accepted partitionsRead
-    unfolding listed
-    partitions-fine =
-        let k = given.partitions-few room store made (fieldsOf room made 1) of01 (lentText name) (h .clear) in
-        let c = given.partitions-clear room store made (fieldsOf room made 1) of01 (lentText name) (h .clear) in
-        rw (le-ltb 32 (length (partitionNumbers room store made (fieldsOf room made 1))) k)
-        (each-fine (λ n. partitionAt room store made n .fault) (λ n. partitionAt room store made n .partition) 3 (partitionNumbers room store made (fieldsOf room made 1)) 0 c)
+    pub partitions-refused : (chip : Chip) (rules : Refusal) → (b .number ≡ 0 → ⊥) → b ≡ partitionsJudged room store made chip rules
+    unfolding partitionsJudged
+    partitions-refused chip rules z = rw (← partitions-are, ne-eqb (b .number) 0 z)
 
-    pub parts-taken : (l : List) (p : Partitions) → l ≡ partitionList room store made → Partitioned (partitions room store made l 32) p → Taken (p .items) (p .count)
-    parts-taken l p e q =
-        let t : Partitioned (accepted partitionsRead) p = rw (e, partitions-fine) at q in
-        record { fits = omega (arith, t .1, t .2); are = rw (t .1, t .3) (take-append-seam partitionsRead (replicate (32 - length partitionsRead) blank)) }
+    module _ (z : b .number ≡ 0) where
+      parts-given : Partitioned (accepted partitionsRead) p
+      parts-given =
+          let y : p .fault .number ≡ 0 = earlier-clear s (p .fault) (rw (← eb) z) .1 in
+          let w : refusalOf (partitions room store made (partitionList room store made) 32) .number ≡ 0 = rw (partitioned-fault (partitions room store made l 32) p q, el) at y in
+          let e : partitions room store made (partitionList room store made) 32 ≡ accepted partitionsRead
+          = listed-fine (λ n. partitionAt room store made n .fault) (λ n. partitionAt room store made n .partition) 3 (partitionNumbers room store made (fieldsOf room made 1)) 32 w in
+          rw (el, e) at q
 
-    module _ (l : List) (p : Partitions) (e : l ≡ partitionList room store made) (q : Partitioned (partitions room store made l 32) p) where
       pub parts-fit : p .count ≤ 32
-      parts-fit = parts-taken l p e q .fits
+      parts-fit = omega (arith, parts-given .1, parts-given .2)
 
-      pub parts-ready : Ready room store made (p .count)
-      parts-ready =
-          record {
-            rooms = h .rooms;
-            parts = parts-fit;
-            components = given.components-few room store made (fieldsOf room made 1) of01 (lentText name) (h .clear);
-            applications = given.applications-few room store made (fieldsOf room made 1) of01 (lentText name) (h .clear);
-          }
+      parts-are : take (p .count) (p .items) ≡ partitionsRead
+      parts-are = rw (parts-given .1, parts-given .3) (take-append-seam partitionsRead (replicate (32 - length partitionsRead) blank))
 
-      module _ (chip : Chip) (f : Fault) (a : Refusal) (ef : f ≡ faultOf (meant.layout (chipMeant chip) (map (partMeant store) (take (p .count) (p .items))))) (ea : a ≡ inEntry 3 f) where
-        layout-are : a ≡ inEntry 3 (faultOf (meant.layout (chipMeant chip) (map (partMeant store) partitionsRead)))
-        layout-are = ea ∙ ap (inEntry 3) (ef ∙ rw (parts-taken l p e q .are))
-
-        pub layout-refused : (a .number ≡ 0 → ⊥) → a ≡ layoutFault room store made chip
-        unfolding layoutFault
-        layout-refused z = rw (← layout-are, ne-eqb (a .number) 0 z)
-
-        pub layout-passed : a .number ≡ 0 → (r : Refusal) → r ≡ listsFault room store made (map (partName store) (take (p .count) (p .items))) → r ≡ layoutFault room store made chip
-        unfolding layoutFault
-        layout-passed z r er = rw (← layout-are, eq-eqb (a .number) 0 z, ← parts-taken l p e q .are) er
-
--- ---- 30 to 70
-
-module _ (room store : Seq ℕ) (made : ℕ) (name : Seq ℕ) (root : Fields) (lent : Text) (f : Front) (er : root ≡ fieldsOf room made 1) (el : lent ≡ lentText name) (ef : f ≡ frontRead room store made root lent) where
-  front-is : f ≡ frontRead room store made (fieldsOf room made 1) (lentText name)
-  front-is = ef ∙ rw (er, el)
-
-  pub front-fronted : fronts.Fronted (f .board) (f .image)
-  front-fronted = rw ef (front-plain room store made root lent)
-
-  module _ (a : Refusal) (ea : a ≡ fronts.ruled store name (f .board) (f .image)) where
-    pub front-refused : (a .number ≡ 0 → ⊥) → a ≡ faults.verdict room store made name
-    unfolding faults.verdict
-    front-refused z = rw (← front-is, ← ea, ne-eqb (a .number) 0 z)
-
-    pub front-passed : a .number ≡ 0 → (r : Refusal) → r ≡ layoutFault room store made (f .board .chip) → r ≡ faults.verdict room store made name
-    unfolding faults.verdict
-    front-passed z r e = rw (← front-is, ← ea, eq-eqb (a .number) 0 z) e
+      pub partitions-passed : (chip : Chip) (f : Fault) (rules own a r : Refusal) → f ≡ faultOf (meant.layout (chipMeant chip) (map (partMeant store) (take (p .count) (p .items))))
+          → a ≡ inEntry 3 f → own ≡ earlier rules a → r ≡ componentsJudged room store made (map (partName store) (take (p .count) (p .items))) own → r ≡ partitionsJudged room store made chip rules
+      unfolding partitionsJudged componentsJudged layoutFault
+      partitions-passed chip f rules own a r ef ea eo er =
+          let lists = listsFault room store made (map (partName store) partitionsRead) in
+          let e : earlier own lists ≡ earlier rules (earlier a lists) = rw eo (sym (earlier-two rules a lists)) in
+          let d : a ≡ inEntry 3 (faultOf (meant.layout (chipMeant chip) (map (partMeant store) partitionsRead))) = ea ∙ ap (inEntry 3) (ef ∙ rw parts-are) in
+          rw (← partitions-are, eq-eqb (b .number) 0 z, ← d) (rw (parts-are, e) at er)
 
 -- ---- validation
 
-module _ (name store tree : Seq ℕ) (made : ℕ) (lim : Limits) (v : Refusal) (h : Rooms tree made) (el : lim ≡ of01) (ev : v ≡ verdicts.verdict tree store made name lim) where
-  pub reading-told : (v .number ≡ 0 → ⊥) → Told (validating name tree store made) v
-  reading-told z = record { is = rw (← el, ← ev, ne-eqb (v .number) 0 z); low = verdict-settles name store tree made lim v el ev h .place }
+module _ (name store tree : Seq ℕ) (made : ℕ) (h : Rooms tree made) where
+  low : validating name tree store made .place ≤ 70000
+  low =
+      let v = verdicts.verdict tree store made name of01 in
+      on (eqb (v .number) 0)
+      (λ e. rw e (rules-low tree store made name (eqb-true (v .number) 0 e)))
+      (λ e. rw e (verdict-settles name store tree made of01 v refl refl h .place))
 
-  pub reading-clear : v .number ≡ 0 → Clear tree store made name
-  reading-clear z = record { rooms = h; clear = rw (← el, ← ev) z }
+  told-is : (r : Refusal) → r ≡ validating name tree store made → Told (validating name tree store made) r
+  told-is r e = record { is = e; low = rw e low }
 
-  pub rules-told : v .number ≡ 0 → (w : Refusal) → w ≡ faults.verdict tree store made name → Told (validating name tree store made) w
-  rules-told z w ew = record { is = rw (← el, ← ev, eq-eqb (v .number) 0 z) ew; low = rules-settle tree store made name (reading-clear z) w ew .place }
+  module _ (root : Fields) (lent : Text) (f : Front) (er : root ≡ fieldsOf tree made 1) (el : lent ≡ lentText name) (ef : f ≡ frontRead tree store made root lent) where
+    front-is : f ≡ frontRead tree store made (fieldsOf tree made 1) (lentText name)
+    front-is = ef ∙ rw (er, el)
+
+    pub front-fronted : fronts.Fronted (f .board) (f .image)
+    front-fronted = rw ef (front-plain tree store made root lent)
+
+    pub front-told : (f .fault .number ≡ 0 → ⊥) → Told (validating name tree store made) (f .fault)
+    unfolding refused.verdict
+    front-told z = told-is (f .fault) (rw (← front-is, ne-eqb (f .fault .number) 0 z, ne-eqb (f .fault .number) 0 z))
+
+    pub all-told : f .fault .number ≡ 0 → (rules r : Refusal) → rules ≡ fronts.ruled store name (f .board) (f .image) → r ≡ partitionsJudged tree store made (f .board .chip) rules
+        → Told (validating name tree store made) r
+    unfolding refused.verdict faults.verdict partitionsJudged
+    all-told z rules r e er =
+        let p = verdicts.partitionFault tree store made of01 in
+        let c = verdicts.componentFault tree store made of01 in
+        let a = verdicts.applicationFault tree store made of01 in
+        let v = earlier rules (layoutFault tree store made (f .board .chip)) in
+        let d : r ≡ earlier (earlier p (earlier c a)) v = er ∙ ap (earlier p) (earlier-two c a v) ∙ earlier-two p (earlier c a) v in
+        told-is r (rw (← front-is, eq-eqb (f .fault .number) 0 z, ← e) d)
 
 module _ (name store tree : Seq ℕ) (made : ℕ) (v : Refusal) (t : Told (validating name tree store made) v) where
   pub told-settles : Rooms tree made → Settling v made

@@ -2,7 +2,7 @@
 use Prim.Native.Nat.{ℕ, _+_, _-_, _≤_}
 use mathlib.Core.Bool.{Bool}
 use mathlib.Core.List.{List as Seq, [], _∷_, map}
-use mathlib.Core.Path.{_≡_, ap}
+use mathlib.Core.Path.{_≡_}
 use native.Mathlib.Omega.{arith}
 use borrow.Author.Tests.{ltb-true}
 use lib.Dec.{eqb, ltb}
@@ -21,25 +21,22 @@ use Rattle.schema.specs.declared.Board.{Board}
 use Rattle.schema.specs.declared.Image.{Image}
 use Rattle.schema.specs.declared.Chip.{Chip}
 use Rattle.schema.specs.Words.{chipMeant}
-use Rattle.parse.specs.declared.Refusal.{Refusal}
-use Rattle.parse.specs.Refusals.{earlier}
 use Rattle.parse.specs.Entries.{refusalOf, partitionAt}
 use Rattle.parse.specs.Refused.{lentText, partitionNumbers}
 use Rattle.parse.specs.Front.{frontRead}
 use Rattle.parse.specs.Placed.{earlier-place}
 use Rattle.parse.specs.Meant.{boardMeant, imageMeant}
 use Rattle.parse.specs.Given as given
-use Rattle.parse.specs.Verdict.{Settling}
+use Rattle.parse.specs.Verdict.{verdict}
 use Rattle.layout.specs.declared.Fault.{Fault}
 use Rattle.layout.specs.declared.Mark.{Mark}
 use Rattle.layout.specs.Marks.{anyOf, faultOf, markRule, noted, judged}
 use Rattle.layout.specs.Parts.{partName, partMeant}
-use Rattle.validate.specs.Clashes.{clash}
 use Rattle.validate.specs.Entries.{componentAt, applicationAt}
 use Rattle.validate.specs.Fronts as fronts
 use Rattle.validate.specs.Gathered.{components, applications}
 use Rattle.validate.specs.Faults as faults
-use Rattle.validate.specs.Faults.{inEntry, componentsFault, applicationsFault, bootFault, clashFault, behindFault, listsFault, layoutFault, Clear}
+use Rattle.validate.specs.Faults.{inEntry, componentsFault, applicationsFault, bootFault, clashFault, behindFault, listsFault, layoutFault}
 
 -- ---- verdicts
 
@@ -114,15 +111,16 @@ low-front store name b i = front-low (boardMeant store store 0 name b) (imageMea
 
 -- ---- all of them
 
-module _ (room store : Seq ℕ) (made : ℕ) (name : Seq ℕ) (h : Clear room store made name) where
+-- nothing was refused when it was read
+module _ (room store : Seq ℕ) (made : ℕ) (name : Seq ℕ) (clear : verdict room store made name of01 .number ≡ 0) where
   few-parts : length (partitionNumbers room store made (fieldsOf room made 1)) ≤ 32
-  few-parts = given.partitions-few room store made (fieldsOf room made 1) of01 (lentText name) (h .clear)
+  few-parts = given.partitions-few room store made (fieldsOf room made 1) of01 (lentText name) clear
 
   few-components : length (components room store made) ≤ 64
-  few-components = given.components-few room store made (fieldsOf room made 1) of01 (lentText name) (h .clear)
+  few-components = given.components-few room store made (fieldsOf room made 1) of01 (lentText name) clear
 
   few-applications : length (applications room store made) ≤ 64
-  few-applications = given.applications-few room store made (fieldsOf room made 1) of01 (lentText name) (h .clear)
+  few-applications = given.applications-few room store made (fieldsOf room made 1) of01 (lentText name) clear
 
   low-lists : (parts : Seq (Seq ℕ)) → listsFault room store made parts .place ≤ 128
   unfolding listsFault behindFault
@@ -147,13 +145,9 @@ module _ (room store : Seq ℕ) (made : ℕ) (name : Seq ℕ) (h : Clear room st
       (omega (arith, length-map ps (partMeant store), given.map-length (λ n. partitionAt room store made n .partition) (partitionNumbers room store made (fieldsOf room made 1)), few-parts))))
       (low-lists (map (partName store) ps))
 
-  pub rules-settle : (w : Refusal) → w ≡ faults.verdict room store made name → Settling w made
+  pub rules-low : faults.verdict room store made name .place ≤ 70000
   unfolding faults.verdict
-  rules-settle w e =
+  rules-low =
       let f = frontRead room store made (fieldsOf room made 1) (lentText name) in
-      record {
-        place = rw e
-            (earlier-place (fronts.ruled store name (f .board) (f .image)) (layoutFault room store made (f .board .chip)) 70000 (omega (arith, low-front store name (f .board) (f .image)))
-            (omega (arith, low-layouts (f .board .chip))));
-        few = h .rooms .low;
-      }
+      earlier-place (fronts.ruled store name (f .board) (f .image)) (layoutFault room store made (f .board .chip)) 70000 (omega (arith, low-front store name (f .board) (f .image)))
+      (omega (arith, low-layouts (f .board .chip)))

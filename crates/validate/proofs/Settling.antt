@@ -14,24 +14,22 @@ use Rattle.meaning.specs.Base.{pick, same}
 use Rattle.meaning.specs.Rules.{twice, sameAll}
 use Rattle.laws.specs.Cases.{on, never}
 use Rattle.laws.specs.Order.{same-eq, eq-same}
-use Rattle.schema.specs.declared.Text.{Text}
-use Rattle.schema.specs.declared.Text.the-variants as texts
-use Rattle.schema.specs.declared.Features.{Features}
 use Rattle.parse.specs.Meant.{featureList}
 use Rattle.layout.specs.Marks.{anyOf, firstHit}
 use Rattle.layout.specs.Hits.{Later, Earlier, later-on, later-end, later-head}
+use Rattle.validate.specs.declared.uses.Spot.{Spot}
 use Rattle.validate.specs.declared.uses.Pair.{Pair}
-use Rattle.validate.specs.Clashes.{packed, differ, clash, has, meet, unmet, left}
+use Rattle.validate.specs.Clashes.{noSpot, spotted, listAt, differ, clash, has, meet, unmet, left}
 use Rattle.validate.specs.Gathered.{blank}
 
 -- ---- has, meet, unmet, left: one law for each way out
 
-module _ (store : List ℕ) (p : Text) (b : Pair) (r : Bool) (e : r ≡ twice (packed store p) (packed store (b .«package»))) where
+module _ (store : List ℕ) (p : Spot) (b : Pair) (r : Bool) (e : r ≡ twice (spotted store p) (spotted store (b .«package»))) where
   pub has-first : r ≡ true → true ≡ has store p b
   unfolding has
   has-first h = rw (← e, h)
 
-  pub has-second : (s : Bool) → r ≡ false → s ≡ twice (packed store p) (packed store (b .«pbp_package»)) → s ≡ has store p b
+  pub has-second : (s : Bool) → r ≡ false → s ≡ twice (spotted store p) (spotted store (b .«pbp_package»)) → s ≡ has store p b
   unfolding has
   has-second s h f = rw (← e, h) f
 
@@ -44,16 +42,16 @@ module _ (store : List ℕ) (a b : Pair) (r : Bool) (e : r ≡ has store (a .«p
   unfolding meet
   meet-second s h f = rw (← e, h) f
 
-module _ (store : List ℕ) (p : Text) (b : Pair) (r : Bool) (e : r ≡ has store p b) where
-  pub unmet-has : r ≡ true → texts.Absent ≡ unmet store p b
+module _ (store : List ℕ) (p : Spot) (b : Pair) (r : Bool) (e : r ≡ has store p b) where
+  pub unmet-has : (s : Spot) → r ≡ true → s ≡ noSpot → s ≡ unmet store p b
   unfolding unmet
-  unmet-has h = rw (← e, h)
+  unmet-has s h f = rw (← e, h) f
 
   pub unmet-not : r ≡ false → p ≡ unmet store p b
   unfolding unmet
   unmet-not h = rw (← e, h)
 
-pub left-made : (store : List ℕ) (a b : Pair) (p q : Text) → p ≡ unmet store (a .«package») b → q ≡ unmet store (a .«pbp_package») b
+pub left-made : (store : List ℕ) (a b : Pair) (p q : Spot) → p ≡ unmet store (a .«package») b → q ≡ unmet store (a .«pbp_package») b
     → record { «package» = p; features = a .features; «pbp_package» = q; «pbp_features» = a .«pbp_features» } ≡ left store a b
 unfolding left
 left-made store a b p q e f = rw (e, f)
@@ -111,7 +109,7 @@ module _ (room store : List ℕ) (made : ℕ) where
   hit = clash room store made
 
   -- no use of a package differs from an entry's uses
-  record Agrees (p : Text) (f : Features) (b : Pair) : Type 0 where
+  record Agrees (p f : Spot) (b : Pair) : Type 0 where
     one : differ room store made p f (b .«package») (b .features) ≡ false
     two : differ room store made p f (b .«pbp_package») (b .«pbp_features») ≡ false
 
@@ -133,11 +131,11 @@ module _ (room store : List ℕ) (made : ℕ) where
         two = record { one = first-false y z e3; two = second-false y z e3 };
       }
 
-  not-has : (p : Text) (f : Features) (b : Pair) → has store p b ≡ false → Agrees p f b
+  not-has : (p f : Spot) (b : Pair) → has store p b ≡ false → Agrees p f b
   unfolding has differ
   not-has p f b e =
-      let x : Bool = twice (packed store p) (packed store (b .«package»)) in
-      let y : Bool = twice (packed store p) (packed store (b .«pbp_package»)) in
+      let x : Bool = twice (spotted store p) (spotted store (b .«package»)) in
+      let y : Bool = twice (spotted store p) (spotted store (b .«pbp_package»)) in
       record { one = rw (first-false x y e); two = rw (second-false x y e) }
 
   pub not-met : (a b : Pair) → meet store a b ≡ false → hit a b ≡ false
@@ -149,22 +147,22 @@ module _ (room store : List ℕ) (made : ℕ) where
       let y = not-has (a .«pbp_package») (a .«pbp_features») b (second-false v w e) in
       rw (x .one, x .two, y .one, y .two)
 
-  absent-agrees : (f : Features) (q : Text) (g : Features) → false ≡ differ room store made texts.Absent f q g
-  unfolding differ
+  absent-agrees : (f q g : Spot) → false ≡ differ room store made noSpot f q g
+  unfolding differ spotted
   absent-agrees f q g = refl
 
   -- a use against one that agrees with an entry
-  module _ (b : Pair) (p : Text) (f : Features) (x : Agrees p f b) (q : Text) (g : Features) (y : Agrees q g b) where
-    through : (t : Text) (h : Features) → twice (packed store p) (packed store t) ≡ true → differ room store made p f t h ≡ false → differ room store made q g t h ≡ false
+  module _ (b : Pair) (p f : Spot) (x : Agrees p f b) (q g : Spot) (y : Agrees q g b) where
+    through : (t h : Spot) → twice (spotted store p) (spotted store t) ≡ true → differ room store made p f t h ≡ false → differ room store made q g t h ≡ false
         → differ room store made p f q g ≡ false
     unfolding differ
     through t h =
-        apart-through (packed store p) (packed store t) (packed store q) (featureList room store made f) (featureList room store made h) (featureList room store made g)
+        apart-through (spotted store p) (spotted store t) (spotted store q) (featureList room store made (listAt f)) (featureList room store made (listAt h)) (featureList room store made (listAt g))
 
     has-agrees : has store p b ≡ true → differ room store made p f q g ≡ false
     unfolding has
     has-agrees e =
-        on (twice (packed store p) (packed store (b .«package»)))
+        on (twice (spotted store p) (spotted store (b .«package»)))
         (λ t. through (b .«package») (b .features) t (x .one) (y .one))
         (λ t. through (b .«pbp_package») (b .«pbp_features») (rw t at e) (x .two) (y .two))
 

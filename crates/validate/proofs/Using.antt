@@ -5,21 +5,22 @@ use mathlib.Core.List.{List}
 use mathlib.Core.Path.{_≡_}
 use Rattle.meaning.specs.Rules.{twice, sameAll}
 use Rattle.laws.specs.Cases.{on}
-use Rattle.schema.specs.declared.Text.{Text}
 use Rattle.schema.specs.declared.Features.{Features}
 use Rattle.parse.specs.Meant.{featureList}
+use Rattle.validate.specs.declared.uses.Spot.{Spot}
 use Rattle.validate.specs.declared.uses.Pair.{Pair}
-use Rattle.validate.specs.Clashes.{packed, differ, clash}
+use Rattle.validate.specs.Clashes.{spotted, listAt, differ, clash}
 
 -- ---- one package with two feature sets
-module _ (room store : List ℕ) (made : ℕ) (p : Text) (f : Features) (q : Text) (g : Features) (r : Bool) (e : r ≡ twice (packed store p) (packed store q)) where
+module _ (room store : List ℕ) (made : ℕ) (p f q g : Spot) (r : Bool) (e : r ≡ twice (spotted store p) (spotted store q)) where
   pub differ-not : r ≡ false → false ≡ differ room store made p f q g
   unfolding differ
   differ-not h = rw (← e, h)
 
-  pub differ-other : (s : Bool) → r ≡ true → s ≡ sameAll (featureList room store made f) (featureList room store made g) → not s ≡ differ room store made p f q g
+  pub differ-other : (s : Bool) (a b : Features) → r ≡ true → a ≡ listAt f → b ≡ listAt g → s ≡ sameAll (featureList room store made a) (featureList room store made b)
+      → not s ≡ differ room store made p f q g
   unfolding differ
-  differ-other s h d = rw (← e, h, ← d) (on s (λ t. rw t) (λ t. rw t))
+  differ-other s a b h x y d = rw (← e, h, ← x, ← y, ← d) (on s (λ t. rw t) (λ t. rw t))
 
 -- ---- some use of one and some use of the other
 module _ (room store : List ℕ) (made : ℕ) (a b : Pair) (r : Bool) (e : r ≡ differ room store made (a .«package») (a .features) (b .«package») (b .features)) where

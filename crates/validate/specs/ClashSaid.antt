@@ -1,5 +1,5 @@
 -- 01's rule 60 over components and applications is the first clash over their packages.
-use Prim.Native.Nat.{ℕ, suc, _+_, _-_}
+use Prim.Native.Nat.{ℕ, suc, _+_, _-_, _%_, _<_}
 use mathlib.Core.Bool.{Bool, true, false}
 use mathlib.Core.List.{List, [], _∷_, _++_, map, append-assoc, append-nil}
 use mathlib.Core.Option.{Option, none, some}
@@ -8,32 +8,39 @@ use native.Mathlib.Omega.{arith}
 use borrow.Author.Tests.{lt-ltb, le-ltb, ltb-true, ltb-false}
 use lib.Dec.{ltb, leb·suc-suc}
 use lib.ListN.{length, length-map}
-use Rattle.meaning.specs.Base.{pick, same, ascii}
+use Rattle.meaning.specs.Base.{pick, same, ascii, nil?}
 use Rattle.meaning.specs.Refusal.{inComponent, inApplication}
 use Rattle.meaning.specs.Verdict.{behind, inTurn}
 use Rattle.meaning.specs.Rules as meant
 use Rattle.meaning.specs.Rules.{Use, use?, twice, usesOf, useOf, allUses, sameAll, clashes, useFault, featureRules}
 use Rattle.laws.specs.Cases.{on, never}
 use Rattle.laws.specs.Order.{same-eq, eq-same}
-use Rattle.tree.specs.Doors.{field}
+use Rattle.tree.specs.declared.Value.{Value as Read}
+use Rattle.tree.specs.declared.Value.the-variants as read
+use Rattle.tree.specs.Doors.{field, items}
+use Rattle.tree.specs.Short.{field-short}
 use Rattle.schema.specs.declared.Text.{Text}
 use Rattle.schema.specs.declared.Text.the-variants as texts
 use Rattle.schema.specs.declared.Features.{Features}
+use Rattle.schema.specs.declared.Features.the-variants as lists
 use Rattle.schema.specs.declared.Component.{Component}
 use Rattle.schema.specs.Texts.{optional}
+use Rattle.features.specs.Pieces.{wordsFrom, allTexts, pieces, featuresRead}
 use Rattle.parse.specs.declared.Refusal.{Refusal}
 use Rattle.parse.specs.Refusals.{earlier}
 use Rattle.parse.specs.Meant.{featureList, componentMeant}
-use Rattle.parse.specs.Component.{sources, headRead, bootRead, componentRead}
-use Rattle.parse.specs.Application.{applicationRead}
+use Rattle.parse.specs.Fields.{textRead}
+use Rattle.parse.specs.Component as component
+use Rattle.parse.specs.Component.{sources, headRead, roleRead, bootRead, componentRead}
+use Rattle.parse.specs.Application.{loading, applicationRead}
 use Rattle.parse.specs.Entries as parsed
 use Rattle.parse.specs.Entries.{told}
-use Rattle.parse.specs.Reads.{Kept, text-kept}
 use Rattle.parse.specs.Answers.{Says, says-after, says-by}
 use Rattle.parse.specs.Whole.{componentOf, applicationOf}
 use Rattle.layout.specs.Marks.{anyOf, firstHit}
+use Rattle.validate.specs.declared.uses.Spot.{Spot}
 use Rattle.validate.specs.declared.uses.Pair.{Pair}
-use Rattle.validate.specs.Clashes.{packed, differ, clash, pairOf}
+use Rattle.validate.specs.Clashes.{packed, textSpot, listSpot, spotted, listAt, differ, clash, pairOf}
 use Rattle.validate.specs.Entries.{componentEntry, applicationEntry, componentAt, applicationAt}
 use Rattle.validate.specs.Faults.{clashFault}
 use Rattle.validate.specs.Gathered.{either}
@@ -169,24 +176,89 @@ hit-faults cs apps k l =
 
 -- ---- an entry's packages
 
-packed-kept : (store name : List ℕ) (t : Text) → Kept t → optional store name t ≡ packed store t
-packed-kept store name texts.Absent h = refl
-packed-kept store name (texts.Stored from len) h = refl
-packed-kept store name texts.Lent h = absurd h
-packed-kept store name (texts.Fixed w) h = absurd h
-packed-kept store name (texts.WithAic from len) h = absurd h
+-- a text that was read is absent or a short one of the store, and so is a feature list that is a text
+abbrev Short : Text → Type 0
+Short texts.Absent = Unit {0}
+Short (texts.Stored from len) = (from < 65536) × (len < 65536)
+Short texts.Lent = ⊥
+Short (texts.Fixed w) = ⊥
+Short (texts.WithAic from len) = ⊥
+
+abbrev ShortList : Features → Type 0
+ShortList lists.Absent = Unit {0}
+ShortList (lists.Words from len) = (from < 65536) × (len < 65536)
+ShortList (lists.Items place) = Unit {0}
+
+packed-short : (store name : List ℕ) (t : Text) → Short t → optional store name t ≡ packed store t
+packed-short store name texts.Absent h = refl
+packed-short store name (texts.Stored from len) h = refl
+packed-short store name texts.Lent h = absurd h
+packed-short store name (texts.Fixed w) h = absurd h
+packed-short store name (texts.WithAic from len) h = absurd h
+
+below : (n : ℕ) → n < 65536 → n % 65536 ≡ n
+below n h = omega (arith, h)
+
+-- both are at their spots
+spotted-short : (store : List ℕ) (t : Text) → Short t → spotted store (textSpot t) ≡ packed store t
+unfolding spotted
+spotted-short store texts.Absent h = refl
+spotted-short store (texts.Stored from len) h = rw (below from (h .0), below len (h .1))
+spotted-short store texts.Lent h = absurd h
+spotted-short store (texts.Fixed w) h = absurd h
+spotted-short store (texts.WithAic from len) h = absurd h
+
+list-short : (f : Features) → ShortList f → listAt (listSpot f) ≡ f
+unfolding listAt
+list-short lists.Absent h = refl
+list-short (lists.Words from len) h = rw (below from (h .0), below len (h .1))
+list-short (lists.Items place) h = refl
+
+-- a value that is no text, or a short one
+abbrev ShortRead : Read → Type 0
+ShortRead v = (from len : ℕ) → v ≡ read.Text from len → (from < 65536) × (len < 65536)
+
+text-short : (v : Read) → ShortRead v → Short (textRead v .text)
+text-short read.Absent h = tt
+text-short (read.Text from len) h = h from len refl
+text-short (read.Number n m) h = tt
+text-short (read.Flag b) h = tt
+text-short (read.Array p) h = tt
+text-short (read.Table p) h = tt
+
+features-short : (room store : List ℕ) (made limit : ℕ) (v : Read) → ShortRead v → ShortList (featuresRead room store made limit v .features)
+unfolding featuresRead
+features-short room store made limit read.Absent h = tt
+features-short room store made limit (read.Text from len) h = on (ltb limit (length (wordsFrom store from len 0))) (λ e. rw e tt) (λ e. rw e (h from len refl))
+features-short room store made limit (read.Number n m) h = tt
+features-short room store made limit (read.Flag b) h = tt
+features-short room store made limit (read.Array place) h =
+    let ns = items room made place 0 in
+    on (ltb limit (length ns)) (λ e. rw e tt) (λ e. on (allTexts room store ns) (λ f. rw (e, f) tt) (λ f. rw (e, f) tt))
+features-short room store made limit (read.Table place) h = tt
+
+short-one : (b : Bool) (f g : Features) → ShortList f → ShortList g → ShortList (pick b f g)
+short-one true f g h k = h
+short-one false f g h k = k
+
+-- all of a component
+record ShortIn (c : Component) : Type 0 where
+  pack : Short (c .head .«package»)
+  own : Short (c .boot .«pbp_package»)
+  features : ShortList (c .role .features)
+  ownFeatures : ShortList (c .role .«pbp_features»)
 
 module _ (room store : List ℕ) (made : ℕ) where
-  abbrev usesAs : Text → Features → List Use
-  usesAs t f = use? (packed store t) (featureList room store made f)
+  abbrev usesAs : Spot → Spot → List Use
+  usesAs p f = use? (spotted store p) (featureList room store made (listAt f))
 
   -- the uses of an entry: none, one or two
   abbrev pub usesIn : Pair → List Use
   usesIn p = usesAs (p .«package») (p .features) ++ usesAs (p .«pbp_package») (p .«pbp_features»)
 
-  differ-is : (p : Text) (f : Features) (q : Text) (g : Features) → differ room store made p f q g ≡ clashes (usesAs q g) (usesAs p f)
+  differ-is : (p f q g : Spot) → differ room store made p f q g ≡ clashes (usesAs q g) (usesAs p f)
   unfolding differ
-  differ-is p f q g = one-clashes (packed store p) (packed store q) (featureList room store made f) (featureList room store made g)
+  differ-is p f q g = one-clashes (spotted store p) (spotted store q) (featureList room store made (listAt f)) (featureList room store made (listAt g))
 
   -- a later entry against an earlier one
   pub clash-is : (a b : Pair) → clash room store made a b ≡ clashes (usesIn b) (usesIn a)
@@ -208,22 +280,45 @@ module _ (room store : List ℕ) (made : ℕ) where
       (sym (either-two (clashes v x) (clashes w x) (either (clashes v y) (clashes w y))))
 
   module _ (name : List ℕ) where
-    uses-kept : (c : Component) → Kept (c .head .«package») → Kept (c .boot .«pbp_package») → usesOf (componentMeant room store made name c) ≡ usesIn (pairOf store c)
+    uses-short : (c : Component) → ShortIn c → usesOf (componentMeant room store made name c) ≡ usesIn (pairOf store c)
     unfolding usesOf pairOf
-    uses-kept c h k =
-        rw (packed-kept store name (c .head .«package») h, packed-kept store name (c .boot .«pbp_package») k)
-        (on (twice (packed store (c .head .«package»)) (packed store (c .boot .«pbp_package»))) (λ e. rw e) (λ e. rw e))
+    uses-short c h =
+        rw (
+          packed-short store name (c .head .«package») (h .pack),
+          packed-short store name (c .boot .«pbp_package») (h .own),
+          spotted-short store (c .head .«package») (h .pack),
+          spotted-short store (c .boot .«pbp_package») (h .own),
+          list-short (c .role .«pbp_features») (h .ownFeatures),
+        )
+        (on (twice (packed store (c .head .«package»)) (packed store (c .boot .«pbp_package»)))
+        (λ e. rw (e, list-short (c .role .«pbp_features») (h .ownFeatures)))
+        (λ e. rw (e, list-short (c .role .features) (h .features))))
 
     module _ (parts : List (List ℕ)) (n : ℕ) where
       component-uses : usesOf (componentOf room store made name 32 n) ≡ usesIn (componentAt room store made parts n .pair)
-      unfolding componentEntry parsed.componentAt componentRead headRead sources bootRead
+      unfolding componentEntry parsed.componentAt componentRead headRead sources roleRead component.lists bootRead
       component-uses =
           let f = parsed.tableAt room store made n .fields in
-          uses-kept (parsed.componentAt room store made n 32 .component) (text-kept (field room store f (ascii "package"))) (text-kept (field room store f (ascii "pbp_package")))
+          let all = featuresRead room store made 32 (field room store f (ascii "features")) .features in
+          let own = featuresRead room store made 32 (field room store f (ascii "pbp_features")) .features in
+          let short : (key : List ℕ) → ShortRead (field room store f key) = field-short room store f in
+          uses-short (parsed.componentAt room store made n 32 .component)
+          (record {
+            pack = text-short (field room store f (ascii "package")) (short (ascii "package"));
+            own = text-short (field room store f (ascii "pbp_package")) (short (ascii "pbp_package"));
+            features = features-short room store made 32 (field room store f (ascii "features")) (short (ascii "features"));
+            ownFeatures =
+                short-one (nil? (pieces room store made own)) all own
+                (features-short room store made 32 (field room store f (ascii "features")) (short (ascii "features")))
+                (features-short room store made 32 (field room store f (ascii "pbp_features")) (short (ascii "pbp_features")));
+          })
 
       application-uses : useOf (applicationOf room store made name 32 n) ≡ usesIn (applicationAt room store made parts n .pair)
-      unfolding applicationEntry parsed.applicationAt applicationRead
-      application-uses = refl
+      unfolding spotted applicationEntry parsed.applicationAt applicationRead loading
+      application-uses =
+          let f = parsed.tableAt room store made n .fields in
+          let list = parsed.applicationAt room store made n 32 .application .features in
+          rw (list-short list (features-short room store made 32 (field room store f (ascii "features")) (field-short room store f (ascii "features"))))
 
 -- ---- 60
 

@@ -7,6 +7,7 @@ use lib.ListN.{length}
 use Rattle.meaning.specs.Base.{pick, nil?}
 use Rattle.meaning.specs.Verdict.{orElse, long}
 use Rattle.meaning.specs.Rules as meant
+use Rattle.tree.specs.Room.{slotAt}
 use Rattle.schema.specs.declared.Text.{Text}
 use Rattle.schema.specs.declared.Text.the-variants as texts
 use Rattle.schema.specs.declared.Number.{Number}
@@ -19,6 +20,7 @@ use Rattle.schema.specs.Texts.{clip, startOf, lengthOf, amount}
 use Rattle.parse.specs.Entries as parsed
 use Rattle.layout.specs.Marks.{rank}
 use Rattle.validate.specs.declared.Entry.{Entry}
+use Rattle.validate.specs.declared.uses.Pair.{Pair}
 use Rattle.validate.specs.Clashes.{pairOf, single}
 
 -- a text that lies in the store
@@ -62,10 +64,12 @@ lateFault store known c =
 abbrev pub referred : List ℕ → Text → List ℕ
 referred store t = meant.nameOf (kept store t)
 
-unfoldable pub componentEntry : List ℕ → List (List ℕ) → Component → Entry
-componentEntry store parts c =
+-- with the fault of its record
+unfoldable pub componentEntry : List ℕ → List (List ℕ) → ℕ → Component → Entry
+componentEntry store parts fault c =
     let at = rank (referred store (c .role .partition)) parts in
     record {
+      fault = fault;
       mark = record { from = startOf (c .head .name); len = lengthOf (c .head .name); early = 0; late = lateFault store (ltb at (length parts)) c };
       pair = pairOf store c;
       first = pick (nil? (kept store (c .role .partition))) false (eqb at 0);
@@ -94,16 +98,18 @@ unfoldable pub earlyFault : List ℕ → Bool → Application → ℕ
 earlyFault store known a =
     pick (nil? (kept store (a .name))) 61 (pick (long (kept store (a .name))) 62 (pick (hollow store (a .filename)) 63 (pick known 0 64)))
 
-unfoldable pub applicationEntry : List ℕ → List (List ℕ) → Application → Entry
-applicationEntry store parts a =
+-- with the fault of its record, and its package
+unfoldable pub applicationEntry : List ℕ → List (List ℕ) → ℕ → Pair → Application → Entry
+applicationEntry store parts fault pair a =
     record {
+      fault = fault;
       mark = record {
         from = startOf (a .name);
         len = lengthOf (a .name);
         early = earlyFault store (ltb (aim store parts (a .partition)) (length parts)) a;
         late = meant.addressFault (amount (a .«load_address»));
       };
-      pair = single (a .«package») (a .features);
+      pair = pair;
       first = false;
     }
 
@@ -111,7 +117,9 @@ applicationEntry store parts a =
 
 module _ (room store : List ℕ) (made : ℕ) (parts : List (List ℕ)) where
   abbrev pub componentAt : ℕ → Entry
-  componentAt n = componentEntry store parts (parsed.componentAt room store made n 32 .component)
+  componentAt n = componentEntry store parts (parsed.componentAt room store made n 32 .fault) (parsed.componentAt room store made n 32 .component)
 
   abbrev pub applicationAt : ℕ → Entry
-  applicationAt n = applicationEntry store parts (parsed.applicationAt room store made n 32 .application)
+  applicationAt n =
+      let a = parsed.applicationAt room store made n 32 in
+      applicationEntry store parts (a .fault) (single (slotAt room n .key) (slotAt room n .len) (a .application .features)) (a .application)

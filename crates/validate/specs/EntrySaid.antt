@@ -35,6 +35,7 @@ use Rattle.layout.specs.declared.Fault.{Fault}
 use Rattle.layout.specs.Marks.{anyOf, markRule, noted, markVerdict, judged, entryFault}
 use Rattle.layout.specs.Turns as turns
 use Rattle.layout.specs.Turns.{among-rank, rank-first, judged-verdict, says-fine, says-refused}
+use Rattle.validate.specs.declared.uses.Pair.{Pair}
 use Rattle.validate.specs.Entries as entries
 use Rattle.validate.specs.Entries.{there, counted, hollow, aim, componentEntry, applicationEntry, componentAt, applicationAt}
 use Rattle.validate.specs.Faults.{inEntry, componentsFault, applicationsFault, bootFault}
@@ -75,7 +76,7 @@ or-one P h (texts.Fixed w) d k g = absurd k
 or-one P h (texts.WithAic from len) d k g = absurd k
 
 -- a partition that is named: some bytes of the store, or a word
-abbrev Named : Text → Type 0
+abbrev pub Named : Text → Type 0
 Named texts.Absent = ⊥
 Named (texts.Stored from len) = Unit {0}
 Named texts.Lent = ⊥
@@ -83,7 +84,7 @@ Named (texts.Fixed w) = Unit {0}
 Named (texts.WithAic from len) = ⊥
 
 -- a filename: some bytes of the store, or such with `.aic`
-abbrev Filed : Text → Type 0
+abbrev pub Filed : Text → Type 0
 Filed texts.Absent = Unit {0}
 Filed (texts.Stored from len) = Unit {0}
 Filed texts.Lent = ⊥
@@ -106,7 +107,7 @@ given-number numbers.Absent = refl
 given-number (numbers.Of n) = refl
 
 module _ (store name : List ℕ) where
-  kept-spelled : (t : Text) → Kept t → spelled store name t ≡ entries.kept store t
+  pub kept-spelled : (t : Text) → Kept t → spelled store name t ≡ entries.kept store t
   kept-spelled texts.Absent h = sym (clip-none store)
   kept-spelled (texts.Stored from len) h = refl
   kept-spelled texts.Lent h = absurd h
@@ -137,12 +138,12 @@ module _ (store name : List ℕ) where
 -- ---- a component
 
 -- its texts that the rules read lie in the store
-record KeptIn (c : Component) : Type 0 where
-  name : Kept (c .head .name)
-  partition : Kept (c .role .partition)
+pub record KeptIn (c : Component) : Type 0 where
+  pub name : Kept (c .head .name)
+  pub partition : Kept (c .role .partition)
 
 module _ (room store : List ℕ) (made n : ℕ) where
-  component-kept : KeptIn (parsing.componentAt room store made n 32 .component)
+  pub component-kept : KeptIn (parsing.componentAt room store made n 32 .component)
   unfolding parsing.componentAt parsed.componentRead parsed.headRead parsed.roleRead
   component-kept =
       let f = parsing.tableAt room store made n .fields in
@@ -157,10 +158,10 @@ name-turned true l x = refl
 name-turned false l x = refl
 
 module _ (room store : List ℕ) (made : ℕ) (name : List ℕ) (parts : List (List ℕ)) where
-  component-rule : (earlier : List (List ℕ)) (c : Component) → KeptIn c
-      → meant.componentFault parts earlier (componentMeant room store made name c) ≡ markRule 51 store earlier (componentEntry store parts c .mark)
+  component-rule : (earlier : List (List ℕ)) (fault : ℕ) (c : Component) → KeptIn c
+      → meant.componentFault parts earlier (componentMeant room store made name c) ≡ markRule 51 store earlier (componentEntry store parts fault c .mark)
   unfolding meant.componentFault meant.componentName meant.targetFault entryFault componentEntry entries.lateFault entries.bootFault
-  component-rule earlier c k =
+  component-rule earlier fault c k =
       rw (
         kept-spelled store name (c .head .name) (k .name),
         kept-spelled store name (c .role .partition) (k .partition),
@@ -180,7 +181,7 @@ module _ (room store : List ℕ) (made : ℕ) (name : List ℕ) (parts : List (L
   components-turn =
       turns-agree (meant.componentFault parts) (λ earlier d. behind earlier (d .head .name)) (markRule 51 store) (noted store)
       (componentOf room store made name 32) (λ n. componentAt room store made parts n .mark)
-      (λ earlier n. component-rule earlier (parsing.componentAt room store made n 32 .component) (component-kept room store made n))
+      (λ earlier n. component-rule earlier (parsing.componentAt room store made n 32 .fault) (parsing.componentAt room store made n 32 .component) (component-kept room store made n))
       (λ earlier n. ap (behind earlier) (kept-spelled store name (parsing.componentAt room store made n 32 .component .head .name) (component-kept room store made n .name)))
       inComponent 0 []
 
@@ -192,13 +193,13 @@ module _ (room store : List ℕ) (made : ℕ) (name : List ℕ) (parts : List (L
 
 -- ---- an application
 
-record Placing (a : Application) : Type 0 where
-  name : Kept (a .name)
-  partition : Named (a .partition)
-  filename : Filed (a .filename)
+pub record Placing (a : Application) : Type 0 where
+  pub name : Kept (a .name)
+  pub partition : Named (a .partition)
+  pub filename : Filed (a .filename)
 
 module _ (room store : List ℕ) (made n : ℕ) where
-  application-kept : Placing (parsing.applicationAt room store made n 32 .application)
+  pub application-kept : Placing (parsing.applicationAt room store made n 32 .application)
   unfolding parsing.applicationAt reading.applicationRead reading.names
   application-kept =
       let f = parsing.tableAt room store made n .fields in
@@ -221,10 +222,10 @@ early-turned false false false true true x = refl
 early-turned false false false true false x = refl
 
 module _ (room store : List ℕ) (made : ℕ) (name : List ℕ) (parts : List (List ℕ)) where
-  application-rule : (earlier : List (List ℕ)) (a : Application) → Placing a
-      → meant.applicationFault parts earlier (applicationMeant room store made name a) ≡ markRule 65 store earlier (applicationEntry store parts a .mark)
+  application-rule : (earlier : List (List ℕ)) (fault : ℕ) (pair : Pair) (a : Application) → Placing a
+      → meant.applicationFault parts earlier (applicationMeant room store made name a) ≡ markRule 65 store earlier (applicationEntry store parts fault pair a .mark)
   unfolding meant.applicationFault entryFault applicationEntry entries.earlyFault
-  application-rule earlier a k =
+  application-rule earlier fault pair a k =
       rw (kept-spelled store name (a .name) (k .name), hollow-spelled store name (a .filename) (k .filename), aim-spelled store name parts (a .partition) (k .partition))
       (early-turned (nil? (entries.kept store (a .name))) (long (entries.kept store (a .name))) (hollow store (a .filename)) (ltb (aim store parts (a .partition)) (length parts))
       (among (entries.kept store (a .name)) earlier) (meant.addressFault (amount (a .«load_address»))))
@@ -236,7 +237,9 @@ module _ (room store : List ℕ) (made : ℕ) (name : List ℕ) (parts : List (L
   applications-turn =
       turns-agree (meant.applicationFault parts) (λ earlier a. behind earlier (a .name)) (markRule 65 store) (noted store)
       (applicationOf room store made name 32) (λ n. applicationAt room store made parts n .mark)
-      (λ earlier n. application-rule earlier (parsing.applicationAt room store made n 32 .application) (application-kept room store made n))
+      (λ earlier n.
+      application-rule earlier (parsing.applicationAt room store made n 32 .fault) (applicationAt room store made parts n .pair) (parsing.applicationAt room store made n 32 .application)
+      (application-kept room store made n))
       (λ earlier n. ap (behind earlier) (kept-spelled store name (parsing.applicationAt room store made n 32 .application .name) (application-kept room store made n .name)))
       inApplication 0 []
 

@@ -2,8 +2,7 @@
 use Prim.Native.Nat.{ℕ, _+_, _-_, _≤_}
 use mathlib.Core.Bool.{Bool}
 use mathlib.Core.List.{List as Seq, [], map, _++_}
-use mathlib.Core.Path.{_≡_}
-use lib.Dec.{eqb, ltb}
+use lib.Dec.{ltb}
 use lib.ListN.{length, take}
 use Rattle.meaning.specs.Base.{pick, nil?}
 use Rattle.meaning.specs.Limits.{of01}
@@ -26,13 +25,17 @@ use Rattle.validate.specs.declared.gather.Gathered.{Gathered}
 use Rattle.validate.specs.Clashes.{clash}
 use Rattle.validate.specs.Entries.{componentAt, applicationAt}
 use Rattle.validate.specs.Fronts as fronts
-use Rattle.validate.specs.Gathered.{components, applications}
+use Rattle.validate.specs.Gathered.{faultAt, components, applications}
 
 -- ---- one group
 
 -- a fault among the entries of a section
 unfoldable pub inEntry : ℕ → Fault → Refusal
-inEntry section f = pick (eqb (f .number) 0) (told 0 0 0) (told section (f .number) (f .place))
+inEntry section f = faultAt section (f .number) (f .place)
+
+-- 25, of a list that may have 64 entries
+unfoldable pub lengthFault : ℕ → ℕ → Refusal
+lengthFault section n = pick (ltb 64 n) (told section 25 64) (told 0 0 0)
 
 -- 50 to 59
 unfoldable pub componentsFault : Seq ℕ → Seq Mark → Refusal
@@ -59,6 +62,11 @@ module _ (room store : Seq ℕ) (made : ℕ) where
   abbrev pub usesFault : ℕ → ℕ → Seq Pair → Refusal
   usesFault cs apps pairs = clashFault cs (cs + apps) (firstHit (clash room store made) [] (take (cs + apps) pairs))
 
+  -- 60 to 70, of applications that were gathered behind components
+  unfoldable pub gatheredFault : ℕ → Bool → Gathered → Refusal
+  gatheredFault cs first a =
+      earlier (usesFault cs (a .count) (a .pairs)) (earlier (applicationsFault store (take (a .count) (a .marks))) (bootFault first))
+
   -- ---- all of them, the partitions' names given
 
   module _ (parts : Seq (Seq ℕ)) where
@@ -81,27 +89,33 @@ module _ (room store : Seq ℕ) (made : ℕ) where
         earlier (clashFault cs (cs + apps) (firstHit (clash room store made) [] (pairs ++ applicationPairs)))
         (earlier (applicationsFault store applicationMarks) (bootFault first))
 
-    abbrev pub Behind : Gathered → Refusal → Type 0
-    Behind c r = r ≡ behindFault (c .count) (take (c .count) (c .pairs)) (c .first)
-
     -- 50 to 70
     unfoldable pub listsFault : Refusal
     listsFault =
         earlier (componentsFault store componentMarks)
         (behindFault (length (components room store made)) componentPairs (anyOf (λ n. componentAt room store made parts n .first) (components room store made)))
 
-  -- ---- of a preset
+    -- records before rules, those that were judged in front and those behind
+    unfoldable pub applicationsJudged : Refusal → ℕ → Seq Pair → Bool → Refusal
+    applicationsJudged rules cs pairs first = earlier (verdicts.applicationFault room store made of01) (earlier rules (behindFault cs pairs first))
 
-  -- nothing was refused when it was read
-  pub record Clear (name : Seq ℕ) : Type 0 where
-    pub rooms : Rooms room made
-    pub clear : verdicts.verdict room store made name of01 .number ≡ 0
+    unfoldable pub componentsJudged : Refusal → Refusal
+    componentsJudged rules =
+        earlier (verdicts.componentFault room store made of01) (earlier (verdicts.applicationFault room store made of01) (earlier rules listsFault))
+
+  -- ---- of a preset
 
   -- 40 to 70
   unfoldable pub layoutFault : Chip → Refusal
   layoutFault chip =
       let ps = map (λ n. partitionAt room store made n .partition) (partitionNumbers room store made (fieldsOf room made 1)) in
       earlier (inEntry 3 (faultOf (meant.layout (chipMeant chip) (map (partMeant store) ps)))) (listsFault (map (partName store) ps))
+
+  -- records before rules
+  unfoldable pub partitionsJudged : Chip → Refusal → Refusal
+  partitionsJudged chip rules =
+      earlier (verdicts.partitionFault room store made of01)
+      (earlier (verdicts.componentFault room store made of01) (earlier (verdicts.applicationFault room store made of01) (earlier rules (layoutFault chip))))
 
   -- 30 to 70
   unfoldable pub verdict : Seq ℕ → Refusal

@@ -3,30 +3,38 @@ use Prim.Native.Nat.{ℕ, _+_, _≤_}
 use mathlib.Core.Bool.{Bool, true}
 use mathlib.Core.List.{List as Seq, map, _++_}
 use mathlib.Core.Path.{_≡_}
+use lib.Dec.{eqb}
 use lib.ListN.{length, take}
 use Rattle.meaning.specs.Base.{pick}
+use Rattle.meaning.specs.Refusal.{inApplication}
+use Rattle.meaning.specs.Fields.{listed}
 use Rattle.tree.specs.declared.Found.the-variants.{Nothing}
 use Rattle.tree.specs.Doors.{Rooms, fieldsOf, items}
 use Rattle.schema.specs.declared.Text.the-variants as texts
 use Rattle.schema.specs.declared.Features.the-variants as lists
-use Rattle.parse.specs.Entries.{walk}
+use Rattle.parse.specs.declared.Refusal.{Refusal}
+use Rattle.parse.specs.Entries.{walk, told, refusalOf, eachComponent, applicationR}
 use Rattle.parse.specs.Refused.{componentNumbers, applicationNumbers}
 use Rattle.layout.specs.Marks.{anyOf}
 use Rattle.validate.specs.declared.Entry.{Entry}
 use Rattle.validate.specs.declared.uses.Pair.{Pair}
 use Rattle.validate.specs.declared.gather.Gathered.{Gathered}
-use Rattle.validate.specs.Clashes.{single}
+use Rattle.validate.specs.Clashes.{spots}
 use Rattle.validate.specs.Entries.{componentAt, applicationAt}
 
 abbrev pub blank : Pair
-blank = single texts.Absent lists.Absent
+blank = spots texts.Absent lists.Absent texts.Absent lists.Absent
 
 abbrev pub either : Bool → Bool → Bool
 either a b = pick a true b
 
+-- a fault at a place of a section, 0 for none
+abbrev pub faultAt : ℕ → ℕ → ℕ → Refusal
+faultAt section number place = pick (eqb number 0) (told 0 0 0) (told section number place)
+
 -- ---- entries that numbers stand for
 
--- how many, and whether one lies in the first partition
+-- how many, and their marks
 pub record Listed (entry : ℕ → Entry) (ns : Seq ℕ) (r : Gathered) : Type 0 where
   pub count : r .count ≡ length ns
   pub few : length ns ≤ 64
@@ -44,28 +52,31 @@ module _ (room store : Seq ℕ) (made : ℕ) where
     pub pairs : take (length ns) (r .pairs) ≡ map (λ n. componentAt room store made parts n .pair) ns
     pub first : r .first ≡ anyOf (λ n. componentAt room store made parts n .first) ns
 
-  abbrev pub Components : ℕ → ℕ → Seq (Seq ℕ) → Gathered → Type 0
-  Components place end parts r = Gathers parts (items room end place 0) r
+  -- the first fault of their records, and what is gathered where there is none
+  pub record Components (place end : ℕ) (parts : Seq (Seq ℕ)) (r : Gathered) : Type 0 where
+    pub fault : r .fault ≡ eachComponent room store made place end 32
+    pub gathers : r .fault .number ≡ 0 → Gathers parts (items room end place 0) r
 
 -- the components that were gathered leave room for the applications' packages
 pub record Few (c : Gathered) : Type 0 where
   pub few : c .count ≤ 64
 
-module _ (room store : Seq ℕ) (made : ℕ) where
-  pub record Followed (place end count : ℕ) (c : Gathered) : Type 0 where
-    pub rooms : Rooms room made
-    pub within : end ≤ made
-    pub parts : count ≤ 32
-    pub few : length (walk room store end place 65 Nothing) ≤ 64
-    pub behind : c .count ≤ 64
+pub record Followed (room : Seq ℕ) (made end count : ℕ) (c : Gathered) : Type 0 where
+  pub rooms : Rooms room made
+  pub within : end ≤ made
+  pub parts : count ≤ 32
+  pub behind : c .count ≤ 64
 
+module _ (room store : Seq ℕ) (made : ℕ) where
   -- their packages stand behind those of the components
   pub record Follows (parts : Seq (Seq ℕ)) (ns : Seq ℕ) (c r : Gathered) : Type 0 where
     pub listed : Listed (applicationAt room store made parts) ns r
     pub pairs : take (c .count + length ns) (r .pairs) ≡ take (c .count) (c .pairs) ++ map (λ n. applicationAt room store made parts n .pair) ns
 
-  abbrev pub Applications : ℕ → ℕ → Seq (Seq ℕ) → Gathered → Gathered → Type 0
-  Applications place end parts c r = Follows parts (walk room store end place 65 Nothing) c r
+  -- the list's length is told before its entries
+  pub record Applications (place end : ℕ) (parts : Seq (Seq ℕ)) (c r : Gathered) : Type 0 where
+    pub fault : r .fault ≡ refusalOf (listed (applicationR room store made 32) inApplication 64 (walk room store end place 65 Nothing))
+    pub gathers : r .fault .number ≡ 0 → Follows parts (walk room store end place 65 Nothing) c r
 
   -- ---- of a preset
 
@@ -74,15 +85,3 @@ module _ (room store : Seq ℕ) (made : ℕ) where
 
   abbrev pub applications : Seq ℕ
   applications = applicationNumbers room store made (fieldsOf room made 1) 64
-
-  pub record Ready (count : ℕ) : Type 0 where
-    pub rooms : Rooms room made
-    pub parts : count ≤ 32
-    pub components : length components ≤ 64
-    pub applications : length applications ≤ 64
-
-  abbrev pub AllComponents : Seq (Seq ℕ) → Gathered → Type 0
-  AllComponents parts r = Gathers room store made parts components r
-
-  abbrev pub AllApplications : Seq (Seq ℕ) → Gathered → Gathered → Type 0
-  AllApplications parts c r = Follows parts applications c r

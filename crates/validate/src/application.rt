@@ -1,6 +1,7 @@
 // 61 to 66: what an application's own rules say, and the entry it makes.
 
 use crate::Entry;
+use crate::uses::Pair;
 use layout::Mark;
 use schema::Application;
 use schema::Number;
@@ -92,24 +93,30 @@ fn address_fault(n: Number) -> u32
     }
 }
 
-fn entry_of(store: &[u8], a: Application, items: [Partition; 32], count: usize) -> Entry
+fn entry_of(
+    store: &[u8],
+    fault: u32,
+    pair: Pair,
+    a: Application,
+    items: [Partition; 32],
+    count: usize,
+) -> Entry
     requires { ⌜ count ≤ 32 ⌝ }
-    ensures { λ r. ⌜ r ≡ entries.applicationEntry (now (store .entry)) (map (partName (now (store .entry))) (take count items)) a ⌝ }
+    ensures { λ r. ⌜ r ≡ entries.applicationEntry (now (store .entry)) (map (partName (now (store .entry))) (take count items)) fault pair a ⌝ }
 {
     let name = a.name;
     let partition = a.partition;
     let address = a.load_address;
-    let package = a.package;
-    let features = a.features;
     let at = aim(store, items, count, partition);
     Entry {
+        fault: fault,
         mark: Mark {
             from: name.start(),
             len: name.length(),
             early: early_fault(store, a, at < count),
             late: address_fault(address),
         },
-        pair: crate::uses::single(package, features),
+        pair: pair,
         first: false,
     }
 }
@@ -128,5 +135,8 @@ pub fn entry(
 {
     let r = parse::entry::application_at(tree, store, made, n, 32);
     let a = r.application;
-    entry_of(store, a, items, count)
+    let features = a.features;
+    let v = tree::get(tree, n);
+    let pair = crate::uses::single(v.key, v.len, features);
+    entry_of(store, r.fault, pair, a, items, count)
 }

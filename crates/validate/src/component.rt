@@ -176,9 +176,9 @@ fn in_first(at: usize, empty: bool) -> bool
     at == 0
 }
 
-fn entry_of(store: &[u8], c: Component, items: [Partition; 32], count: usize) -> Entry
+fn entry_of(store: &[u8], fault: u32, c: Component, items: [Partition; 32], count: usize) -> Entry
     requires { ⌜ count ≤ 32 ⌝ }
-    ensures { λ r. ⌜ r ≡ entries.componentEntry (now (store .entry)) (map (partName (now (store .entry))) (take count items)) c ⌝ }
+    ensures { λ r. ⌜ r ≡ entries.componentEntry (now (store .entry)) (map (partName (now (store .entry))) (take count items)) fault c ⌝ }
 {
     let head = c.head;
     let role = c.role;
@@ -187,6 +187,7 @@ fn entry_of(store: &[u8], c: Component, items: [Partition; 32], count: usize) ->
     let at = layout::find(store, items, count, reference(store, partition));
     let empty = schema::stored(store, partition.start(), partition.length()).len() == 0;
     Entry {
+        fault: fault,
         mark: Mark {
             from: name.start(),
             len: name.length(),
@@ -212,5 +213,5 @@ pub fn entry(
 {
     let r = parse::entry::component_at(tree, store, made, n, 32);
     let c = r.component;
-    entry_of(store, c, items, count)
+    entry_of(store, r.fault, c, items, count)
 }

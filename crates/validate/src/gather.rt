@@ -2,19 +2,20 @@
 
 use crate::uses::Pair;
 use layout::Mark;
-use schema::Features;
+use parse::Refusal;
 use schema::Partition;
-use schema::Text;
 use tree::Found;
 ghost use mathlib.Core.List.{map};
 ghost use mathlib.Core.Path.{_≡_};
 ghost use lib.ListN.{take, replicate};
+ghost use Rattle.parse.specs.Refusals.{earlier};
 ghost use Rattle.layout.specs.Parts.{partName};
 ghost use Rattle.validate.specs.Gathered as gathered;
 ghost use Rattle.validate.specs.Gathered.{Counted, Components, Applications, Followed};
 
-// How many entries a list has, and whether one lies in the first partition.
+// The first fault of the records; how many entries a list has, and whether one lies in the first partition.
 pub struct Gathered {
+    pub fault: Refusal,
     pub count: usize,
     pub first: bool,
     pub marks: [Mark; 64],
@@ -24,11 +25,12 @@ pub struct Gathered {
 fn no_pairs() -> [Pair; 128]
     ensures { λ r. ⌜ r ≡ replicate 128 gathered.blank ⌝ }
 {
+    let none = crate::uses::no_spot();
     let blank = Pair {
-        package: Text::Absent,
-        features: Features::Absent,
-        pbp_package: Text::Absent,
-        pbp_features: Features::Absent,
+        package: none,
+        features: none,
+        pbp_package: none,
+        pbp_features: none,
     };
     [blank; 128]
 }
@@ -42,7 +44,21 @@ fn either(a: bool, b: bool) -> bool
     b
 }
 
-fn each_component(
+// The first fault, told at an entry.
+fn earlier_in(fault: Refusal, section: u32, number: u32, place: usize) -> Refusal
+    ensures { λ r. ⌜ r ≡ earlier fault (gathered.faultAt section number place) ⌝ }
+{
+    if fault.number != 0 {
+        return fault;
+    }
+    if number != 0 {
+        return parse::told(section, number, place);
+    }
+    parse::told(0, 0, 0)
+}
+
+// All components of a list that has no more than 64, up to the first with a fault.
+pub fn each_component(
     tree: &[u8],
     store: &[u8],
     made: usize,
@@ -56,6 +72,7 @@ fn each_component(
 {
     let mut marks = layout::no_marks();
     let mut pairs = no_pairs();
+    let mut fault = parse::told(0, 0, 0);
     let mut first = false;
     let mut i = 0;
     let mut from = 0;
@@ -65,6 +82,10 @@ fn each_component(
             Found::Nothing => break,
             Found::At(n) => {
                 let e = crate::component::entry(tree, store, made, n, items, count);
+                if e.fault != 0 {
+                    fault = parse::told(4, e.fault, i);
+                    break;
+                }
                 let mark = e.mark;
                 let pair = e.pair;
                 marks[i] = mark;
@@ -76,6 +97,7 @@ fn each_component(
         }
     }
     Gathered {
+        fault: fault,
         count: i,
         first: first,
         marks: marks,
@@ -83,8 +105,8 @@ fn each_component(
     }
 }
 
-// The applications in byte order of key; their packages stand behind those of the components.
-fn each_application(
+// The applications in byte order of key; their packages stand behind those of the components. The list's length is told before its entries, so the first fault waits for the last key.
+pub fn each_application(
     tree: &[u8],
     store: &[u8],
     made: usize,
@@ -94,11 +116,12 @@ fn each_application(
     count: usize,
     c: Gathered,
 ) -> Gathered
-    requires { ⌜ Followed (now tree) (now store) made place end count c ⌝ }
+    requires { ⌜ Followed (now tree) made end count c ⌝ }
     ensures { λ r. ⌜ Applications (now (tree .entry)) (now (store .entry)) made place end (map (partName (now (store .entry))) (take count items)) c r ⌝ }
 {
     let mut marks = layout::no_marks();
     let mut pairs = c.pairs;
+    let mut fault = parse::told(0, 0, 0);
     let mut after = Found::Nothing;
     let mut i = 0;
     let behind = c.count;
@@ -107,10 +130,15 @@ fn each_application(
         match found {
             Found::Nothing => break,
             Found::At(n) => {
+                if 64 <= i {
+                    fault = parse::told(5, 25, 64);
+                    break;
+                }
                 let e = crate::application::entry(tree, store, made, n, items, count);
                 let mark = e.mark;
                 let pair = e.pair;
                 let at = behind + i;
+                fault = earlier_in(fault, 5, e.fault, i);
                 marks[i] = mark;
                 pairs[at] = pair;
                 after = Found::At(n);
@@ -119,38 +147,10 @@ fn each_application(
         }
     }
     Gathered {
+        fault: fault,
         count: i,
         first: c.first,
         marks: marks,
         pairs: pairs,
     }
-}
-
-pub fn components(
-    tree: &[u8],
-    store: &[u8],
-    made: usize,
-    items: [Partition; 32],
-    count: usize,
-) -> Gathered
-    requires { ⌜ gathered.Ready (now tree) (now store) made count ⌝ }
-    ensures { λ r. ⌜ gathered.AllComponents (now (tree .entry)) (now (store .entry)) made (map (partName (now (store .entry))) (take count items)) r ⌝ }
-{
-    let l = parse::view::component_list(tree, store, made);
-    each_component(tree, store, made, l.place, l.end, items, count)
-}
-
-pub fn applications(
-    tree: &[u8],
-    store: &[u8],
-    made: usize,
-    items: [Partition; 32],
-    count: usize,
-    c: Gathered,
-) -> Gathered
-    requires { ⌜ gathered.Ready (now tree) (now store) made count × gathered.Few c ⌝ }
-    ensures { λ r. ⌜ gathered.AllApplications (now (tree .entry)) (now (store .entry)) made (map (partName (now (store .entry))) (take count items)) c r ⌝ }
-{
-    let l = parse::view::application_list(tree, store, made);
-    each_application(tree, store, made, l.place, l.end, items, count, c)
 }

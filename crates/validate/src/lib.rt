@@ -22,13 +22,13 @@ ghost use lib.ListN.{take};
 ghost use Rattle.layout.specs.Parts.{partName};
 ghost use Rattle.validate.specs.Gathered as gathered;
 ghost use Rattle.validate.specs.Faults as faults;
-ghost use Rattle.validate.specs.Faults.{Clear};
 ghost use Rattle.tree.specs.Doors.{Rooms};
 ghost use Rattle.parse.specs.Verdict.{Kept, Parsed};
 ghost use Rattle.validate.specs.Validated.{validating, Told};
 
-// What the rules ask of an entry: its mark, the packages it uses, and whether it lies in the first partition.
+// An entry read once: its record's fault, 0 for none; and what the rules ask of it: its mark, the packages it uses, and whether it lies in the first partition.
 pub struct Entry {
+    pub fault: u32,
     pub mark: Mark,
     pub pair: Pair,
     pub first: bool,
@@ -96,22 +96,21 @@ fn check_first(first: bool) -> Refusal
     parse::told(4, 70, 0)
 }
 
-// 60 to 70, behind the components' own rules.
+// 60 to 70: the packages of all entries, the applications' own rules, the first partition.
 fn check_behind(
     tree: &[u8],
     store: &[u8],
     made: usize,
-    items: [Partition; 32],
-    count: usize,
-    c: Gathered,
+    components: usize,
+    first: bool,
+    a: Gathered,
 ) -> Refusal
-    requires { ⌜ gathered.Ready (now tree) (now store) made count × gathered.Few c ⌝ }
-    ensures { λ r. ⌜ faults.Behind (now (tree .entry)) (now (store .entry)) made (map (partName (now (store .entry))) (take count items)) c r ⌝ }
+    requires { ⌜ faults.Using (now tree) made components (a .count) ⌝ }
+    ensures { λ r. ⌜ r ≡ faults.gatheredFault (now (tree .entry)) (now (store .entry)) made components first a ⌝ }
 {
-    let a = gather::applications(tree, store, made, items, count, c);
     let pairs = a.pairs;
     let marks = a.marks;
-    let b = check_uses(tree, store, made, pairs, c.count, a.count);
+    let b = check_uses(tree, store, made, pairs, components, a.count);
     if b.number != 0 {
         return b;
     }
@@ -119,72 +118,109 @@ fn check_behind(
     if d.number != 0 {
         return d;
     }
-    check_first(c.first)
+    check_first(first)
 }
 
-// 50 to 70.
-fn check_lists(
+// The applications, then what rules refuse: those judged so far, and 60 to 70.
+fn judge_applications(
     tree: &[u8],
     store: &[u8],
     made: usize,
     items: [Partition; 32],
     count: usize,
+    c: Gathered,
+    rules: Refusal,
 ) -> Refusal
-    requires { ⌜ gathered.Ready (now tree) (now store) made count ⌝ }
-    ensures { λ r. ⌜ r ≡ faults.listsFault (now (tree .entry)) (now (store .entry)) made (map (partName (now (store .entry))) (take count items)) ⌝ }
+    requires { ⌜ Rooms (now tree) made × (count ≤ 32) × gathered.Few c ⌝ }
+    ensures { λ r. ⌜ r ≡ faults.applicationsJudged (now (tree .entry)) (now (store .entry)) made (map (partName (now (store .entry))) (take count items)) rules (c .count) (take (c .count) (c .pairs)) (c .first) ⌝ }
 {
-    let c = gather::components(tree, store, made, items, count);
-    let marks = c.marks;
-    let a = check_components(store, marks, c.count);
+    let l = parse::view::application_list(tree, store, made);
+    let cs = c.count;
+    let first = c.first;
+    let a = gather::each_application(tree, store, made, l.place, l.end, items, count, c);
+    let fault = a.fault;
+    let b = parse::earlier(parse::in_section(5, l.fault), fault);
+    if b.number != 0 {
+        return b;
+    }
+    if rules.number != 0 {
+        return rules;
+    }
+    check_behind(tree, store, made, cs, first, a)
+}
+
+// 25, where a list has more entries than 64.
+fn check_length(section: u32, n: usize) -> Refusal
+    ensures { λ r. ⌜ r ≡ faults.lengthFault section n ⌝ }
+{
+    if 64 < n {
+        return parse::told(section, 25, 64);
+    }
+    parse::told(0, 0, 0)
+}
+
+// The components, 50 to 59 beside the rules judged so far, and the applications.
+fn judge_components(
+    tree: &[u8],
+    store: &[u8],
+    made: usize,
+    items: [Partition; 32],
+    count: usize,
+    rules: Refusal,
+) -> Refusal
+    requires { ⌜ Rooms (now tree) made × (count ≤ 32) ⌝ }
+    ensures { λ r. ⌜ r ≡ faults.componentsJudged (now (tree .entry)) (now (store .entry)) made (map (partName (now (store .entry))) (take count items)) rules ⌝ }
+{
+    let l = parse::view::component_list(tree, store, made);
+    let n = tree::count(tree, l.end, l.place);
+    let a = parse::earlier(parse::in_section(4, l.fault), check_length(4, n));
     if a.number != 0 {
         return a;
     }
-    check_behind(tree, store, made, items, count, c)
+    let c = gather::each_component(tree, store, made, l.place, l.end, items, count);
+    let b = c.fault;
+    if b.number != 0 {
+        return b;
+    }
+    let marks = c.marks;
+    let own = parse::earlier(rules, check_components(store, marks, c.count));
+    judge_applications(tree, store, made, items, count, c, own)
 }
 
-// 40 to 70.
-fn check_layout(tree: &[u8], store: &[u8], made: usize, name: &[u8], chip: Chip) -> Refusal
-    requires { ⌜ Clear (now tree) (now store) made (now name) ⌝ }
-    ensures { λ r. ⌜ r ≡ faults.layoutFault (now (tree .entry)) (now (store .entry)) made chip ⌝ }
+// The partitions, 40 to 48 beside the rules judged so far, and the lists behind.
+fn judge_partitions(tree: &[u8], store: &[u8], made: usize, chip: Chip, rules: Refusal) -> Refusal
+    requires { ⌜ Rooms (now tree) made ⌝ }
+    ensures { λ r. ⌜ r ≡ faults.partitionsJudged (now (tree .entry)) (now (store .entry)) made chip rules ⌝ }
 {
     let l = parse::view::partition_list(tree, store, made);
     let p = parse::entry::read_partitions(tree, store, made, l, 32);
+    let fault = p.fault;
+    let b = parse::earlier(parse::in_section(3, l.fault), fault);
+    if b.number != 0 {
+        return b;
+    }
     let items = p.items;
     let count = p.count;
-    let a = in_entry(3, layout::check(store, items, count, chip));
-    if a.number != 0 {
-        return a;
-    }
-    check_lists(tree, store, made, items, count)
+    let own = parse::earlier(rules, in_entry(3, layout::check(store, items, count, chip)));
+    judge_components(tree, store, made, items, count, own)
 }
 
-// The first rule that refuses, in 01's order.
-fn check(tree: &[u8], store: &[u8], made: usize, name: &[u8]) -> Refusal
-    requires { ⌜ Clear (now tree) (now store) made (now name) ⌝ }
-    ensures { λ r. ⌜ r ≡ faults.verdict (now (tree .entry)) (now (store .entry)) made (now (name .entry)) ⌝ }
-{
-    let root = tree::fields_at(tree, made, 1);
-    let f = parse::front::read_front(tree, store, made, root, parse::lent_name(name));
-    let board = f.board;
-    let image = f.image;
-    let a = front::check(store, name, board, image);
-    if a.number != 0 {
-        return a;
-    }
-    let chip = board.chip;
-    check_layout(tree, store, made, name, chip)
-}
-
-// The first refusal of the records, then of the rules.
+// The first refusal of the records, then of the rules: each entry is read once, and what rules say of it waits for the last record.
 pub fn judge(tree: &[u8], store: &[u8], made: usize, name: &[u8]) -> Refusal
     requires { ⌜ Rooms (now tree) made ⌝ }
     ensures { λ r. ⌜ Told (validating (now (name .entry)) (now (tree .entry)) (now (store .entry)) made) r ⌝ }
 {
-    let v = parse::check(tree, store, made, name, meaning::of01());
-    if v.number != 0 {
-        return v;
+    let root = tree::fields_at(tree, made, 1);
+    let f = parse::front::read_front(tree, store, made, root, parse::lent_name(name));
+    let fault = f.fault;
+    if fault.number != 0 {
+        return fault;
     }
-    check(tree, store, made, name)
+    let board = f.board;
+    let image = f.image;
+    let chip = board.chip;
+    let rules = front::check(store, name, board, image);
+    judge_partitions(tree, store, made, chip, rules)
 }
 
 // What the judge leaves of the rooms.

@@ -12,12 +12,82 @@ ghost use Rattle.tree.specs.Doors.{Rooms};
 ghost use Rattle.layout.specs.Marks.{firstHit};
 ghost use Rattle.validate.specs.Clashes as clashes;
 
+// A package or a feature list by where it is, in few bytes, since tables of them are handed on. kind 0: absent; 1: len bytes of the store; 2: the items of the array at place `from`.
+pub struct Spot {
+    pub kind: u16,
+    pub from: u16,
+    pub len: u16,
+}
+
 // An entry's packages with the features that they are to have.
 pub struct Pair {
-    pub package: Text,
-    pub features: Features,
-    pub pbp_package: Text,
-    pub pbp_features: Features,
+    pub package: Spot,
+    pub features: Spot,
+    pub pbp_package: Spot,
+    pub pbp_features: Spot,
+}
+
+pub fn no_spot() -> Spot
+    ensures { λ r. ⌜ r ≡ clashes.noSpot ⌝ }
+{
+    Spot {
+        kind: 0,
+        from: 0,
+        len: 0,
+    }
+}
+
+fn bytes_spot(from: usize, len: usize) -> Spot
+    ensures { λ r. ⌜ r ≡ clashes.bytesSpot from len ⌝ }
+{
+    Spot {
+        kind: 1,
+        from: (from % 65536) as u16,
+        len: (len % 65536) as u16,
+    }
+}
+
+// No text of the store is longer.
+fn text_spot(t: Text) -> Spot
+    ensures { λ r. ⌜ r ≡ clashes.textSpot t ⌝ }
+{
+    match t {
+        Text::Absent => no_spot(),
+        Text::Stored { from, len } => bytes_spot(from, len),
+        Text::Lent => no_spot(),
+        Text::Fixed(_) => no_spot(),
+        Text::WithAic { from: _, len: _ } => no_spot(),
+    }
+}
+
+fn list_spot(f: Features) -> Spot
+    ensures { λ r. ⌜ r ≡ clashes.listSpot f ⌝ }
+{
+    match f {
+        Features::Absent => no_spot(),
+        Features::Words { from, len } => bytes_spot(from, len),
+        Features::Items(place) => Spot {
+            kind: 2,
+            from: place,
+            len: 0,
+        },
+    }
+}
+
+// The feature list at a spot.
+fn list_at(s: Spot) -> Features
+    ensures { λ r. ⌜ r ≡ clashes.listAt s ⌝ }
+{
+    if s.kind == 1 {
+        return Features::Words {
+            from: s.from as usize,
+            len: s.len as usize,
+        };
+    }
+    if s.kind == 2 {
+        return Features::Items(s.from);
+    }
+    Features::Absent
 }
 
 // Whether both are there and have the same bytes.
@@ -36,21 +106,29 @@ pub fn twice(store: &[u8], p: Text, q: Text) -> bool
     false
 }
 
+// The same of two spots.
+fn agree(store: &[u8], p: Spot, q: Spot) -> bool
+    ensures { λ r. ⌜ r ≡ meant.twice (clashes.spotted (now (store .entry)) p) (clashes.spotted (now (store .entry)) q) ⌝ }
+{
+    if p.kind == 1 {
+        if q.kind == 1 {
+            return slices::same(
+                schema::stored(store, p.from as usize, p.len as usize),
+                schema::stored(store, q.from as usize, q.len as usize),
+            );
+        }
+        return false;
+    }
+    false
+}
+
 // Whether it is one package with two feature sets.
-fn differ(
-    tree: &[u8],
-    store: &[u8],
-    made: usize,
-    p: Text,
-    f: Features,
-    q: Text,
-    g: Features,
-) -> bool
+fn differ(tree: &[u8], store: &[u8], made: usize, p: Spot, f: Spot, q: Spot, g: Spot) -> bool
     requires { ⌜ Rooms (now tree) made ⌝ }
     ensures { λ r. ⌜ r ≡ clashes.differ (now (tree .entry)) (now (store .entry)) made p f q g ⌝ }
 {
-    if twice(store, p, q) {
-        return !features::equal(tree, store, made, f, g);
+    if agree(store, p, q) {
+        return !features::equal(tree, store, made, list_at(f), list_at(g));
     }
     false
 }
@@ -81,15 +159,15 @@ fn clash(tree: &[u8], store: &[u8], made: usize, a: Pair, b: Pair) -> bool
 }
 
 // Whether an entry uses a package.
-fn has(store: &[u8], p: Text, b: Pair) -> bool
+fn has(store: &[u8], p: Spot, b: Pair) -> bool
     ensures { λ r. ⌜ r ≡ clashes.has (now (store .entry)) p b ⌝ }
 {
     let q = b.package;
     let q2 = b.pbp_package;
-    if twice(store, p, q) {
+    if agree(store, p, q) {
         return true;
     }
-    twice(store, p, q2)
+    agree(store, p, q2)
 }
 
 // Whether two entries use one package.
@@ -105,11 +183,11 @@ fn meet(store: &[u8], a: Pair, b: Pair) -> bool
 }
 
 // A package that an entry does not use; none where it does.
-fn unmet(store: &[u8], p: Text, b: Pair) -> Text
+fn unmet(store: &[u8], p: Spot, b: Pair) -> Spot
     ensures { λ r. ⌜ r ≡ clashes.unmet (now (store .entry)) p b ⌝ }
 {
     if has(store, p, b) {
-        return Text::Absent;
+        return no_spot();
     }
     p
 }
@@ -162,6 +240,17 @@ pub fn first_clash(
     found
 }
 
+fn spots(package: Text, features: Features, pbp_package: Text, pbp_features: Features) -> Pair
+    ensures { λ r. ⌜ r ≡ clashes.spots «package» features «pbp_package» «pbp_features» ⌝ }
+{
+    Pair {
+        package: text_spot(package),
+        features: list_spot(features),
+        pbp_package: text_spot(pbp_package),
+        pbp_features: list_spot(pbp_features),
+    }
+}
+
 // "Where a component's `pbp_package` is its `package`, only `pbp_features` count."
 pub fn pair_of(store: &[u8], c: Component) -> Pair
     ensures { λ r. ⌜ r ≡ clashes.pairOf (now (store .entry)) c ⌝ }
@@ -174,28 +263,23 @@ pub fn pair_of(store: &[u8], c: Component) -> Pair
     let pbp_package = boot.pbp_package;
     let pbp_features = role.pbp_features;
     if twice(store, package, pbp_package) {
-        return Pair {
-            package: package,
-            features: pbp_features,
-            pbp_package: pbp_package,
-            pbp_features: pbp_features,
-        };
+        return spots(package, pbp_features, pbp_package, pbp_features);
     }
-    Pair {
-        package: package,
-        features: features,
-        pbp_package: pbp_package,
-        pbp_features: pbp_features,
-    }
+    spots(package, features, pbp_package, pbp_features)
 }
 
-pub fn single(package: Text, features: Features) -> Pair
-    ensures { λ r. ⌜ r ≡ clashes.single «package» features ⌝ }
+// An application's package is its key.
+pub fn single(key: u16, len: u16, features: Features) -> Pair
+    ensures { λ r. ⌜ r ≡ clashes.single key len features ⌝ }
 {
     Pair {
-        package: package,
-        features: features,
-        pbp_package: Text::Absent,
-        pbp_features: Features::Absent,
+        package: Spot {
+            kind: 1,
+            from: key,
+            len: len,
+        },
+        features: list_spot(features),
+        pbp_package: no_spot(),
+        pbp_features: no_spot(),
     }
 }

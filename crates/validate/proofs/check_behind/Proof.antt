@@ -1,5 +1,5 @@
-use Rattle.validate.proofs.Judging.{uses-fit, applications-fit, behind-uses, behind-applications, behind-first}
 use borrow.Author.Needs.{needs}
+use Rattle.validate.proofs.Judging.{behind-applications, behind-first, behind-uses}
 use Rattle.validate.proofs.check_behind.Statement.{statement}
 use Rattle.validate.proofs.check_behind.Tie as tie
 use Rattle.validate.proofs.check_behind.Reads as reads
@@ -7,29 +7,24 @@ use Rattle.validate.proofs.check_behind.Lts as lts
 use Rattle.validate.proofs.check_applications.Reads as check-applications-reads
 use Rattle.validate.proofs.check_first.Reads as check-first-reads
 use Rattle.validate.proofs.check_uses.Reads as check-uses-reads
-use Rattle.validate.proofs.gather.applications.Reads as applications-reads
 
--- src/lib.rt:111:9
-applications-requires : tie.Need-applications-requires
-applications-requires c κs = search needs
-
--- src/lib.rt:114:9
+-- src/lib.rt:113:9
 check-uses-requires : tie.Need-check-uses-requires
-check-uses-requires c κs = search (needs, uses-fit)
+check-uses-requires c κs = search needs
 
--- src/lib.rt:116:9
+-- src/lib.rt:115:9
 returns : tie.Need-returns
 returns c = search (needs, behind-uses)
 
--- src/lib.rt:118:9
+-- src/lib.rt:117:9
 check-applications-requires : tie.Need-check-applications-requires
-check-applications-requires c κs = search (needs, applications-fit)
+check-applications-requires c κs = search needs
 
--- src/lib.rt:120:9
+-- src/lib.rt:119:9
 returns-2 : tie.Need-returns-2
 returns-2 c = search (needs, behind-applications)
 
--- src/lib.rt:122:5
+-- src/lib.rt:121:5
 check-first-requires : tie.Need-check-first-requires
 check-first-requires c κs = search needs
 
@@ -41,7 +36,6 @@ pub check-behind-spec : {M : Type 1} → statement M
 check-behind-spec =
     tie.close
     (tie.spec
-    applications-requires
     check-uses-requires
     returns
     check-applications-requires

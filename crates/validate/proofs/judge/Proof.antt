@@ -1,33 +1,52 @@
-use Rattle.validate.proofs.Judging.{reading-told, reading-clear, rules-told}
-use Rattle.parse.proofs.Judging.{limits-judging}
 use borrow.Author.Needs.{needs}
+use Rattle.parse.proofs.Judging.{root-spread}
+use Rattle.validate.proofs.Judging.{all-told, front-fronted, front-told}
 use Rattle.validate.proofs.judge.Statement.{statement}
 use Rattle.validate.proofs.judge.Tie as tie
 use Rattle.validate.proofs.judge.Reads as reads
 use Rattle.validate.proofs.judge.Lts as lts
-use Rattle.meaning.proofs.of01.Reads as of01-reads
-use Rattle.parse.proofs.check.Reads as check-reads
-use Rattle.validate.proofs.check.Reads as check-reads′
+use Rattle.parse.proofs.front.read_front.Reads as read-front-reads
+use Rattle.parse.proofs.lent_name.Reads as lent-name-reads
+use Rattle.tree.proofs.fields_at.Reads as fields-at-reads
+use Rattle.validate.proofs.front.check.Reads as check-reads
+use Rattle.validate.proofs.judge_partitions.Reads as judge-partitions-reads
 
--- src/lib.rt:183:51
-of01-requires : tie.Need-of01-requires
-of01-requires c κs = search needs
+-- src/lib.rt:213:9
+fields-at-requires : tie.Need-fields-at-requires
+fields-at-requires c κs = search needs
 
--- src/lib.rt:183:9
-check-requires : tie.Need-check-requires
-check-requires c κs = search (needs, limits-judging)
+-- src/lib.rt:214:63
+lent-name-requires : tie.Need-lent-name-requires
+lent-name-requires c κs = search needs
 
--- src/lib.rt:185:9
+-- src/lib.rt:214:9
+read-front-requires : tie.Need-read-front-requires
+read-front-requires c κs = search (needs, root-spread)
+
+-- src/lib.rt:217:9
 returns : tie.Need-returns
-returns c = search (needs, reading-told)
+returns c = search (needs, front-told)
 
--- src/lib.rt:187:5
-check-requires-2 : tie.Need-check-requires-2
-check-requires-2 c κs = search (needs, reading-clear)
+-- src/lib.rt:222:9
+check-requires : tie.Need-check-requires
+check-requires c κs = search (needs, front-fronted)
 
--- src/lib.rt:179:1
+-- src/lib.rt:223:5
+judge-partitions-requires : tie.Need-judge-partitions-requires
+judge-partitions-requires c κs = search needs
+
+-- src/lib.rt:209:1
 returns-2 : tie.Need-returns-2
-returns-2 c = search (needs, rules-told)
+returns-2 c = search (needs, all-told)
 
 pub judge-spec : {M : Type 1} → statement M
-judge-spec = tie.close (tie.spec of01-requires check-requires returns check-requires-2 returns-2)
+judge-spec =
+    tie.close
+    (tie.spec
+    fields-at-requires
+    lent-name-requires
+    read-front-requires
+    returns
+    check-requires
+    judge-partitions-requires
+    returns-2)

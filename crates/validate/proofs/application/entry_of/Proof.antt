@@ -9,7 +9,6 @@ use Rattle.schema.proofs.Text.start.Reads as start-reads
 use Rattle.validate.proofs.application.address_fault.Reads as address-fault-reads
 use Rattle.validate.proofs.application.aim.Reads as aim-reads
 use Rattle.validate.proofs.application.early_fault.Reads as early-fault-reads
-use Rattle.validate.proofs.uses.single.Reads as single-reads
 
 aim-requires : tie.Need-aim-requires
 aim-requires c κs = search needs
@@ -26,9 +25,6 @@ early-fault-requires c κs = search needs
 address-fault-requires : tie.Need-address-fault-requires
 address-fault-requires c κs = search needs
 
-single-requires : tie.Need-single-requires
-single-requires c κs = search needs
-
 returns : tie.Need-returns
 returns c = search (needs, application-done)
 
@@ -41,5 +37,4 @@ entry-of-spec =
     length-requires
     early-fault-requires
     address-fault-requires
-    single-requires
     returns)

@@ -44,7 +44,14 @@ in-first-requires : tie.Need-in-first-requires
 in-first-requires c κs = search needs
 
 returns : tie.Need-returns
-returns c = search (needs, component-done)
+returns c =
+    let d = c .before in
+    let l = d .before in
+    let a = l .before .before .before in
+    let f = a .before .before .before in
+    let z = f .before .before .before .before .before in
+    component-done _ _ _ _ _ (z .pre) (search (needs, z .good .1 .1 .1 .0)) _ _ _ _ _ _ _ _ _ _ (f .before .reference .ensures) (f .find .ensures) (a .before .before .start .ensures)
+    (a .before .length .ensures) (a .stored .ensures) (l .before .before .start2 .ensures) (l .before .length2 .ensures) (l .late-fault .ensures) (d .pair-of .ensures) (c .in-first .ensures)
 
 pub entry-of-spec : {M : Type 1} → statement M
 entry-of-spec =

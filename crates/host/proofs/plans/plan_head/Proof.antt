@@ -1,0 +1,28 @@
+use Rattle.host.proofs.Plotting.{head-planned}
+use borrow.Author.Needs.{needs}
+use Rattle.host.proofs.plans.plan_head.Statement.{statement}
+use Rattle.host.proofs.plans.plan_head.Tie as tie
+use Rattle.host.proofs.plans.plan_head.Reads as reads
+use Rattle.host.proofs.plans.plan_head.Lts as lts
+use Rattle.host.proofs.plans.planned_at.Reads as planned-at-reads
+use Rattle.host.proofs.plans.spec_of.Reads as spec-of-reads
+use Rattle.host.proofs.records.head_of.Reads as head-of-reads
+
+-- src/plans.rt:115:21
+planned-at-requires : tie.Need-planned-at-requires
+planned-at-requires c κs = search needs
+
+-- src/plans.rt:115:13
+spec-of-requires : tie.Need-spec-of-requires
+spec-of-requires c κs = search needs
+
+-- src/plans.rt:115:5
+head-of-requires : tie.Need-head-of-requires
+head-of-requires c κs = search needs
+
+-- src/plans.rt:104:1
+returns : tie.Need-returns
+returns c = search (needs, head-planned)
+
+pub plan-head-spec : {M : Type 1} → statement M
+plan-head-spec = tie.close (tie.spec planned-at-requires spec-of-requires head-of-requires returns)

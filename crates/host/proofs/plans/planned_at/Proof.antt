@@ -1,0 +1,34 @@
+use Rattle.parse.proofs.Judging.{sound-rooms}
+use Rattle.host.proofs.Plotting.{component-planned, no-component}
+use borrow.Author.Needs.{needs}
+use Rattle.host.proofs.plans.planned_at.Statement.{statement}
+use Rattle.host.proofs.plans.planned_at.Tie as tie
+use Rattle.host.proofs.plans.planned_at.Reads as reads
+use Rattle.host.proofs.plans.planned_at.Lts as lts
+use Rattle.parse.proofs.view.sound.Reads as sound-reads
+use Rattle.plan.proofs.choice.choose.Reads as choose-reads
+use Rattle.plan.proofs.component.component.Reads as component-reads
+
+-- src/plans.rt:83:8
+sound-requires : tie.Need-sound-requires
+sound-requires c κs = search needs
+
+-- src/plans.rt:84:13
+choose-requires : tie.Need-choose-requires
+choose-requires c κs = search (needs, sound-rooms)
+
+-- src/plans.rt:85:9
+component-requires : tie.Need-component-requires
+component-requires c κs = search (needs, sound-rooms)
+
+-- src/plans.rt:85:9
+returns : tie.Need-returns
+returns c = search (needs, component-planned)
+
+-- src/plans.rt:73:1
+returns-2 : tie.Need-returns-2
+returns-2 c = search (needs, no-component)
+
+pub planned-at-spec : {M : Type 1} → statement M
+planned-at-spec =
+    tie.close (tie.spec sound-requires choose-requires component-requires returns returns-2)

@@ -1,0 +1,210 @@
+-- An accepted plan: what the views read from its rooms is 01's plan.
+use Prim.Native.Nat.{ℕ, zero, suc, _≤_, _<_}
+use mathlib.Core.List.{List, [], _∷_, map}
+use mathlib.Core.Option.{Option, none, some}
+use mathlib.Core.Path.{_≡_, refl, sym, ap, subst, _∙_}
+use native.Mathlib.Omega.{arith}
+use borrow.Author.Tests.{ltb-true, ltb-false}
+use lib.Dec.{ltb}
+use lib.ListN.{length, getD, length-map}
+use Rattle.meaning.specs.Base.{nil?}
+use Rattle.meaning.specs.Limits.{of01}
+use Rattle.meaning.specs.Refusal.{Answer, accepted, refused, after}
+use Rattle.meaning.specs.Schema as schemas
+use Rattle.meaning.specs.Preset.{Read}
+use Rattle.meaning.specs.Plan as meant
+use Rattle.laws.specs.Answers.{accepted-one, after-accepted}
+use Rattle.laws.specs.Cases.{on}
+use Rattle.tree.specs.Doors.{fieldsOf}
+use Rattle.parse.specs.Answers.{accepted-says}
+use Rattle.parse.specs.Entries.{componentAt}
+use Rattle.parse.specs.Given as given
+use Rattle.parse.specs.Given.{entryAt}
+use Rattle.parse.specs.Refused.{lentText}
+use Rattle.parse.specs.Whole.{Clear, presetMeant, componentOf, applicationOf}
+use Rattle.validate.specs.Gathered.{components}
+use Rattle.plan.specs.declared.choice.Choice.{Choice}
+use Rattle.plan.specs.declared.choice.Choice.the-variants as choices
+use Rattle.plan.specs.declared.component.Build.{Build}
+use Rattle.plan.specs.declared.builds.BuildFound.{BuildFound}
+use Rattle.plan.specs.declared.builds.BuildFound.the-variants as builds
+use Rattle.plan.specs.Choices.{choice, fault}
+use Rattle.plan.specs.ChoiceSaid.{selection, selected, plan-says}
+use Rattle.plan.specs.Planned as composed
+use Rattle.plan.specs.PlannedSaid.{foundMeant, buildMeant, componentsMeant, chosenMeant, Met, composition, composition-means}
+use Rattle.plan.specs.Builds as needed
+use Rattle.plan.specs.BuildsSaid.{applicationChosen, builds-say}
+use Rattle.host.specs.declared.documents.Outcome.{Outcome}
+use Rattle.host.specs.Presets.{Records, Recorded, Answered, validated}
+use Rattle.host.specs.Plans.{planned, chosen, component, buildOf, buildShown, countsShown}
+
+-- ---- 01's plan of a text
+
+module _ (text name : List ℕ) (app : ℕ) (key store tree : List ℕ) where
+  -- 01's answer to a text, a lent name, a selection and rooms of these lengths
+  abbrev pub plan : Answer meant.Planned
+  plan = meant.plan of01 32 (length store) (length tree) name (selection app key) text
+
+  -- the records of a plan are those of what was read
+  pub planned-read : planned text name app key store tree ≡ after plan (λ x. accepted (x .read))
+  unfolding meant.plan
+  planned-read = go (validated text name store tree)
+    where
+      made : (r : Read) (a : Answer meant.Plan)
+          → after {Y = Read} a (λ p. accepted r) ≡ after {Y = Read} (after {Y = meant.Planned} a (λ p. accepted (record { read = r; plan = p }))) (λ x. accepted (x .read))
+      made r (accepted p) = refl
+      made r (refused f s n) = refl
+
+      go : (v : Answer Read)
+          → after {Y = Read} v (λ r. after {Y = Read} (meant.planOf (r .preset) (selection app key)) (λ p. accepted r))
+          ≡ after {Y = Read} (after {Y = meant.Planned} v (λ r. after {Y = meant.Planned} (meant.planOf (r .preset) (selection app key)) (λ p. accepted (record { read = r; plan = p })))) (λ x. accepted (x .read))
+      go (accepted r) = made r (meant.planOf (r .preset) (selection app key))
+      go (refused f s n) = refl
+
+  plan-by : (p : Read) (q : meant.Plan) → validated text name store tree ≡ accepted p → meant.planOf (p .preset) (selection app key) ≡ accepted q → plan ≡ accepted (record { read = p; plan = q })
+  unfolding meant.plan
+  plan-by p q v m = rw (v, m)
+
+  -- where there are records there is a plan of them
+  pub planned-made : (p : Read) → planned text name app key store tree ≡ accepted p
+      → (q : meant.Plan) × (meant.planOf (p .preset) (selection app key) ≡ accepted q) × (plan ≡ accepted (record { read = p; plan = q }))
+  planned-made p e =
+      let r = after-accepted (λ (r : Read). after {Y = Read} (meant.planOf (r .preset) (selection app key)) (λ q. accepted r)) (validated text name store tree) p e in
+      let q = after-accepted {Y = Read} (λ (q : meant.Plan). accepted (r .0)) (meant.planOf (r .0 .preset) (selection app key)) p (r .2) in
+      let d : r .0 ≡ p = accepted-one (r .0) p (q .2) in
+      let v : validated text name store tree ≡ accepted p = r .1 ∙ ap accepted d in
+      let m : meant.planOf (p .preset) (selection app key) ≡ accepted (q .0) = subst (λ (x : Read). meant.planOf (x .preset) (selection app key) ≡ accepted (q .0)) d (q .1) in
+      (q .0, m, plan-by p (q .0) v m)
+
+-- ---- what the rooms of a plan show
+
+module _ (room store : List ℕ) (made : ℕ) (name : List ℕ) where
+  abbrev pub builtMeant : BuildFound → Option meant.Build
+  builtMeant builds.Nothing = none
+  builtMeant (builds.At b) = some (buildMeant room store made name b)
+
+-- components and builds by number, and how many there are
+pub record Composed (name store tree : List ℕ) (app : ℕ) (key : List ℕ) (made : ℕ) (q : meant.Plan) : Type 0 where
+  pub components : (i : ℕ) → foundMeant tree store made name (component tree store made app key i) ≡ entryAt (q .components) i
+  pub builds : (i : ℕ) → builtMeant tree store made name (needed.build tree store made (chosen tree store made app key) i) ≡ entryAt (q .builds) i
+  pub built : (i : ℕ) → buildShown tree store made app key i ≡ buildOf (needed.build tree store made (chosen tree store made app key) i)
+  pub counts : countsShown tree store made app key ≡ record { components = length (q .components); builds = length (q .builds) }
+
+-- ---- lists
+
+entry-got : {X Y : Type 0} (f : X → Y) (xs : List X) (i : ℕ) (d : X) → i < length xs → some (f (getD xs i d)) ≡ entryAt (map f xs) i
+entry-got f [] i d h = absurd (omega arith)
+entry-got f (x ∷ xs) zero d h = refl
+entry-got f (x ∷ xs) (suc i) d h = entry-got f xs i d (omega arith)
+
+entry-past : {X Y : Type 0} (f : X → Y) (xs : List X) (i : ℕ) → length xs ≤ i → none ≡ entryAt (map f xs) i
+entry-past f [] i h = refl
+entry-past f (x ∷ xs) zero h = absurd (omega arith)
+entry-past f (x ∷ xs) (suc i) h = entry-past f xs i (omega arith)
+
+ahead-length : (a : schemas.Component) (cs : List schemas.Component) → length (meant.ahead a cs) ≡ suc (length cs)
+ahead-length a [] = refl
+ahead-length a (c ∷ cs) = on (nil? (c .role .partition)) (λ t. rw t (ap suc (ahead-length a cs))) (λ t. rw t)
+
+-- ---- a choice that is met
+
+module _ (room store : List ℕ) (made : ℕ) (name : List ℕ) where
+  clear-met : (c : Choice) → fault room store made c .number ≡ 0 → Met room store made name c
+  clear-met choices.BootChain e = tt
+  clear-met choices.Undeclared e = absurd (omega (arith, e))
+  clear-met (choices.At place n) e = tt
+
+  same-chosen : (c : Choice) → chosenMeant room store made name c ≡ selected room store made name c
+  same-chosen choices.BootChain = refl
+  same-chosen choices.Undeclared = refl
+  same-chosen (choices.At place n) = refl
+
+  same-built : (c : Choice) → applicationChosen room store made name c ≡ selected room store made name c
+  same-built choices.BootChain = refl
+  same-built choices.Undeclared = refl
+  same-built (choices.At place n) = refl
+
+  build-means : (c : Choice) (i : ℕ) → builtMeant room store made name (needed.build room store made c i) ≡ entryAt (map (buildMeant room store made name) (needed.buildsOf room store made c)) i
+  unfolding needed.build
+  build-means c i =
+      let bs : List Build = needed.buildsOf room store made c in
+      on (ltb i (length bs))
+      (λ t. rw t (entry-got (buildMeant room store made name) bs i needed.blank (ltb-true i (length bs) t)))
+      (λ t. rw t (entry-past (buildMeant room store made name) bs i (ltb-false i (length bs) t)))
+
+  count-means : (c : Choice) → Met room store made name c → composed.count room store made c ≡ length (composition room store made name c)
+  unfolding meant.composition
+  count-means choices.BootChain h =
+      let cs = componentsMeant room store made name in
+      sym (length-map cs meant.planned ∙ length-map (components room store made) (componentOf room store made name 32))
+  count-means choices.Undeclared h = absurd h
+  count-means (choices.At place n) h =
+      let cs = componentsMeant room store made name in
+      let a : schemas.Component = meant.componentOf (applicationOf room store made name 32 n) in
+      omega (arith, length-map (meant.ahead a cs) meant.planned, ahead-length a cs, length-map (components room store made) (componentOf room store made name 32))
+
+-- ---- the plan of the rooms
+
+module _ (name store tree : List ℕ) (app : ℕ) (key : List ℕ) (p : Read) (h : Recorded name store tree p) (q : meant.Plan)
+    (e : meant.planOf (p .preset) (selection app key) ≡ accepted q) where
+  abbrev made : ℕ
+  made = p .parsed .made
+
+  abbrev c : Choice
+  c = choice tree store made app key
+
+  says : (fault tree store made c .number ≡ 0)
+      × (meant.composed (presetMeant tree store made name (fieldsOf tree made 1) of01 (lentText name)) (selection app key) (selected tree store made name c) ≡ q)
+  says =
+      accepted-says (meant.planOf (presetMeant tree store made name (fieldsOf tree made 1) of01 (lentText name)) (selection app key)) (fault tree store made c) q
+      (meant.composed (presetMeant tree store made name (fieldsOf tree made 1) of01 (lentText name)) (selection app key) (selected tree store made name c))
+      (plan-says tree store made name app key) (rw (h .records) e)
+
+  met : Met tree store made name c
+  met = clear-met tree store made name c (says .0)
+
+  clear : Clear (λ n. componentAt tree store made n 32 .fault) (components tree store made)
+  clear = given.components-clear tree store made (fieldsOf tree made 1) of01 (lentText name) (h .clear)
+
+  few : length (components tree store made) ≤ 64
+  few = given.components-few tree store made (fieldsOf tree made 1) of01 (lentText name) (h .clear)
+
+  components-are : composition tree store made name c ≡ q .components
+  unfolding meant.composed
+  components-are =
+      ap (λ (a : Option schemas.Application). map meant.planned (meant.composition a (componentsMeant tree store made name))) (same-chosen tree store made name c)
+      ∙ ap (λ (r : meant.Plan). r .components) (says .1)
+
+  builds-are : map (buildMeant tree store made name) (needed.buildsOf tree store made c) ≡ q .builds
+  unfolding meant.composed
+  builds-are =
+      builds-say tree store made name c few
+      ∙ ap (λ (a : Option schemas.Application). meant.buildsOf a (componentsMeant tree store made name)) (same-built tree store made name c)
+      ∙ ap (λ (r : meant.Plan). r .builds) (says .1)
+
+  pub plan-shown : Composed name store tree app key made q
+  plan-shown =
+      record {
+        components = λ i. rw (h .sound) (composition-means tree store made name clear c met i ∙ ap (λ (cs : List meant.PlannedComponent). entryAt cs i) components-are);
+        builds = λ i. build-means tree store made name c i ∙ ap (λ (bs : List meant.Build). entryAt bs i) builds-are;
+        built = λ i. rw (h .sound);
+        counts =
+            rw (
+              h .sound,
+              count-means tree store made name c met,
+              components-are,
+              sym (length-map (needed.buildsOf tree store made c) (buildMeant tree store made name)) ∙ ap (λ (bs : List meant.Build). length bs) builds-are,
+            );
+      }
+
+-- ---- all of it
+
+-- what a call leaves that plans: 01's plan, and its views
+pub planned-shown : (text name : List ℕ) (app : ℕ) (key store tree store' tree' : List ℕ) (r : Outcome) (p : Read)
+    → Answered (planned text name app key store tree) text name store tree store' tree' r → planned text name app key store tree ≡ accepted p
+    → (q : meant.Plan) × (plan text name app key store tree ≡ accepted (record { read = p; plan = q })) × (meant.planOf (p .preset) (selection app key) ≡ accepted q)
+    × Composed name store' tree' app key (p .parsed .made) q
+planned-shown text name app key store tree store' tree' r p g e =
+    let m = planned-made text name app key store tree p e in
+    let h : Recorded name store' tree' p = subst (Records name store' tree') e (g .shows) in
+    (m .0, m .2, m .1, plan-shown name store' tree' app key p h (m .0) (m .1))

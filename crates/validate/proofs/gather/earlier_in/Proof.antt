@@ -1,0 +1,30 @@
+use borrow.Author.Needs.{needs}
+use Rattle.validate.proofs.Gathering.{fault-here, fault-none, fault-so-far}
+use Rattle.validate.proofs.gather.earlier_in.Statement.{statement}
+use Rattle.validate.proofs.gather.earlier_in.Tie as tie
+use Rattle.validate.proofs.gather.earlier_in.Reads as reads
+use Rattle.validate.proofs.gather.earlier_in.Lts as lts
+use Rattle.parse.proofs.told.Reads as told-reads
+
+-- src/gather.rt:52:9
+returns : tie.Need-returns
+returns c = search (needs, fault-so-far)
+
+-- src/gather.rt:55:9
+told-requires : tie.Need-told-requires
+told-requires c κs = search needs
+
+-- src/gather.rt:55:9
+returns-2 : tie.Need-returns-2
+returns-2 c = search (needs, fault-here)
+
+-- src/gather.rt:57:5
+told-requires-2 : tie.Need-told-requires-2
+told-requires-2 c κs = search needs
+
+-- src/gather.rt:48:1
+returns-3 : tie.Need-returns-3
+returns-3 c = search (needs, fault-none)
+
+pub earlier-in-spec : {M : Type 1} → statement M
+earlier-in-spec = tie.close (tie.spec returns told-requires returns-2 told-requires-2 returns-3)

@@ -1,0 +1,56 @@
+use borrow.Author.Needs.{needs}
+use Rattle.validate.proofs.Judging.{applications-followed, applications-passed, applications-refused, rules-refused, uses-fit}
+use Rattle.validate.proofs.judge_applications.Statement.{statement}
+use Rattle.validate.proofs.judge_applications.Tie as tie
+use Rattle.validate.proofs.judge_applications.Reads as reads
+use Rattle.validate.proofs.judge_applications.Lts as lts
+use Rattle.parse.proofs.earlier.Reads as earlier-reads
+use Rattle.parse.proofs.in_section.Reads as in-section-reads
+use Rattle.parse.proofs.view.application_list.Reads as application-list-reads
+use Rattle.validate.proofs.check_behind.Reads as check-behind-reads
+use Rattle.validate.proofs.gather.each_application.Reads as each-application-reads
+
+-- src/lib.rt:137:9
+application-list-requires : tie.Need-application-list-requires
+application-list-requires c κs = search needs
+
+-- src/lib.rt:140:9
+each-application-requires : tie.Need-each-application-requires
+each-application-requires c κs = search (needs, applications-followed)
+
+-- src/lib.rt:142:28
+in-section-requires : tie.Need-in-section-requires
+in-section-requires c κs = search needs
+
+-- src/lib.rt:142:9
+earlier-requires : tie.Need-earlier-requires
+earlier-requires c κs = search needs
+
+-- src/lib.rt:144:9
+returns : tie.Need-returns
+returns c = search (needs, applications-refused)
+
+-- src/lib.rt:147:9
+returns-2 : tie.Need-returns-2
+returns-2 c = search (needs, rules-refused)
+
+-- src/lib.rt:149:5
+check-behind-requires : tie.Need-check-behind-requires
+check-behind-requires c κs = search (needs, uses-fit)
+
+-- src/lib.rt:125:1
+returns-3 : tie.Need-returns-3
+returns-3 c = search (needs, applications-passed)
+
+pub judge-applications-spec : {M : Type 1} → statement M
+judge-applications-spec =
+    tie.close
+    (tie.spec
+    application-list-requires
+    each-application-requires
+    in-section-requires
+    earlier-requires
+    returns
+    returns-2
+    check-behind-requires
+    returns-3)
