@@ -1,4 +1,5 @@
 //! A whole preset, rebuilt from the rooms through the views alone.
+use crate::plans::BuildView;
 use crate::records::{
     Amount, ApplicationView, BoardView, BootView, Bytes, FeatureList, FeatureView, HeadView,
     ImageView, LoadView, PartitionView, RoleView, Rooms, word,
@@ -104,13 +105,15 @@ pub struct AppSpec {
 /// was lent for reading.
 pub fn rebuild(rooms: Rooms, name: &[u8]) -> Result<Preset, String> {
     let counts = rooms.counts();
-    let (board, image) = (seen(rooms.board(name))?, seen(rooms.image())?);
+    let own = |i| (rooms.head(i), rooms.role(i), rooms.boot(i), rooms.load(i));
     Ok(Preset {
-        board: rooms.board_info(name, board.ok_or("no board")?)?,
-        image: rooms.image_info(image.ok_or("no image")?)?,
-        partitions: all(counts.partitions, |i| rooms.partition_spec(i))?,
-        components: all(counts.components, |i| rooms.component_spec(i))?,
-        apps: all(counts.applications, |i| rooms.app_spec(i))?,
+        board: rooms.board_info(name)?,
+        image: rooms.image_info()?,
+        partitions: rooms.partitions()?,
+        components: all(counts.components, ENTRIES_MAX, |i| {
+            rooms.component_spec(i, own(i))
+        })?,
+        apps: all(counts.applications, ENTRIES_MAX, |i| rooms.app_spec(i))?,
     })
 }
 
@@ -138,7 +141,8 @@ views!(
     BootView,
     LoadView,
     ApplicationView,
-    FeatureView
+    FeatureView,
+    BuildView
 );
 
 /// What is there; nothing, where all of the view is zero.
@@ -151,14 +155,15 @@ pub fn seen<V: View>(view: V) -> Result<Option<V>, String> {
 }
 
 // No list of an accepted preset has more entries.
-const ENTRIES_MAX: usize = 64;
+pub(crate) const ENTRIES_MAX: usize = 64;
 
 // As many entries as were counted, and none behind them.
-fn all<T>(
+pub(crate) fn all<T>(
     count: usize,
+    most: usize,
     entry: impl Fn(usize) -> Result<Option<T>, String>,
 ) -> Result<Vec<T>, String> {
-    if count > ENTRIES_MAX {
+    if count > most {
         return Err(format!("{count} entries"));
     }
     let each = (0..count).map(|i| entry(i)?.ok_or(format!("entry {i} of {count} is missing")));
@@ -217,12 +222,20 @@ impl Rooms<'_> {
         }
     }
 
-    fn text(&self, b: Bytes) -> Result<Vec<u8>, String> {
+    pub(crate) fn text(&self, b: Bytes) -> Result<Vec<u8>, String> {
         self.bytes(b)?.ok_or("a text is absent".into())
     }
 
+    // The same of a text that may be the lent name.
+    pub(crate) fn text_or_name(&self, b: Bytes, name: &[u8]) -> Result<Vec<u8>, String> {
+        match (b.kind, b.word, b.from, b.len) {
+            (2, 0, 0, 0) => Ok(name.to_vec()),
+            _ => self.text(b),
+        }
+    }
+
     // Items one behind the other; each above the last, so that the walk ends.
-    fn features(&self, list: FeatureList) -> Result<Vec<Vec<u8>>, String> {
+    pub(crate) fn features(&self, list: FeatureList) -> Result<Vec<Vec<u8>>, String> {
         if !matches!(
             (list.kind, list.from, list.len),
             (0, 0, 0) | (1, ..) | (2, _, 0)
@@ -241,30 +254,23 @@ impl Rooms<'_> {
         Ok(out)
     }
 
-    fn board_info(&self, name: &[u8], board: BoardView) -> Result<BoardInfo, String> {
-        const LENT: Bytes = Bytes {
-            kind: 2,
-            word: 0,
-            from: 0,
-            len: 0,
-        };
+    pub(crate) fn board_info(&self, name: &[u8]) -> Result<BoardInfo, String> {
+        let board = seen(self.board(name))?.ok_or("no board")?;
         let chip = match board.chip {
             1 => Chip::D13x,
             2 => Chip::D21x,
             _ => return Err(format!("{board:?}")),
         };
         Ok(BoardInfo {
-            name: match board.name {
-                LENT => name.to_vec(),
-                other => self.text(other)?,
-            },
+            name: self.text_or_name(board.name, name)?,
             chip,
             target: self.text(board.target)?,
             profile: self.text(board.profile)?,
         })
     }
 
-    fn image_info(&self, image: ImageView) -> Result<ImageInfo, String> {
+    pub(crate) fn image_info(&self) -> Result<ImageInfo, String> {
+        let image = seen(self.image())?.ok_or("no image")?;
         let media = match image.media {
             1 => Media::SpiNor,
             2 => Media::SpiNand,
@@ -281,8 +287,16 @@ impl Rooms<'_> {
         })
     }
 
-    fn partition_spec(&self, i: usize) -> Result<Option<PartitionSpec>, String> {
-        let Some(partition) = seen(self.partition(i))? else {
+    pub(crate) fn partitions(&self) -> Result<Vec<PartitionSpec>, String> {
+        let entry = |i| self.partition_spec(self.partition(i));
+        all(self.counts().partitions, ENTRIES_MAX, entry)
+    }
+
+    pub(crate) fn partition_spec(
+        &self,
+        view: PartitionView,
+    ) -> Result<Option<PartitionSpec>, String> {
+        let Some(partition) = seen(view)? else {
             return Ok(None);
         };
         Ok(Some(PartitionSpec {
@@ -292,11 +306,13 @@ impl Rooms<'_> {
         }))
     }
 
-    // All four views of a component are there, or none.
-    fn component_spec(&self, i: usize) -> Result<Option<ComponentSpec>, String> {
-        let (head, role) = (seen(self.head(i))?, seen(self.role(i))?);
-        let (boot, load) = (seen(self.boot(i))?, seen(self.load(i))?);
-        match (head, role, boot, load) {
+    // All four views of component number i are there, or none.
+    pub(crate) fn component_spec(
+        &self,
+        i: usize,
+        (head, role, boot, load): (HeadView, RoleView, BootView, LoadView),
+    ) -> Result<Option<ComponentSpec>, String> {
+        match (seen(head)?, seen(role)?, seen(boot)?, seen(load)?) {
             (Some(head), Some(role), Some(boot), Some(load)) => {
                 self.component(head, role, boot, load).map(Some)
             }

@@ -152,104 +152,24 @@ pub struct FeatureView {
 
 mod sys {
     use super::*;
+    use crate::boundary::{from_text, of_rooms};
 
-    // What starts from a text and a lent name is declared alike.
-    macro_rules! from_text {
-        ($($entry:ident)*) => {
-            unsafe extern "C" {
-                $(pub fn $entry(
-                    text: *const u8,
-                    n: usize,
-                    name: *const u8,
-                    name_n: usize,
-                    store: *mut u8,
-                    store_room: usize,
-                    tree: *mut u8,
-                    tree_room: usize,
-                ) -> Outcome;)*
-            }
-        };
+    from_text! {
+        preset_read();
+        preset_validate();
     }
-    from_text!(preset_read preset_validate);
 
-    unsafe extern "C" {
-        pub fn preset_counts(
-            tree: *const u8,
-            room: usize,
-            store: *const u8,
-            store_room: usize,
-            made: usize,
-        ) -> Counts;
-        pub fn preset_board(
-            tree: *const u8,
-            room: usize,
-            store: *const u8,
-            store_room: usize,
-            made: usize,
-            name: *const u8,
-            name_n: usize,
-        ) -> BoardView;
-        pub fn preset_image(
-            tree: *const u8,
-            room: usize,
-            store: *const u8,
-            store_room: usize,
-            made: usize,
-        ) -> ImageView;
-        pub fn preset_partition(
-            tree: *const u8,
-            room: usize,
-            store: *const u8,
-            store_room: usize,
-            made: usize,
-            i: usize,
-        ) -> PartitionView;
-        pub fn component_head(
-            tree: *const u8,
-            room: usize,
-            store: *const u8,
-            store_room: usize,
-            made: usize,
-            i: usize,
-        ) -> HeadView;
-        pub fn component_role(
-            tree: *const u8,
-            room: usize,
-            store: *const u8,
-            store_room: usize,
-            made: usize,
-            i: usize,
-        ) -> RoleView;
-        pub fn component_boot(
-            tree: *const u8,
-            room: usize,
-            store: *const u8,
-            store_room: usize,
-            made: usize,
-            i: usize,
-        ) -> BootView;
-        pub fn component_load(
-            tree: *const u8,
-            room: usize,
-            store: *const u8,
-            store_room: usize,
-            made: usize,
-            i: usize,
-        ) -> LoadView;
-        pub fn preset_application(
-            tree: *const u8,
-            room: usize,
-            store: *const u8,
-            store_room: usize,
-            made: usize,
-            i: usize,
-        ) -> ApplicationView;
-        pub fn preset_feature(
-            tree: *const u8,
-            room: usize,
-            store: *const u8,
-            store_room: usize,
-            made: usize,
+    of_rooms! {
+        preset_counts() -> Counts;
+        preset_board(name: *const u8, name_n: usize) -> BoardView;
+        preset_image() -> ImageView;
+        preset_partition(i: usize) -> PartitionView;
+        component_head(i: usize) -> HeadView;
+        component_role(i: usize) -> RoleView;
+        component_boot(i: usize) -> BootView;
+        component_load(i: usize) -> LoadView;
+        preset_application(i: usize) -> ApplicationView;
+        preset_feature(
             kind: u32,
             from: usize,
             len: usize,
@@ -257,6 +177,9 @@ mod sys {
             last: usize,
             size: usize,
         ) -> FeatureView;
+    }
+
+    unsafe extern "C" {
         pub fn preset_word(word: u32, out: *mut u8, room: usize) -> usize;
     }
 }
@@ -308,10 +231,10 @@ pub struct Rooms<'a> {
 }
 
 // What every view takes first.
-type Lent = (*const u8, usize, *const u8, usize, usize);
+pub(crate) type Lent = (*const u8, usize, *const u8, usize, usize);
 
 impl Rooms<'_> {
-    fn lent(&self) -> Lent {
+    pub(crate) fn lent(&self) -> Lent {
         let (tree, store) = (self.tree, self.store);
         let (slots, held) = (tree.as_ptr(), store.as_ptr());
         (slots, tree.len(), held, store.len(), self.made)

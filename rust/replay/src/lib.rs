@@ -4,6 +4,7 @@ pub mod ask;
 pub mod document;
 pub mod met;
 pub mod model;
+pub mod plan;
 pub mod random;
 pub mod records;
 pub mod validate;

@@ -1,5 +1,6 @@
 //! The same for records.
 pub mod answer;
+pub mod any;
 pub mod ask;
 pub mod draft;
 pub mod edits;

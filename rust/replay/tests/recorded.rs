@@ -2,7 +2,7 @@
 use replay::met::Met;
 use replay::records::answer::Read;
 use replay::records::ask::{Host, VALIDATE};
-use replay::{ask, document, records, validate, value, vector};
+use replay::{ask, document, plan, records, validate, value, vector};
 
 fn lines(name: &str) -> Vec<String> {
     let all = std::fs::read_to_string(vector::file(name)).expect(name);
@@ -83,4 +83,30 @@ fn every_recorded_verdict() {
     let met = presets("validate.txt", validate::model::read, Host::new(VALIDATE));
     let seldom = met.seldom(validate::model::NUMBERS, 3);
     assert_eq!(seldom, None, "{}", met.summary());
+}
+
+#[test]
+fn every_recorded_plan() {
+    let (mut met, mut host) = (Met::default(), Host::new(plan::ask::PLAN));
+    for line in lines("plan.txt") {
+        let (name, text, selected, recorded) =
+            plan::vector::read(&line).unwrap_or_else(|e| panic!("{e} in {line}"));
+        let again = plan::vector::write(&name, &text, &selected, &recorded);
+        assert_eq!(again, line, "read and written again");
+        let (text, key) = (document::vector::joined(&text), selected.as_deref());
+        let want = plan::model::read(&text, &name, key);
+        let planned = want.as_ref().map_err(|e| *e).and_then(|answer| {
+            let plan = plan::model::plan(&answer.preset, key)?;
+            Ok((answer.text.made, plan))
+        });
+        assert_eq!(planned, recorded, "{line}: definition against record");
+        host.selected = selected;
+        let got = host.judge_fully(&text, &name, &want);
+        got.map_err(|e| panic!("{line}: port against record, {e}"))
+            .ok();
+        met.count(want.err().map_or(0, |refusal| refusal.number));
+    }
+    let seldom = met.seldom(plan::model::NUMBERS, 5);
+    assert_eq!(seldom, None, "{}", met.summary());
+    assert!(met.of(0) >= 80, "{}", met.summary());
 }

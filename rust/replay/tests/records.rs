@@ -1,5 +1,4 @@
 //! Records against the definitions alone; these tests need no original.
-use port::document;
 use port::preset::{View, rebuild, seen};
 use port::records::{self, FeatureList, FeatureView, Rooms, word};
 use port::value::{SLOT, STORE_MIN, TREE_MIN};
@@ -7,10 +6,12 @@ use replay::ask::holds;
 use replay::document::rooms::Room;
 use replay::random::Rng;
 use replay::records::answer::{Refusal, outcome};
+use replay::records::any::{any_rooms, filled};
 use replay::records::ask::{Host, look};
 use replay::records::draft::{Draft, Edit};
 use replay::records::edits::{edited, edits, faults, paired};
 use replay::records::random::{NAMES, name, text};
+use replay::records::spelling::paths;
 use replay::records::{model, random};
 
 fn judged(host: &mut Host, text: &[u8], name: &[u8]) {
@@ -108,32 +109,14 @@ fn random_presets() {
     }
 }
 
-// Every path of these letters up to that many of them.
-fn paths(letters: &[u8], most: usize) -> Vec<Vec<u8>> {
-    let (mut out, mut from) = (vec![Vec::new()], 0);
-    for _ in 0..most {
-        let end = out.len();
-        for i in from..end {
-            let longer = letters.iter().map(|&b| [&out[i][..], &[b]].concat());
-            let longer: Vec<_> = longer.collect();
-            out.extend(longer);
-        }
-        from = end;
-    }
-    out
-}
-
 // A component's file gives its filename where it has a name.
 #[test]
 fn file_names() {
     let mut host = Host::default();
-    let all = paths(b"/.a", 7);
+    let all = paths(&["/", ".", "a"], 7);
     assert_eq!(all.len(), 3_280);
     for some in all.chunks(64) {
-        let one = |path: &Vec<u8>| {
-            let path = String::from_utf8_lossy(path);
-            format!("[[component]]\nname = \"c\"\nfile = \"{path}\"\n")
-        };
+        let one = |path| format!("[[component]]\nname = \"c\"\nfile = \"{path}\"\n");
         let text: String = some.iter().map(one).collect();
         judged(&mut host, text.as_bytes(), b"board");
     }
@@ -265,52 +248,7 @@ fn fixed_words() {
 // Views answer for every room and count, also where no text was read.
 #[test]
 fn views_of_any_room() {
-    let mut r = Rng::new(9);
-    let store: Vec<u8> = (0..STORE_MIN).map(|_| r.draw() as u8).collect();
-    for round in 0..200 {
-        let mut tree: Vec<u8> = (0..20 * SLOT).map(|_| r.draw() as u8).collect();
-        if round % 2 == 0 {
-            tidied(&mut r, &mut tree);
-        }
-        for made in [0, 1, 7, 20] {
-            let rooms = Rooms {
-                tree: &tree,
-                store: &store[..[0, 1, 300, STORE_MIN][r.below(4)]],
-                made,
-            };
-            look(rooms, b"\xFF").unwrap_or_else(|e| panic!("round {round}, {made} values: {e}"));
-        }
-        for made in [21, 2_048, usize::MAX / SLOT, usize::MAX] {
-            let rooms = Rooms {
-                tree: &tree,
-                store: &store,
-                made,
-            };
-            nothing(rooms).unwrap_or_else(|e| panic!("{made} values: {e}"));
-        }
-    }
-}
-
-// Kinds, parents and parts of the store as they might be.
-fn tidied(r: &mut Rng, tree: &mut [u8]) {
-    for slot in tree.chunks_mut(SLOT) {
-        let near = [
-            r.below(8),
-            r.below(24),
-            r.below(300),
-            r.below(4),
-            r.below(300),
-            r.below(4),
-        ];
-        let [kind, parent, key, length, from, size] = near;
-        slot.fill(0);
-        slot[0] = kind as u8;
-        slot[2] = parent as u8;
-        slot[4..6].copy_from_slice(&(key as u16).to_le_bytes());
-        slot[6] = length as u8;
-        slot[8..10].copy_from_slice(&(from as u16).to_le_bytes());
-        slot[10] = size as u8;
-    }
+    any_rooms(9, |rooms| look(rooms, b"\xFF"), nothing).unwrap_or_else(|e| panic!("{e}"));
 }
 
 // The room has fewer values: no view finds anything.
@@ -338,19 +276,11 @@ fn nothing(rooms: Rooms) -> Result<(), String> {
     absent(rooms.feature(words, None))
 }
 
-// The rooms of the text by the reader of trees, which leaves the tree of any good text.
-fn filled(text: &[u8]) -> (Vec<u8>, Vec<u8>, usize) {
-    let (mut store, mut tree) = (vec![0xAA; STORE_MIN], vec![0xAA; TREE_MIN]);
-    let got = document::read(text, &mut store, &mut tree);
-    assert_eq!(got.number, 0);
-    (store, tree, got.made as usize)
-}
-
 // A walk over features in byte order, from its start and from bytes that are none of its items.
 #[test]
 fn features_in_their_order() {
     let text = b"x = [\"b\", \"\", \"ab\", \"b\", \"a\"]\ny = \"b,,a ab b\"\nz = \"aa\"";
-    let (store, tree, made) = filled(text);
+    let (store, tree, made) = filled(text).expect("a tree");
     let rooms = Rooms {
         tree: &tree,
         store: &store,
@@ -404,7 +334,7 @@ fn features_in_their_order() {
 #[test]
 fn views_of_a_preset() {
     let text = random::EXAMPLES[1].as_bytes();
-    let (store, tree, made) = filled(text);
+    let (store, tree, made) = filled(text).expect("a tree");
     let rooms = Rooms {
         tree: &tree,
         store: &store,
@@ -433,7 +363,7 @@ fn views_of_a_refused_preset() {
     let text =
         b"[board]\nname = 1\n[[partition]]\n[[partition]]\nname = \"a\"\noffset = 1\nsize = 2\n\
         [[component]]\nname = \"c\"\n[[component]]\nram = true\n[apps.b]\n[apps]\na = 1";
-    let (store, tree, made) = filled(text);
+    let (store, tree, made) = filled(text).expect("a tree");
     let rooms = Rooms {
         tree: &tree,
         store: &store,

@@ -3,6 +3,7 @@ pub mod compare;
 pub mod corners;
 pub mod document;
 pub mod original;
+pub mod plan;
 pub mod record;
 pub mod records;
 pub mod validate;

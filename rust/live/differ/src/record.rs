@@ -1,8 +1,10 @@
 //! The recorded answers: of each kind picked texts and a fixed number of random ones.
-use crate::records::compare::Question;
-use crate::{corners, document, original, records, validate, value};
+use crate::records::compare::{Question, answers};
+use crate::{corners, document, original, plan, records, validate, value};
 use replay::document::vector::{Parts, joined};
+use replay::plan::keys::Answered;
 use replay::random::Rng;
+use replay::records::answer::Read;
 use replay::value::model;
 use std::ops::RangeInclusive;
 
@@ -21,7 +23,8 @@ pub struct Record {
     lengths: RangeInclusive<usize>,
     // whether no limit is met that the original does not have, or the definitions stand in for it
     within: fn(&[u8]) -> bool,
-    line: fn(&Parts) -> String,
+    // one for each answer
+    lines: fn(&Parts) -> Vec<String>,
 }
 
 pub const TEXT: Record = Record {
@@ -40,9 +43,9 @@ pub const TEXT: Record = Record {
     make: |r| replay::random::text(r).into_bytes(),
     lengths: 4..=160,
     within: |_| true,
-    line: |t| {
+    lines: |t| {
         let t = utf8(t);
-        replay::vector::write(&t, &original::answer(&t))
+        vec![replay::vector::write(&t, &original::answer(&t))]
     },
 };
 
@@ -63,9 +66,10 @@ pub const VALUE: Record = Record {
     lengths: 2..=120,
     // neither 14 nor 15 nor 16
     within: |s| model::key(s) != Err(15) && !matches!(model::value(s), Err(14 | 16)),
-    line: |t| {
+    lines: |t| {
         let t = utf8(t);
-        replay::value::vector::write(&t, &value::original::answer(&t))
+        let answer = value::original::answer(&t);
+        vec![replay::value::vector::write(&t, &answer)]
     },
 };
 
@@ -89,7 +93,10 @@ pub const DOCUMENT: Record = Record {
     make: replay::document::random::text,
     lengths: 8..=240,
     within: |_| true,
-    line: |t| replay::document::vector::write(t, &document::original::answer(&joined(t))),
+    lines: |t| {
+        let answer = document::original::answer(&joined(t));
+        vec![replay::document::vector::write(t, &answer)]
+    },
 };
 
 pub const RECORDS: Record = Record {
@@ -113,7 +120,7 @@ pub const RECORDS: Record = Record {
     make: replay::records::random::text,
     lengths: 20..=500,
     within: |_| true,
-    line: |t| preset_line(&records::compare::RECORDS, t),
+    lines: |t| preset_lines(&records::compare::RECORDS, t),
 };
 
 pub const VALIDATE: Record = Record {
@@ -134,21 +141,72 @@ pub const VALIDATE: Record = Record {
     make: replay::validate::random::text,
     lengths: 150..=600,
     within: |_| true,
-    line: |t| preset_line(&validate::compare::VALIDATE, t),
+    lines: |t| preset_lines(&validate::compare::VALIDATE, t),
 };
 
-// What a question about a preset is answered with, a name being lent that goes by the text.
-fn preset_line(asked: &Question, t: &Parts) -> String {
-    let (text, names) = (joined(t), replay::records::random::NAMES);
-    let name = names[text.len() % names.len()];
-    let answer = records::compare::answer(asked, &text, name);
-    let read = answer.unwrap_or_else(|e| panic!("{}: {e}", text.escape_ascii()));
-    let recorded = read.map(|answer| (answer.text.made, answer.preset));
-    replay::records::vector::write(name, t, &recorded)
+pub const PLAN: Record = Record {
+    file: "plan.txt",
+    asked: || {
+        let corners = plan::corners::CORNERS.len();
+        format!(
+            "Preset::parse and plan, the plan or the number of the message, for the boot chain, every \
+             declared application and another key, to {corners} picked presets, the presets of presets/"
+        )
+    },
+    note: "# Count of values is that of rust/replay/src/plan/model.rs, as is what is told of a key that is \
+           not UTF-8, and of presets that break a rule section and place.\n",
+    picked: plan::corners::picked,
+    seed: 23,
+    random: 30,
+    make: replay::plan::random::text,
+    lengths: 150..=700,
+    within: |_| true,
+    lines: plan_lines,
+};
+
+// The name that is lent goes by the text.
+fn lent(text: &[u8]) -> &'static [u8] {
+    let names = replay::records::random::NAMES;
+    names[text.len() % names.len()]
+}
+
+// All answers to a question about a preset.
+fn told(asked: &Question, text: &[u8]) -> Vec<Answered> {
+    let answers = answers(asked, text, lent(text));
+    answers.unwrap_or_else(|e| panic!("{}: {e}", text.escape_ascii()))
+}
+
+fn preset_lines(asked: &Question, t: &Parts) -> Vec<String> {
+    let text = joined(t);
+    let line = |read: Read| {
+        let recorded = read.map(|answer| (answer.text.made, answer.preset));
+        replay::records::vector::write(lent(&text), t, &recorded)
+    };
+    let told = told(asked, &text).into_iter();
+    told.map(|(_, read)| line(read)).collect()
+}
+
+// Of the keys that are not declared, one.
+fn plan_lines(t: &Parts) -> Vec<String> {
+    let text = joined(t);
+    let undeclared = |(_, read): &Answered| read.as_ref().is_err_and(|e| e.number == 80);
+    let (others, mut told): (Vec<_>, Vec<_>) = told(&plan::compare::PLAN, &text)
+        .into_iter()
+        .partition(undeclared);
+    let count = others.len().max(1);
+    told.extend(others.into_iter().nth(text.len() % count));
+    let line = |(selected, read): Answered| {
+        let planned = read.map(|answer| {
+            let plan = replay::plan::model::plan(&answer.preset, selected.as_deref());
+            (answer.text.made, plan.expect("planned"))
+        });
+        replay::plan::vector::write(lent(&text), t, &selected, &planned)
+    };
+    told.into_iter().map(line).collect()
 }
 
 /// All files.
-pub const ALL: [Record; 5] = [TEXT, VALUE, DOCUMENT, RECORDS, VALIDATE];
+pub const ALL: [Record; 6] = [TEXT, VALUE, DOCUMENT, RECORDS, VALIDATE, PLAN];
 
 /// Texts in one part each.
 pub fn plain(texts: &[&str]) -> Vec<Parts> {
@@ -167,8 +225,8 @@ impl Record {
         for text in self.texts() {
             let whole = joined(&text);
             assert!((self.within)(&whole), "{}: a limit", whole.escape_ascii());
-            out.push_str(&(self.line)(&text));
-            out.push('\n');
+            let lines = (self.lines)(&text);
+            out.extend(lines.into_iter().map(|line| line + "\n"));
         }
         out
     }

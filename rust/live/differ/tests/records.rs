@@ -6,6 +6,7 @@ use replay::random::Rng;
 use replay::records::draft::Draft;
 use replay::records::edits::{edited, edits, faults, paired};
 use replay::records::random::{NAMES, name, text};
+use replay::records::spelling::paths;
 
 #[test]
 fn every_field_in_every_spelling() {
@@ -47,14 +48,7 @@ fn corners_and_limits() {
 // Every path up to seven characters, 64 components to a preset.
 #[test]
 fn file_names() {
-    let mut paths = vec![String::new()];
-    for i in 0.. {
-        if paths[i].len() == 7 {
-            break;
-        }
-        let longer = ["/", ".", "a"].map(|c| paths[i].clone() + c);
-        paths.extend(longer);
-    }
+    let paths = paths(&["/", ".", "a"], 7);
     assert_eq!(paths.len(), 3_280);
     let mut judge = Judge::records();
     for some in paths.chunks(64) {

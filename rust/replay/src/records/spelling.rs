@@ -272,6 +272,20 @@ pub fn many_features(count: usize) -> [String; 6] {
     ]
 }
 
+/// Every path of these letters up to that many of them.
+pub fn paths(letters: &[&str], most: usize) -> Vec<String> {
+    let (mut out, mut from) = (vec![String::new()], 0);
+    for _ in 0..most {
+        let end = out.len();
+        for i in from..end {
+            let longer = letters.iter().map(|c| out[i].clone() + c);
+            out.extend(longer.collect::<Vec<_>>());
+        }
+        from = end;
+    }
+    out
+}
+
 /// All spellings of one sort, right and wrong.
 pub struct Spellings {
     pub right: Vec<String>,

@@ -11,21 +11,26 @@ use port::preset::{
     AppSpec, BoardInfo, Chip, ComponentKind, ComponentSpec, ImageInfo, Media, PartitionSpec,
 };
 
-/// The count of values and the records, or the refusal.
-pub type Recorded = Result<(usize, Preset), Refusal>;
+/// The count of values and the records, or what else is recorded; or the refusal.
+pub type Recorded<T = Preset> = Result<(usize, T), Refusal>;
 
 /// One line of the file, without its end.
 pub fn write(name: &[u8], text: &Parts, answer: &Recorded) -> String {
-    let (name, text) = (quoted(name), parts(text));
+    let answer = told(answer, whole);
+    format!("{} {} {answer}", quoted(name), parts(text))
+}
+
+/// The answer by itself.
+pub(crate) fn told<T>(answer: &Recorded<T>, whole: fn(&T) -> String) -> String {
     match answer {
-        Ok((made, preset)) => format!("{name} {text} ok {made} {}", whole(preset)),
+        Ok((made, it)) => format!("ok {made} {}", whole(it)),
         Err(refusal) => {
             let Refusal {
                 number,
                 section,
                 place,
             } = refusal;
-            format!("{name} {text} refused {number} {section} {place}")
+            format!("refused {number} {section} {place}")
         }
     }
 }
@@ -53,16 +58,16 @@ pub fn rows(p: &Preset) -> Vec<String> {
     out
 }
 
-fn list<T>(items: &[T], one: fn(&T) -> String) -> String {
+pub(crate) fn list<T>(items: &[T], one: fn(&T) -> String) -> String {
     let items = items.iter().map(|item| one(item) + " ");
     format!("[ {}]", items.collect::<String>())
 }
 
-fn texts(items: &[Vec<u8>]) -> String {
+pub(crate) fn texts(items: &[Vec<u8>]) -> String {
     list(items, |s| quoted(s))
 }
 
-fn maybe(s: &Option<Vec<u8>>) -> String {
+pub(crate) fn maybe(s: &Option<Vec<u8>>) -> String {
     s.as_ref().map_or("-".into(), |s| quoted(s))
 }
 
@@ -84,12 +89,12 @@ pub(crate) fn named<T: PartialEq>(words: &[(&str, T)], meant: T) -> String {
     word.expect("each has a word").0.into()
 }
 
-fn board(b: &BoardInfo) -> String {
+pub(crate) fn board(b: &BoardInfo) -> String {
     let chip = named(&CHIPS, b.chip);
     [quoted(&b.name), chip, quoted(&b.target), quoted(&b.profile)].join(" ")
 }
 
-fn image(i: &ImageInfo) -> String {
+pub(crate) fn image(i: &ImageInfo) -> String {
     let fields = [
         quoted(&i.platform),
         quoted(&i.product),
@@ -102,11 +107,11 @@ fn image(i: &ImageInfo) -> String {
     fields.join(" ")
 }
 
-fn partition(p: &PartitionSpec) -> String {
+pub(crate) fn partition(p: &PartitionSpec) -> String {
     format!("{} {} {}", quoted(&p.name), p.offset, p.size)
 }
 
-fn component(c: &ComponentSpec) -> String {
+pub(crate) fn component(c: &ComponentSpec) -> String {
     let fields = [
         named(&KINDS, c.kind),
         quoted(&c.name),
@@ -153,19 +158,25 @@ fn application(a: &AppSpec) -> String {
 pub fn read(line: &str) -> Result<(Vec<u8>, Parts, Recorded), String> {
     let mut r = Reader(line);
     let (name, text) = (r.bytes()?, r.parts()?);
-    let answer = match r.word() {
-        "ok" => Ok((r.number()?, r.preset()?)),
-        "refused" => Err(Refusal {
-            number: r.number()?,
-            section: r.number()?,
-            place: r.number()?,
-        }),
-        word => return Err(format!("{word:?} stands in place of ok or refused")),
-    };
-    Ok((name, text, answer))
+    Ok((name, text, r.told(Reader::preset)?))
 }
 
 impl Reader<'_> {
+    pub(crate) fn told<T>(
+        &mut self,
+        whole: fn(&mut Self) -> Result<T, String>,
+    ) -> Result<Recorded<T>, String> {
+        match self.word() {
+            "ok" => Ok(Ok((self.number()?, whole(self)?))),
+            "refused" => Ok(Err(Refusal {
+                number: self.number()?,
+                section: self.number()?,
+                place: self.number()?,
+            })),
+            word => Err(format!("{word:?} stands in place of ok or refused")),
+        }
+    }
+
     fn preset(&mut self) -> Result<Preset, String> {
         Ok(Preset {
             board: self.board()?,
@@ -176,7 +187,10 @@ impl Reader<'_> {
         })
     }
 
-    fn list<T>(&mut self, one: fn(&mut Self) -> Result<T, String>) -> Result<Vec<T>, String> {
+    pub(crate) fn list<T>(
+        &mut self,
+        one: fn(&mut Self) -> Result<T, String>,
+    ) -> Result<Vec<T>, String> {
         self.named("[")?;
         let mut out = Vec::new();
         while !self.0.starts_with(']') {
@@ -186,30 +200,27 @@ impl Reader<'_> {
         Ok(out)
     }
 
-    fn texts(&mut self) -> Result<Vec<Vec<u8>>, String> {
+    pub(crate) fn texts(&mut self) -> Result<Vec<Vec<u8>>, String> {
         self.list(Reader::bytes)
     }
 
-    fn absent(&mut self) -> bool {
-        let absent = self.0.starts_with("- ");
-        if absent {
-            self.word();
+    pub(crate) fn unless_absent<T>(
+        &mut self,
+        one: fn(&mut Self) -> Result<T, String>,
+    ) -> Result<Option<T>, String> {
+        if !self.0.starts_with("- ") {
+            return one(self).map(Some);
         }
-        absent
+        self.word();
+        Ok(None)
     }
 
-    fn maybe(&mut self) -> Result<Option<Vec<u8>>, String> {
-        match self.absent() {
-            true => Ok(None),
-            false => self.bytes().map(Some),
-        }
+    pub(crate) fn maybe(&mut self) -> Result<Option<Vec<u8>>, String> {
+        self.unless_absent(Reader::bytes)
     }
 
     fn amount(&mut self) -> Result<Option<u32>, String> {
-        match self.absent() {
-            true => Ok(None),
-            false => self.number().map(Some),
-        }
+        self.unless_absent(Reader::number)
     }
 
     fn meant<T: Copy>(&mut self, words: &[(&str, T)]) -> Result<T, String> {
@@ -220,7 +231,7 @@ impl Reader<'_> {
             .ok_or(format!("{word:?} is unknown"))
     }
 
-    fn board(&mut self) -> Result<BoardInfo, String> {
+    pub(crate) fn board(&mut self) -> Result<BoardInfo, String> {
         Ok(BoardInfo {
             name: self.bytes()?,
             chip: self.meant(&CHIPS)?,
@@ -229,7 +240,7 @@ impl Reader<'_> {
         })
     }
 
-    fn image(&mut self) -> Result<ImageInfo, String> {
+    pub(crate) fn image(&mut self) -> Result<ImageInfo, String> {
         Ok(ImageInfo {
             platform: self.bytes()?,
             product: self.bytes()?,
@@ -241,7 +252,7 @@ impl Reader<'_> {
         })
     }
 
-    fn partition(&mut self) -> Result<PartitionSpec, String> {
+    pub(crate) fn partition(&mut self) -> Result<PartitionSpec, String> {
         Ok(PartitionSpec {
             name: self.bytes()?,
             offset: self.number()?,
@@ -249,7 +260,7 @@ impl Reader<'_> {
         })
     }
 
-    fn component(&mut self) -> Result<ComponentSpec, String> {
+    pub(crate) fn component(&mut self) -> Result<ComponentSpec, String> {
         Ok(ComponentSpec {
             kind: self.meant(&KINDS)?,
             name: self.bytes()?,

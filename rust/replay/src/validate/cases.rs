@@ -9,8 +9,11 @@ use port::preset::{AppSpec, Chip};
 
 pub const CHIPS: [Chip; 2] = [Chip::D13x, Chip::D21x];
 
+/// What is tried, and presets to try it on.
+pub type Case = (&'static str, fn() -> Vec<Preset>);
+
 /// Each boundary by its name.
-pub const CASES: [(&str, fn() -> Vec<Preset>); 9] = [
+pub const CASES: [Case; 9] = [
     ("faults in pairs", pairs),
     ("full lists", full_lists),
     ("layouts", layouts),
@@ -111,7 +114,7 @@ fn lengths() -> Vec<Preset> {
 }
 
 // Partitions whose names are cut, trimmed or neither, referred to in every way.
-fn references() -> Vec<Preset> {
+pub(crate) fn references() -> Vec<Preset> {
     let mut out = Vec::new();
     let ways = BEFORE
         .iter()

@@ -254,7 +254,7 @@ fn two_sets(p: &mut Preset, n: usize, r: &mut Rng) {
 }
 
 // In place of one that has its key.
-fn insert(p: &mut Preset, app: AppSpec) {
+pub(crate) fn insert(p: &mut Preset, app: AppSpec) {
     p.apps.retain(|other| other.package != app.package);
     p.apps.push(app);
     p.apps.sort_by(|a, b| a.package.cmp(&b.package));

@@ -40,7 +40,7 @@ pub fn sizes(block: u32, offset: u32) -> Vec<u32> {
     in_range(&[&low[..], &high].concat())
 }
 
-fn drawn<T: Copy>(r: &mut Rng, from: &[T]) -> T {
+pub(crate) fn drawn<T: Copy>(r: &mut Rng, from: &[T]) -> T {
     from[r.below(from.len())]
 }
 

@@ -1,12 +1,12 @@
 //! Times both sides on the same texts:
-//! `cargo run --release --bin bench [text|value|document|records|validate]`.
+//! `cargo run --release --bin bench [text|value|document|records|validate|plan]`.
 use differ::document::original;
-use oracle::preset::Preset;
+use oracle::preset::{ImagePlan, Preset, Selection};
 use oracle::toml_lite::{self, Value, probe as rust};
 use port::document::Outcome;
 use port::text::{self, SCRATCH_MIN, TEXT_MAX};
 use port::value::{self, STORE_MIN, TREE_MIN};
-use port::{document, preset, records};
+use port::{document, plan, plans, preset, records};
 use std::hint::black_box;
 use std::path::Path;
 use std::time::{Duration, Instant};
@@ -50,16 +50,29 @@ const VALIDATE_NOTE: &str = "
 From text to a verdict. The port's time is `preset_validate`, which does all that `preset_read` does and
 then goes through the rules. The original's time is `Preset::parse` and `validate`, with the preset dropped
 again.";
+const BOOT_CHAIN_NOTE: &str = "
+From text to the plan of the boot chain. The port's time is `preset_plan`, which does all that
+`preset_validate` does and then judges the selection; the plan is views of the rooms. The original's time is
+`Preset::parse` and `plan`, which validates, with the preset and the plan dropped again.";
+const APPLICATION_NOTE: &str = "
+The same with the last of the applications.";
+const WHOLE_NOTE: &str = "
+The same, and every view of the plan called once, its texts and features copied out.";
 
 fn main() {
     let only = std::env::args().nth(1);
     let wanted = |name: &str| only.as_deref().is_none_or(|o| o == name);
-    let parts: [(&str, fn()); 5] = [
+    let parts: [(&str, fn()); 6] = [
         ("text", texts),
         ("value", values),
         ("document", documents),
         ("records", || presets(&READ, RECORDS_NOTE)),
         ("validate", || presets(&VALIDATE, VALIDATE_NOTE)),
+        ("plan", || {
+            presets(&BOOT_CHAIN, BOOT_CHAIN_NOTE);
+            presets(&APPLICATION, APPLICATION_NOTE);
+            presets(&WHOLE, WHOLE_NOTE);
+        }),
     ];
     let chosen = parts.iter().filter(|(name, _)| wanted(name));
     chosen.for_each(|(_, run)| run());
@@ -100,31 +113,77 @@ fn example(name: &str) -> String {
     std::fs::read_to_string(path).expect(name)
 }
 
-/// What both sides do with a preset.
-struct Job {
-    ours: fn(&[u8], &[u8], &mut [u8], &mut [u8]) -> Outcome,
-    theirs: fn(&str) -> Preset,
+/// What both sides do with a preset and the key of one of its applications, and whether they plan the
+/// same.
+struct Job<T> {
+    ours: fn(&[u8], &str, &mut [u8], &mut [u8]) -> Outcome,
+    theirs: fn(&str, &str) -> T,
+    same: fn(records::Rooms, &str, &str) -> bool,
 }
 
-const READ: Job = Job {
-    ours: records::read,
-    theirs: parsed,
+const READ: Job<Preset> = Job {
+    ours: |text, _, store, tree| records::read(text, NAME, store, tree),
+    theirs: |text, _| parsed(text),
+    same: |_, _, _| true,
 };
 
-const VALIDATE: Job = Job {
-    ours: records::validate,
-    theirs: |text| {
+const VALIDATE: Job<Preset> = Job {
+    ours: |text, _, store, tree| records::validate(text, NAME, store, tree),
+    theirs: |text, _| {
         let preset = parsed(text);
         preset.validate().expect("no rule is broken");
         preset
     },
+    ..READ
 };
+
+const BOOT_CHAIN: Job<(Preset, ImagePlan)> = Job {
+    ours: |text, _, store, tree| plans::plan(text, NAME, None.into(), store, tree),
+    theirs: |text, _| planned(text, &Selection::Bootloader),
+    same: |rooms, text, _| same_plan(rooms, text, None),
+};
+
+const APPLICATION: Job<(Preset, ImagePlan)> = Job {
+    ours: |text, key, store, tree| plans::plan(text, NAME, selected(key), store, tree),
+    theirs: |text, key| planned(text, &Selection::App(key.into())),
+    same: |rooms, text, key| same_plan(rooms, text, Some(key)),
+};
+
+const WHOLE: Job<(Preset, ImagePlan)> = Job {
+    ours: |text, key, store, tree| {
+        let got = plans::plan(text, NAME, selected(key), store, tree);
+        let made = got.made as usize;
+        let plan = plan::rebuild(records::Rooms { tree, store, made }, NAME, selected(key));
+        black_box(plan).expect("a plan");
+        got
+    },
+    ..APPLICATION
+};
+
+// What is lent, and what the original's file is called.
+const NAME: &[u8] = b"board";
+
+fn selected(key: &str) -> plans::Selection<'_> {
+    Some(key.as_bytes()).into()
+}
 
 fn parsed(text: &str) -> Preset {
     Preset::parse(text, Path::new("board.toml")).expect("records")
 }
 
-fn presets(job: &Job, note: &str) {
+fn planned(text: &str, selection: &Selection) -> (Preset, ImagePlan) {
+    let preset = parsed(text);
+    let plan = preset.plan(selection).expect("a plan");
+    (preset, plan)
+}
+
+fn same_plan(rooms: records::Rooms, text: &str, key: Option<&str>) -> bool {
+    let got = plan::rebuild(rooms, NAME, key.map(str::as_bytes).into());
+    let want = differ::plan::original::plan(&parsed(text), key);
+    got.expect("a plan") == want.expect("a plan")
+}
+
+fn presets<T>(job: &Job<T>, note: &str) {
     println!("\n{PRESETS_HEAD}");
     for name in EXAMPLES {
         preset_row(job, name, &example(name));
@@ -261,25 +320,27 @@ fn document_row(name: &str, text: &str) {
     println!("| {name} | {bytes} | {physical} | {made} | {times} |");
 }
 
-fn preset_row(job: &Job, name: &str, text: &str) {
+fn preset_row<T>(job: &Job<T>, name: &str, text: &str) {
     let (mut store, mut tree) = (vec![0; STORE_MIN], vec![0; TREE_MIN]);
+    let (key, _) = parsed(text).apps.pop_last().expect("an application");
     let mut ours = || {
         let text = black_box(text).as_bytes();
-        let got = (job.ours)(text, b"board", &mut store, &mut tree);
+        let got = (job.ours)(text, &key, &mut store, &mut tree);
         assert_eq!(got.number, 0, "{name}: {got:?}");
         got.made as usize
     };
     let made = ours();
-    let times = measured(ours, || (job.theirs)(black_box(text)));
+    let times = measured(ours, || (job.theirs)(black_box(text), &key));
     let rooms = records::Rooms {
         tree: &tree,
         store: &store,
         made,
     };
-    let got = preset::rebuild(rooms, b"board").expect("records");
-    let want = differ::records::original::read(text, b"board");
+    let got = preset::rebuild(rooms, NAME).expect("records");
+    let want = differ::records::original::read(text, NAME);
     let counts = rooms.counts();
     assert!(want == Ok(got), "{name}: records");
+    assert!((job.same)(rooms, text, &key), "{name}: plans");
     let (bytes, p) = (text.len(), counts.partitions);
     let (c, a) = (counts.components, counts.applications);
     println!("| {name} | {bytes} | {p} | {c} | {a} | {times} |");

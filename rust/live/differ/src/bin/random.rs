@@ -1,9 +1,9 @@
-//! Compares random texts: `random [text|value|document|records|validate] [COUNT [SEED]]`, `text` where
-//! none is named.
+//! Compares random texts: `random [text|value|document|records|validate|plan] [COUNT [SEED]]`, `text`
+//! where none is named.
 //! Ends with 1 and the shortest text on a difference.
 use differ::compare::{compare, shortest_difference};
 use differ::document::compare::Judge;
-use differ::{records, validate, value};
+use differ::{plan, records, validate, value};
 use replay::random::{Rng, text};
 use replay::{document, records as presets, value as values};
 use std::time::{Duration, Instant};
@@ -68,12 +68,13 @@ impl Sides for Plain {
 
 fn main() {
     let mut words = std::env::args().skip(1).peekable();
-    let sorts = ["text", "value", "document", "records", "validate"];
+    let sorts = ["text", "value", "document", "records", "validate", "plan"];
     let named = words.next_if(|w| sorts.contains(&w.as_str()));
     let mut sides: Box<dyn Sides> = match named.as_deref() {
         Some("document") => Box::new(Judge::default()),
         Some("records") => Box::new(records::compare::Judge::records()),
         Some("validate") => Box::new(validate::compare::judge()),
+        Some("plan") => Box::new(plan::compare::judge()),
         Some("value") => Box::new(Plain {
             make: values::random::text,
             compare: value::compare::all,

@@ -4,7 +4,9 @@ use differ::record;
 fn main() {
     for record in &record::ALL {
         let path = replay::vector::file(record.file);
-        std::fs::write(&path, record.render()).expect("vectors/ can be written");
-        println!("{} answers in {}", record.texts().count(), path.display());
+        let all = record.render();
+        let answers = all.lines().filter(|line| !line.starts_with("# "));
+        println!("{} answers in {}", answers.count(), path.display());
+        std::fs::write(&path, all).expect("vectors/ can be written");
     }
 }

@@ -3,9 +3,10 @@ use super::original::{self, Told};
 use crate::compare::shortest_difference;
 use port::preset::Preset;
 use replay::met::Met;
+use replay::plan::keys::Answered;
 use replay::random::Rng;
-use replay::records::answer::Read;
-use replay::records::ask::{Host, difference};
+use replay::records::answer::{Read, Refusal};
+use replay::records::ask::{Host, about, difference};
 use replay::records::model::{self, LIMITS, Limits, UNLIMITED};
 use replay::records::random;
 use std::thread;
@@ -19,7 +20,12 @@ pub struct Question {
     pub numbers: &'static [u32],
     /// Presets to ask about.
     pub random: fn(&mut Rng) -> Vec<u8>,
+    /// What is told for all that may be selected, where a preset is answered like this.
+    pub selected: fn(&[u8], &[u8], Read) -> Answers,
 }
+
+/// All answers, or where definitions and original differ.
+pub type Answers = Result<Vec<Answered>, String>;
 
 /// Their records.
 pub const RECORDS: Question = Question {
@@ -27,6 +33,7 @@ pub const RECORDS: Question = Question {
     original: original::read,
     numbers: &[20, 21, 22, 23, 24, 25],
     random: random::text,
+    selected: |_, _, read| Ok(vec![(None, read)]),
 };
 
 /// What the definitions say of a preset, once the original says the same where it can.
@@ -43,22 +50,38 @@ pub fn answer(asked: &Question, text: &[u8], name: &[u8]) -> Result<Read, String
     let agreed = match number {
         25 => {
             let unlimited = (asked.defined)(text.as_bytes(), name, &UNLIMITED);
-            agree(&unlimited, &theirs)
+            same(&unlimited, &theirs)
         }
-        _ => agree(&defined, &theirs),
+        _ => same(&defined, &theirs),
     };
     agreed.map_err(|e| format!("definition against original, {e}"))?;
     Ok(defined)
+}
+
+/// The same for all that may be selected.
+pub fn answers(asked: &Question, text: &[u8], name: &[u8]) -> Answers {
+    let read = answer(asked, text, name)?;
+    (asked.selected)(text, name, read)
 }
 
 fn number(read: &Read) -> u32 {
     read.as_ref().err().map_or(0, |refusal| refusal.number)
 }
 
-// Every field of every record, or the number, and the entry where the message names one.
-fn agree(defined: &Read, theirs: &Result<Preset, Told>) -> Result<(), String> {
+fn same(defined: &Read, theirs: &Result<Preset, Told>) -> Result<(), String> {
+    let defined = defined.as_ref().map(|answer| &answer.preset);
+    let (defined, theirs) = (defined.map_err(|e| *e), theirs.as_ref().map_err(|e| *e));
+    agree(defined, theirs, difference)
+}
+
+/// Every field of what is answered, or the number, and the entry where the message names one.
+pub fn agree<T>(
+    defined: Result<&T, Refusal>,
+    theirs: Result<&T, Told>,
+    difference: fn(&T, &T) -> Option<String>,
+) -> Result<(), String> {
     match (defined, theirs) {
-        (Ok(ours), Ok(theirs)) => difference(&ours.preset, theirs).map_or(Ok(()), Err),
+        (Ok(ours), Ok(theirs)) => difference(ours, theirs).map_or(Ok(()), Err),
         (Err(ours), Err(theirs)) => {
             let place = (ours.section, ours.place);
             let same = ours.number == theirs.number && theirs.entry.is_none_or(|e| e == place);
@@ -104,15 +127,18 @@ impl Judge {
     }
 
     fn all(&mut self, text: &[u8]) -> Result<(), String> {
-        let want = answer(&self.asked, text, &self.name)?;
-        let heard = match self.differed {
-            true => self.host.judge_fully(text, &self.name, &want),
-            false => self.host.judge(text, &self.name, &want),
-        };
-        heard
-            .map_err(|e| format!("port against definition, {e}"))?
-            .ok();
-        self.met.count(number(&want));
+        for (selected, want) in answers(&self.asked, text, &self.name)? {
+            self.host.selected = selected;
+            let heard = match self.differed {
+                true => self.host.judge_fully(text, &self.name, &want),
+                false => self.host.judge(text, &self.name, &want),
+            };
+            let about = about(&self.host.selected);
+            heard
+                .map_err(|e| format!("{about}port against definition, {e}"))?
+                .ok();
+            self.met.count(number(&want));
+        }
         Ok(())
     }
 

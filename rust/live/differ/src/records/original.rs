@@ -15,7 +15,7 @@ pub struct Told {
     pub entry: Option<(u32, usize)>,
 }
 
-/// The board is named like the file; a name that no file has is put in afterwards.
+/// Its records.
 pub fn read(text: &str, name: &[u8]) -> Result<Preset, Told> {
     read_and(text, name, |_| Ok(()))
 }
@@ -26,12 +26,19 @@ pub fn read_and(
     name: &[u8],
     check: fn(&theirs::Preset) -> Result<(), Told>,
 ) -> Result<Preset, Told> {
-    let fits = !name.is_empty() && !name.contains(&b'/');
-    let stem = if fits { name } else { MARK };
-    let path = PathBuf::from(OsString::from_vec([stem, b".toml"].concat()));
-    let read = theirs::Preset::parse(text, &path).map_err(|e| told(&e.to_string()))?;
+    let read = parsed(text, name)?;
     check(&read)?;
-    let mut preset = preset(read);
+    Ok(preset(read))
+}
+
+/// Before it is turned into ours. The board is named like the file; a name that no file has is put in
+/// afterwards.
+pub fn parsed(text: &str, name: &[u8]) -> Result<theirs::Preset, Told> {
+    let fits = !name.is_empty() && !name.contains(&b'/');
+    let stem = if fits { name } else { MARK.as_bytes() };
+    let path = PathBuf::from(OsString::from_vec([stem, b".toml"].concat()));
+    let read = theirs::Preset::parse(text, &path).map_err(|e| told(&e.to_string()));
+    let mut preset = read?;
     if !fits && preset.board.name == MARK {
         let lent = std::str::from_utf8(name).unwrap_or("board");
         preset.board.name = lent.into();
@@ -40,7 +47,7 @@ pub fn read_and(
 }
 
 // No preset of the tests has this name.
-const MARK: &[u8] = b"\x01lent\x01";
+const MARK: &str = "\x01lent\x01";
 
 // Fields have fixed names; names of partitions and packages are arbitrary text.
 fn told(message: &str) -> Told {
@@ -108,7 +115,7 @@ fn preset(p: theirs::Preset) -> Preset {
     }
 }
 
-fn board(b: theirs::BoardInfo) -> BoardInfo {
+pub(crate) fn board(b: theirs::BoardInfo) -> BoardInfo {
     BoardInfo {
         name: b.name.into(),
         chip: match b.chip {
@@ -120,7 +127,7 @@ fn board(b: theirs::BoardInfo) -> BoardInfo {
     }
 }
 
-fn image(i: theirs::ImageInfo) -> ImageInfo {
+pub(crate) fn image(i: theirs::ImageInfo) -> ImageInfo {
     ImageInfo {
         platform: i.platform.into(),
         product: i.product.into(),
@@ -135,7 +142,7 @@ fn image(i: theirs::ImageInfo) -> ImageInfo {
     }
 }
 
-fn partition(p: theirs::PartitionSpec) -> PartitionSpec {
+pub(crate) fn partition(p: theirs::PartitionSpec) -> PartitionSpec {
     PartitionSpec {
         name: p.name.into(),
         offset: p.offset,
@@ -151,11 +158,11 @@ fn path(p: Option<PathBuf>) -> Option<Vec<u8>> {
     p.map(|p| p.into_os_string().into_vec())
 }
 
-fn texts(all: Vec<String>) -> Vec<Vec<u8>> {
+pub(crate) fn texts(all: Vec<String>) -> Vec<Vec<u8>> {
     all.into_iter().map(String::into_bytes).collect()
 }
 
-fn component(c: theirs::ComponentSpec) -> ComponentSpec {
+pub(crate) fn component(c: theirs::ComponentSpec) -> ComponentSpec {
     ComponentSpec {
         kind: match c.kind {
             theirs::ComponentKind::App => ComponentKind::App,

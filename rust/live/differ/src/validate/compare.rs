@@ -1,6 +1,6 @@
 //! What is asked about validation.
 use super::original;
-use crate::records::compare::{Judge, Question};
+use crate::records::compare::{Judge, Question, RECORDS};
 use replay::records::ask::{self, Host};
 use replay::validate::{model, random};
 
@@ -10,6 +10,7 @@ pub const VALIDATE: Question = Question {
     original: original::read,
     numbers: &model::NUMBERS,
     random: random::text,
+    ..RECORDS
 };
 
 /// All sides.

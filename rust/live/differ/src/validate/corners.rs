@@ -8,11 +8,11 @@ use replay::validate::faults::FAULTS;
 use replay::validate::{plain, spelled};
 
 // A partition, one behind it, a component for each, an application.
-const A: &str = "[[partition]]\nname = \"a\"\noffset = 0\nsize = 4096\n";
-const B: &str = "[[partition]]\nname = \"b\"\noffset = 4096\nsize = 4096\n";
-const X: &str = "[[component]]\nname = \"x\"\npackage = \"p\"\npartition = \"a\"\n";
-const Y: &str = "[[component]]\nname = \"y\"\npackage = \"q\"\npartition = \"b\"\n";
-const K: &str = "[apps.k]\npartition = \"a\"\n";
+pub(crate) const A: &str = "[[partition]]\nname = \"a\"\noffset = 0\nsize = 4096\n";
+pub(crate) const B: &str = "[[partition]]\nname = \"b\"\noffset = 4096\nsize = 4096\n";
+pub(crate) const X: &str = "[[component]]\nname = \"x\"\npackage = \"p\"\npartition = \"a\"\n";
+pub(crate) const Y: &str = "[[component]]\nname = \"y\"\npackage = \"q\"\npartition = \"b\"\n";
+pub(crate) const K: &str = "[apps.k]\npartition = \"a\"\n";
 // 32 and 33 bytes.
 const L32: &str = "éééééééééééééééé";
 const L33: &str = "ééééééééééééééééx";

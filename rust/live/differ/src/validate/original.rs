@@ -13,11 +13,14 @@ pub fn read(text: &str, name: &[u8]) -> Result<Preset, Told> {
 }
 
 fn validated(preset: &Theirs) -> Result<(), Told> {
-    let told = |e: &str| whole(e).or_else(|| entry(preset, e));
-    preset.validate().map_err(|e| {
-        let message = e.to_string();
-        told(&message).unwrap_or_else(|| panic!("unknown message: {message}"))
-    })
+    let verdict = preset.validate().map_err(|e| e.to_string());
+    verdict.map_err(|message| told_of(preset, &message))
+}
+
+/// What its message about a preset says.
+pub fn told_of(preset: &Theirs, message: &str) -> Told {
+    let told = whole(message).or_else(|| entry(preset, message));
+    told.unwrap_or_else(|| panic!("unknown message: {message}"))
 }
 
 // How messages begin that are about no entry.

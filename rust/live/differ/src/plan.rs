@@ -1,0 +1,4 @@
+//! The same for planning.
+pub mod compare;
+pub mod corners;
+pub mod original;

@@ -1,0 +1,51 @@
+//! What is asked about planning.
+use super::original;
+use crate::records::compare::{Answers, Judge, Question, agree};
+use crate::records::original::parsed;
+use crate::validate::compare::VALIDATE;
+use oracle::preset::Preset as Theirs;
+use port::preset::Preset;
+use replay::plan::ask::{PLAN as DOOR, difference};
+use replay::plan::keys::answers;
+use replay::plan::{model, random};
+use replay::records::answer::Read;
+use replay::records::ask::{Host, about};
+
+/// What is planned for all that may be selected.
+pub const PLAN: Question = Question {
+    original: original::read,
+    numbers: &model::NUMBERS,
+    random: random::text,
+    selected,
+    ..VALIDATE
+};
+
+/// All sides.
+pub fn judge() -> Judge {
+    Judge::new(PLAN, Host::new(DOOR))
+}
+
+// By the definitions, once the original plans the same of a preset that is accepted.
+fn selected(text: &[u8], name: &[u8], read: Read) -> Answers {
+    let all = answers(&read);
+    let Ok(answer) = read else {
+        return Ok(all);
+    };
+    let text = std::str::from_utf8(text).map_err(|e| format!("not refused with 2: {e}"))?;
+    let theirs = parsed(text, name).map_err(|told| format!("accepted against {told:?}"))?;
+    for (key, _) in &all {
+        let same = same(&answer.preset, &theirs, key.as_deref());
+        same.map_err(|e| format!("{}definition against original, {e}", about(key)))?;
+    }
+    Ok(all)
+}
+
+// A key that is not UTF-8 cannot be handed to the original.
+fn same(preset: &Preset, theirs: &Theirs, key: Option<&[u8]>) -> Result<(), String> {
+    let Ok(utf8) = key.map(std::str::from_utf8).transpose() else {
+        return Ok(());
+    };
+    let (ours, theirs) = (model::plan(preset, key), original::plan(theirs, utf8));
+    let (ours, theirs) = (ours.as_ref(), theirs.as_ref());
+    agree(ours.map_err(|e| *e), theirs.map_err(|e| *e), difference)
+}

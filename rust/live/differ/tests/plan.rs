@@ -1,0 +1,76 @@
+//! Planning on all sides: the port, the definitions and the original.
+use differ::plan::compare::{PLAN as ASKED, judge};
+use differ::record::PLAN;
+use differ::records::compare::{answers, check_random};
+use replay::document::vector;
+use replay::met::Met;
+use replay::plan::cases::CASES;
+use replay::plan::model::NUMBERS;
+use replay::plan::random;
+use replay::random::Rng;
+use replay::records::random::{NAMES, name};
+use replay::records::spelling::paths;
+use replay::validate::spelled;
+
+#[test]
+fn corners() {
+    let mut judge = judge();
+    for (i, text) in PLAN.texts().enumerate() {
+        judge.name = NAMES[i % NAMES.len()].to_vec();
+        judge.check(&vector::joined(&text));
+    }
+    println!("{}", judge.met.summary());
+    assert_eq!(judge.seldom(5), None, "{}", judge.met.summary());
+}
+
+// Each sort by itself; between them both numbers are met.
+#[test]
+fn around_every_boundary() {
+    let (mut r, mut all) = (Rng::new(SEED), Met::default());
+    for (name, presets) in CASES {
+        let mut judge = judge();
+        for preset in presets() {
+            judge.check(spelled::text(&mut r, &preset).as_bytes());
+        }
+        println!("{name}: {}", judge.met.summary());
+        all.add(&judge.met);
+    }
+    assert_eq!(all.seldom(NUMBERS, 100), None, "{}", all.summary());
+}
+
+const SEED: u64 = 20_241_118;
+const COUNT: usize = 30_000;
+
+#[test]
+fn random_presets() {
+    check_random(judge, SEED, COUNT);
+}
+
+// The second derivation alone, on other presets than above.
+#[test]
+fn definitions_against_the_original() {
+    let (mut r, mut met) = (Rng::new(SEED + 10), Met::default());
+    for _ in 0..COUNT {
+        let (name, text) = (name(&mut r), random::text(&mut r));
+        let told = answers(&ASKED, &text, &name);
+        let told = told.unwrap_or_else(|e| panic!("{}: {e}", text.escape_ascii()));
+        let numbers = told.iter().map(|(_, read)| read.as_ref().err());
+        numbers.for_each(|e| met.count(e.map_or(0, |e| e.number)));
+    }
+    println!("{}", met.summary());
+    assert_eq!(met.seldom(NUMBERS, 100), None, "{}", met.summary());
+}
+
+// Every path up to seven characters of the one component, which leads.
+#[test]
+fn file_stems() {
+    let mut judge = judge();
+    for path in paths(&["/", ".", "a"], 7) {
+        let text = format!(
+            "[[partition]]\nname = \"a\"\noffset = 0\nsize = 4096\n[[component]]\nname = \"c\"\n\
+             kind = \"app\"\npartition = \"a\"\nfile = \"{path}\"\n"
+        );
+        judge.check(text.as_bytes());
+    }
+    assert_eq!(judge.met.of(0), 3_280, "{}", judge.met.summary());
+}

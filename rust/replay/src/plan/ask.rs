@@ -1,0 +1,106 @@
+//! The port's plans, with the rooms that they leave looked through.
+use super::keys::answers;
+use super::model::{self, Selected};
+use super::vector::rows;
+use crate::records::answer::{Preset, Read};
+use crate::records::ask::{Asked, Door, Host, VALIDATE, about, differing, few, there, walk};
+use port::plan::{Plan, rebuild};
+use port::plans::{self, Planned, Selection, SourceView};
+use port::records::{Bytes, FeatureList, Rooms};
+
+/// The planner goes on from the validator.
+pub const PLAN: Door = Door {
+    own: |a, store, tree| plans::plan(a.text, a.name, a.selection, store, tree),
+    below: VALIDATE.own,
+    first: 80,
+    shown: planned,
+};
+
+// The whole plan; `preset` is what the rooms hold.
+fn planned(rooms: Rooms, asked: Asked, preset: &Preset) -> Result<(), String> {
+    let got = rebuild(rooms, asked.name, asked.selection)?;
+    let want = model::plan(preset, selected(asked.selection));
+    let want = want.map_err(|refusal| format!("planned against {refusal:?}"))?;
+    difference(&got, &want).map_or(Ok(()), Err)
+}
+
+fn selected(s: Selection) -> Selected {
+    (s.app != 0).then_some(s.key)
+}
+
+/// The first part in which two plans differ, or nothing.
+pub fn difference(got: &Plan, want: &Plan) -> Option<String> {
+    (got != want).then(|| differing(&rows(got), &rows(want)))
+}
+
+/// Plans a preset for every selection, and holds each answer against the definitions.
+pub fn judge(host: &mut Host, text: &[u8], name: &[u8], read: &Read) -> Result<(), String> {
+    for (selected, want) in answers(read) {
+        host.selected = selected;
+        let told = host.judge(text, name, &want);
+        told.map_err(|e| format!("{}{e}", about(&host.selected)))?
+            .ok();
+    }
+    Ok(())
+}
+
+/// Looks through every view of a plan in any rooms: what is not found is zero, all views of a
+/// component are there or none, and lists end.
+pub fn look(rooms: Rooms, name: &[u8], selection: Selection) -> Result<(), String> {
+    let planned = Planned { rooms, selection };
+    let counts = planned.counts();
+    text(planned.stem(name))?;
+    for i in few(counts.components) {
+        component(&planned, i)?;
+    }
+    for i in few(counts.builds) {
+        let build = planned.build(i);
+        if there(build)? != (i < counts.builds) {
+            return Err(format!("{build:?} as number {i} of {}", counts.builds));
+        }
+        ends(rooms, build.features)?;
+    }
+    Ok(())
+}
+
+// Entries with a fault are used too, and may have lists of any length.
+fn ends(rooms: Rooms, list: FeatureList) -> Result<(), String> {
+    walk(rooms, list, rooms.store.len() + rooms.made)
+}
+
+fn component(planned: &Planned, i: usize) -> Result<(), String> {
+    let (own, pbp) = (planned.source(i), planned.pbp(i));
+    let placed = there(planned.partition(i))?;
+    let found = [
+        there(planned.head(i))?,
+        there(planned.role(i))?,
+        there(planned.boot(i))?,
+        there(planned.load(i))?,
+        source(planned.rooms, own)?,
+    ];
+    if found.iter().any(|f| *f != found[0]) {
+        return Err(format!("only some views of component {i} are there"));
+    }
+    match !found[0] && (placed || source(planned.rooms, pbp)?) {
+        true => Err(format!("component {i} is not there but for {pbp:?}")),
+        false => ends(planned.rooms, planned.role(i).features),
+    }
+}
+
+// Whether there is one.
+fn source(rooms: Rooms, s: SourceView) -> Result<bool, String> {
+    let bare = SourceView::default();
+    ends(rooms, s.features)?;
+    match (s.kind, s.file == bare.file) {
+        (0, _) if s == bare => Ok(false),
+        (1, true) | (2, false) => Ok(true),
+        _ => Err(format!("{s:?}")),
+    }
+}
+
+fn text(b: Bytes) -> Result<(), String> {
+    match b.kind {
+        0..=4 => Ok(()),
+        _ => Err(format!("{b:?}")),
+    }
+}
