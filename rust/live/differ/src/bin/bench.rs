@@ -13,6 +13,8 @@ use std::time::{Duration, Instant};
 
 const RUNS: usize = 301;
 const LEAST_RUNS: usize = 7;
+// A short text is run for this long, so that no few runs on a busy machine decide.
+const LEAST_TIME: Duration = Duration::from_millis(500);
 // One text is measured no longer than this once it had its least number of runs.
 const BUDGET: Duration = Duration::from_secs(10);
 
@@ -357,7 +359,11 @@ fn count(v: &Value) -> usize {
 fn measured<A, B>(mut ours: impl FnMut() -> A, mut theirs: impl FnMut() -> B) -> String {
     let (mut a, mut b) = (Vec::new(), Vec::new());
     let start = Instant::now();
-    while a.len() < LEAST_RUNS || a.len() < RUNS && start.elapsed() < BUDGET {
+    let more = |runs: usize| {
+        let spent = start.elapsed();
+        runs < LEAST_RUNS || spent < LEAST_TIME || runs < RUNS && spent < BUDGET
+    };
+    while more(a.len()) {
         a.push(timed(&mut ours));
         b.push(timed(&mut theirs));
     }
