@@ -22,3 +22,7 @@ pub mod Chosen
 pub mod Demand
 pub mod DemandNeeds
 pub mod Plans
+pub mod Weights
+pub mod RecordWeights
+pub mod PresetWeights
+pub mod Listings

@@ -11,6 +11,8 @@ use Rattle.meaning.specs.Tree.{Items, Table, array, table, none′, empt
 use Rattle.meaning.specs.Document.{document, computes}
 use Rattle.meaning.specs.Schema.{Board, Image, Partition, Component, Application, Preset, d13x, spiNor, kindApp}
 use Rattle.meaning.specs.Preset as whole
+use Rattle.meaning.specs.Listing as listings
+use Rattle.meaning.specs.Listing.{outSize, listing, printed}
 use Rattle.meaning.specs.Samples.{lined, words, word, number, _≔_⨾_, _⊕_}
 
 -- "Input"; the same text stands in presets/example.toml
@@ -115,3 +117,23 @@ preset = record { board = board; image = image; partitions = boot ∷ profiles �
 pub example-preset : whole.read of01 32 32768 65536 (ascii "board") example ≡ accepted (record { parsed = record { root = tree; bytes = store; made = 21 }; preset = preset })
 unfolding whole.computes
 example-preset = refl
+
+-- "Output", byte for byte
+pub example-listing : printed (listing of01 32 32768 65536 (outSize (ascii "board")) (ascii "board") example)
+    ≡ lined (
+    "ok d13x spi-nor 2 1 1 21"
+    ∷ "part boot 0 262144"
+    ∷ "part profiles 262144 1310720"
+    ∷ "comp first app boot;mtd"
+    ∷ "app desk desk profiles"
+    ∷ "build loader 0"
+    ∷ "stem loader"
+    ∷ []
+    )
+unfolding listings.computes
+example-listing = refl
+
+-- "A refusal prints `refused`, number, section, place.": of P12's empty text
+pub empty-listing : printed (listing of01 32 32768 65536 (outSize (ascii "board")) (ascii "board") []) ≡ lined ("refused 40 3 0" ∷ [])
+unfolding listings.computes
+empty-listing = refl

@@ -23,6 +23,7 @@ pub mod Layout
 pub mod Rules
 pub mod Preset
 pub mod Plan
+pub mod Listing
 pub mod Samples
 pub mod Table
 pub mod Example
