@@ -2,3 +2,4 @@ pub mod Gapping
 pub mod Stepping
 pub mod Choosing
 pub mod Comparing
+pub mod Tallying

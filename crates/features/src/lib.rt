@@ -425,3 +425,31 @@ pub fn equal(tree: &[u8], store: &[u8], made: usize, f: Features, g: Features) -
     }
     equal_slow(tree, store, made, f, g)
 }
+
+// No list has more items.
+fn most(store: &[u8], made: usize, f: Features) -> usize
+    ensures { λ r. ⌜ r ≡ piece.bound (now (store .entry)) (now (store .entry)) made f ⌝ }
+{
+    match f {
+        Features::Absent => 0,
+        Features::Words { from, len } => schema::stored(store, from, len).len(),
+        Features::Items(_) => made,
+    }
+}
+
+// How many items a list has, each once.
+pub fn count(tree: &[u8], store: &[u8], made: usize, f: Features) -> usize
+    requires { ⌜ Rooms (now tree) made ⌝ }
+    ensures { λ r. ⌜ r ≡ length (meant.ordered (bytesAll (now (store .entry)) (piece.pieces (now (tree .entry)) (now (store .entry)) made f))) ⌝ }
+{
+    let end = most(store, made, f);
+    let mut after = Feature::Nothing;
+    for n in 0..end {
+        after = next(tree, store, made, f, after);
+        match after {
+            Feature::Nothing => return n,
+            Feature::At(_) => {}
+        }
+    }
+    end
+}
