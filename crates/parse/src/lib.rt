@@ -1,4 +1,4 @@
-// From tree to records: the fields of a preset in 01's order, and `read`.
+// From tree to records: the fields of a preset in 01's order.
 
 pub mod application;
 pub mod component;
@@ -8,7 +8,6 @@ pub mod file;
 pub mod front;
 pub mod view;
 
-use document::Read;
 use meaning::Limits;
 use schema::Text;
 use schema::Word;
@@ -17,7 +16,7 @@ ghost use Prim.Native.Nat.{_≤_};
 ghost use lib.ListN.{length};
 ghost use Rattle.tree.specs.Doors.{Rooms};
 ghost use Rattle.parse.specs.Verdict as verdicts;
-ghost use Rattle.parse.specs.Verdict.{Judging, Settling, Kept, Parsed};
+ghost use Rattle.parse.specs.Verdict.{Judging, Told};
 ghost use Rattle.parse.specs.Refused as refused;
 ghost use Rattle.parse.specs.Refusals as refusals;
 
@@ -125,65 +124,10 @@ pub fn check(tree: &[u8], store: &[u8], made: usize, name: &[u8], limits: Limits
     check_applications(tree, store, made, limits)
 }
 
-// What reading a preset comes to: number 0 and the count of values made; or 01's number, section and place.
-pub struct Outcome {
-    pub number: u32,
-    pub section: u32,
-    pub place: usize,
-    pub made: usize,
-}
-
-// A text that has no tree.
-pub fn unread(number: u32, line: usize) -> Outcome
-    ensures { λ r. ⌜ r ≡ record { number = number; section = 0; place = line; made = 0 } ⌝ }
-{
-    Outcome {
-        number: number,
-        section: 0,
-        place: line,
-        made: 0,
-    }
-}
-
-// What a judgement leaves: the rooms as they are; a refusal, all zero.
-pub fn settle(v: Refusal, store: &mut [u8], tree: &mut [u8], made: usize) -> Outcome
-    requires { ⌜ Settling v made ⌝ }
-    ensures { λ r. ⌜ Kept v (now (store .entry)) (now (tree .entry)) made (now (store .exit)) (now (tree .exit)) r ⌝ }
-{
-    if v.number == 0 {
-        return Outcome {
-            number: 0,
-            section: 0,
-            place: 0,
-            made: made,
-        };
-    }
-    slices::zero(store);
-    slices::zero(tree);
-    Outcome {
-        number: v.number,
-        section: v.section,
-        place: v.place,
-        made: 0,
-    }
-}
-
-// The records of a tree that was read.
-fn keep(name: &[u8], store: &mut [u8], tree: &mut [u8], made: usize) -> Outcome
+// The same within 01's limits: the judge of records.
+pub fn judge(tree: &[u8], store: &[u8], made: usize, name: &[u8]) -> Refusal
     requires { ⌜ Rooms (now tree) made ⌝ }
-    ensures { λ r. ⌜ Kept (verdicts.reading (now (name .entry)) (now (tree .entry)) (now (store .entry)) made) (now (store .entry)) (now (tree .entry)) made (now (store .exit)) (now (tree .exit)) r ⌝ }
+    ensures { λ r. ⌜ Told (verdicts.reading (now (name .entry)) (now (tree .entry)) (now (store .entry)) made) r ⌝ }
 {
-    let v = check(tree, store, made, name, meaning::of01());
-    settle(v, store, tree, made)
-}
-
-// Reads a preset into the two rooms: the text's tree, then its records. A refusal leaves both rooms all zero.
-pub fn read(text: &[u8], name: &[u8], store: &mut [u8], tree: &mut [u8]) -> Outcome
-    ensures { λ r. ⌜ Parsed (verdicts.reading (now (name .entry))) (now (text .entry)) (now (store .entry)) (now (tree .entry)) (now (store .exit)) (now (tree .exit)) r ⌝ }
-{
-    let r = document::read_tree(text, store, tree);
-    match r {
-        Read::Fine(st) => keep(name, store, tree, st.made),
-        Read::Fault { number, line } => unread(number, line),
-    }
+    check(tree, store, made, name, meaning::of01())
 }

@@ -158,7 +158,7 @@ pub struct Counts {
     pub applications: usize,
 }
 
-fn counts_of(tree: &[u8], store: &[u8], made: usize) -> Counts
+pub fn counts_of(tree: &[u8], store: &[u8], made: usize) -> Counts
     requires { ⌜ Rooms (now tree) made ⌝ }
     ensures { λ r. ⌜ r ≡ views.countsOf (now (tree .entry)) (now (store .entry)) made ⌝ }
 {

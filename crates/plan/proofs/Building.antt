@@ -268,15 +268,15 @@ module _ (room store : Seq ℕ) (made : ℕ) (l : List) (e : l ≡ componentList
   pub uses-own : (c : Choice) → c ≡ choices.BootChain → Used 129 (uses room store made c) u
   uses-own c g = rw g widened
 
-  pub uses-undeclared : (c : Choice) → c ≡ choices.Undeclared → Used 129 (uses room store made c) u
-  uses-undeclared c g = rw g widened
-
   pub uses-followed : (c : Choice) (place n : ℕ) (r : BuildList) → c ≡ choices.At place n → Followed room store made n u r → Used 129 (uses room store made c) r
   uses-followed c place n r g f =
       let d : length (ownUses room store made ++ (applicationUse room store made n ∷ [])) ≡ u .count + 1
       = length-append (ownUses room store made) (applicationUse room store made n ∷ []) ∙ ap (λ (k : ℕ). k + 1) (sym (own .count)) in
       let a : take (u .count) (u .items) ≡ ownUses room store made = rw (own .count) (own .items) in
       rw g (record { count = f .count ∙ sym d; fits = omega (arith, d, own .count, own .fits); items = rw (d, f .items, a) })
+
+pub uses-undeclared : (room store : Seq ℕ) (made : ℕ) (c : Choice) (items : Seq Build) → c ≡ choices.Undeclared → Used 129 (uses room store made c) (record { count = 0; items = items })
+uses-undeclared room store made c items g = rw g (record { count = refl; fits = omega arith; items = refl })
 
 -- ---- builds
 

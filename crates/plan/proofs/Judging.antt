@@ -1,4 +1,4 @@
--- The judge of planning, and what it leaves: one law for each way out.
+-- The judge of planning: one law for each way out.
 use Prim.Native.Nat.{ℕ, zero, suc, _+_, _≤_, _<_}
 use mathlib.Core.List.{List as Seq, [], _∷_}
 use mathlib.Core.Path.{_≡_, ap}
@@ -13,13 +13,12 @@ use Rattle.tree.specs.Room.{slotAt}
 use Rattle.tree.specs.Order.{next}
 use Rattle.tree.specs.Doors.{Rooms}
 use Rattle.parse.specs.declared.Refusal.{Refusal}
-use Rattle.parse.specs.declared.Outcome.{Outcome}
 use Rattle.parse.specs.declared.entry.List.{List}
 use Rattle.parse.specs.Entries.{onward, walk, applicationAt}
 use Rattle.parse.specs.Views.{applicationList}
-use Rattle.parse.specs.Verdict.{Kept, Settling}
+use Rattle.parse.specs.Verdict.{Told}
 use Rattle.validate.specs.Entries.{kept}
-use Rattle.validate.specs.Validated.{Told, validating}
+use Rattle.validate.specs.Validated.{validating}
 use Rattle.plan.specs.declared.choice.Choice.{Choice}
 use Rattle.plan.specs.declared.choice.Choice.the-variants.{BootChain, Undeclared, At}
 use Rattle.plan.specs.Choices.{keyed, declaredIn, declared, choice, taken, nameFault, fault}
@@ -74,12 +73,3 @@ module _ (name : Seq ℕ) (app : ℕ) (key store tree : Seq ℕ) (made : ℕ) (v
         is = rw (← t .is, eq-eqb (v .number) 0 z) e;
         low = omega (arith, fault-low tree store made (choice tree store made app key) (choice-low tree store key made app), ap (λ (x : Refusal). x .place) e);
       }
-
--- ---- what it leaves
-
-module _ (name : Seq ℕ) (app : ℕ) (key store tree : Seq ℕ) (made : ℕ) (v : Refusal) (t : Told (planning name app key tree store made) v) where
-  pub told-settles : Rooms tree made → Settling v made
-  told-settles h = record { place = t .low; few = h .low }
-
-  pub told-kept : (store' tree' : Seq ℕ) (r : Outcome) → Kept v store tree made store' tree' r → Kept (planning name app key tree store made) store tree made store' tree' r
-  told-kept store' tree' r k = rw (← t .is) k

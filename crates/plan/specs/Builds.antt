@@ -91,10 +91,10 @@ module _ (room store : Seq ℕ) (made : ℕ) where
   abbrev pub ownUses : Seq Build
   ownUses = eachComponent (componentList room store made .place) (componentList room store made .end)
 
-  -- "the application last"
+  -- "the application last"; of a key that is not declared there are none
   abbrev pub uses : Choice → Seq Build
   uses choices.BootChain = ownUses
-  uses choices.Undeclared = ownUses
+  uses choices.Undeclared = []
   uses (choices.At place n) = ownUses ++ (applicationUse n ∷ [])
 
   unfoldable pub buildsOf : Choice → Seq Build

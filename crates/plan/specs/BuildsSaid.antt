@@ -32,6 +32,8 @@ use Rattle.plan.specs.declared.choice.Choice.{Choice}
 use Rattle.plan.specs.declared.choice.Choice.the-variants as choices
 use Rattle.plan.specs.declared.component.Build.{Build}
 use Rattle.plan.specs.Planned.{built}
+use Rattle.plan.specs.ChoiceSaid.{selected, Met}
+use Rattle.plan.specs.PlannedSaid.{buildMeant}
 use Rattle.plan.specs.Builds.{wanted, fresh, firstUses, usesOf, applicationUse, buildsOf}
 
 -- ---- texts that were read
@@ -81,14 +83,10 @@ module _ (room store : List ℕ) (made : ℕ) where
 -- ---- what a build means
 
 module _ (room store : List ℕ) (made : ℕ) (name : List ℕ) where
-  -- one whose package is stored
-  abbrev pub buildMeant : Build → meant.Build
-  buildMeant b = record { pack = spelled store name (b .«package»); bin = spelled store name (b .bin); features = featureList room store made (b .features) }
-
   -- uses whose package is absent are none
   abbrev pub usesMeant : List Build → List meant.Build
   usesMeant [] = []
-  usesMeant (u ∷ us) = pick (there (u .«package»)) (buildMeant u ∷ usesMeant us) (usesMeant us)
+  usesMeant (u ∷ us) = pick (there (u .«package»)) ((buildMeant room store made name) u ∷ usesMeant us) (usesMeant us)
 
   -- the packages of those
   abbrev pub packs : List Build → List (List ℕ)
@@ -121,7 +119,7 @@ module _ (room store : List ℕ) (made : ℕ) (name : List ℕ) where
   unfolding fresh
   fresh-stored es u from len h t = rw (t, among-packs from len es h)
 
-  pub first-uses-say : (es us : List Build) → KeptAll es → KeptAll us → map buildMeant (firstUses store es us) ≡ meant.firstUses (packs es) (usesMeant us)
+  pub first-uses-say : (es us : List Build) → KeptAll es → KeptAll us → map (buildMeant room store made name) (firstUses store es us) ≡ meant.firstUses (packs es) (usesMeant us)
   first-uses-say es [] h k = refl
   first-uses-say es (u ∷ us) h k =
       let more = first-uses-say (es ++ (u ∷ [])) us (kept-behind es u h (k .0)) (k .1) in
@@ -130,7 +128,7 @@ module _ (room store : List ℕ) (made : ℕ) (name : List ℕ) where
       (λ from len t.
       let m = rw (packs-behind es u (ap there t)) at more in
       rw (fresh-stored es u from len h t, ap there t)
-      (on (among (spelled store name (u .«package»)) (packs es)) (λ f. rw f m) (λ f. rw f (ap (λ (bs : List meant.Build). buildMeant u ∷ bs) m))))
+      (on (among (spelled store name (u .«package»)) (packs es)) (λ f. rw f m) (λ f. rw f (ap (λ (bs : List meant.Build). (buildMeant room store made name) u ∷ bs) m))))
 
   -- ---- uses
 
@@ -157,7 +155,7 @@ module _ (room store : List ℕ) (made : ℕ) (name : List ℕ) where
       wanted-says (parsing.componentAt room store made n 32 .component) (usesOf room store made ns) ∙ ap (λ (bs : List meant.Build). meant.wanted (componentOf room store made name 32 n) ++ bs) (uses-say ns)
 
   -- "Builds stand in first use"
-  pub first-uses-of-say : (ns : List ℕ) → map buildMeant (firstUses store [] (usesOf room store made ns)) ≡ meant.firstUses [] (meant.wantedBy (map (componentOf room store made name 32) ns))
+  pub first-uses-of-say : (ns : List ℕ) → map (buildMeant room store made name) (firstUses store [] (usesOf room store made ns)) ≡ meant.firstUses [] (meant.wantedBy (map (componentOf room store made name 32) ns))
   first-uses-of-say ns = first-uses-say [] (usesOf room store made ns) tt (uses-kept room store made ns) ∙ ap (meant.firstUses []) (uses-say ns)
 
   -- ---- with the application
@@ -174,14 +172,8 @@ module _ (room store : List ℕ) (made : ℕ) (name : List ℕ) where
   unfolding applicationUse meant.wanted meant.componentOf parsing.applicationAt reading.applicationRead
   application-use-says n = refl
 
-  -- the application that goes with the boot chain
-  abbrev pub applicationChosen : Choice → Option schema.Application
-  applicationChosen choices.BootChain = none
-  applicationChosen choices.Undeclared = none
-  applicationChosen (choices.At place n) = some (applicationOf room store made name 32 n)
-
   pub builds-of-say : (ns : List ℕ) (n : ℕ)
-      → map buildMeant (firstUses store [] (usesOf room store made ns ++ (applicationUse room store made n ∷ [])))
+      → map (buildMeant room store made name) (firstUses store [] (usesOf room store made ns ++ (applicationUse room store made n ∷ [])))
       ≡ meant.buildsOf (some (applicationOf room store made name 32 n)) (map (componentOf room store made name 32) ns)
   unfolding meant.buildsOf meant.inOrder
   builds-of-say ns n =
@@ -196,14 +188,14 @@ module _ (room store : List ℕ) (made : ℕ) (name : List ℕ) where
       ∙ ap (λ (bs : List meant.Build). meant.wantedBy cs ++ bs) (application-use-says n)
       ∙ sym (wanted-behind cs (meant.componentOf (applicationOf room store made name 32 n))))
 
-  boot-builds-say : (ns : List ℕ) → map buildMeant (firstUses store [] (usesOf room store made ns)) ≡ meant.buildsOf none (map (componentOf room store made name 32) ns)
+  boot-builds-say : (ns : List ℕ) → map (buildMeant room store made name) (firstUses store [] (usesOf room store made ns)) ≡ meant.buildsOf none (map (componentOf room store made name 32) ns)
   unfolding meant.buildsOf meant.inOrder
   boot-builds-say ns = first-uses-of-say ns
 
   -- a preset's components are no more than 64
-  pub builds-say : (c : Choice) → length (components room store made) ≤ 64
-      → map buildMeant (buildsOf room store made c) ≡ meant.buildsOf (applicationChosen c) (map (componentOf room store made name 32) (components room store made))
+  pub builds-say : (c : Choice) → Met room store made name c → length (components room store made) ≤ 64
+      → map (buildMeant room store made name) (buildsOf room store made c) ≡ meant.buildsOf (selected room store made name c) (map (componentOf room store made name 32) (components room store made))
   unfolding buildsOf
-  builds-say choices.BootChain h = rw (take-all 64 (components room store made) h) (boot-builds-say (components room store made))
-  builds-say choices.Undeclared h = rw (take-all 64 (components room store made) h) (boot-builds-say (components room store made))
-  builds-say (choices.At place n) h = rw (take-all 64 (components room store made) h) (builds-of-say (components room store made) n)
+  builds-say choices.BootChain m h = rw (take-all 64 (components room store made) h) (boot-builds-say (components room store made))
+  builds-say choices.Undeclared m h = absurd m
+  builds-say (choices.At place n) m h = rw (take-all 64 (components room store made) h) (builds-of-say (components room store made) n)

@@ -52,6 +52,12 @@ module _ (room store : Seq ℕ) (made : ℕ) (name : Seq ℕ) where
   selected choices.Undeclared = none
   selected (choices.At place n) = some (application n)
 
+  -- 80 refuses the others
+  abbrev pub Met : Choice → Type 0
+  Met choices.BootChain = Unit {0}
+  Met choices.Undeclared = ⊥
+  Met (choices.At place n) = Unit {0}
+
   -- ---- 80
 
   keyed-is : (key : Seq ℕ) (n : ℕ) → same key (application n .pack) ≡ keyed room store key n

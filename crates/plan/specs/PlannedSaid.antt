@@ -42,7 +42,9 @@ use Rattle.plan.specs.declared.component.Source.the-variants as sources
 use Rattle.plan.specs.declared.component.Planned.{Planned}
 use Rattle.plan.specs.declared.component.PlannedFound.{PlannedFound}
 use Rattle.plan.specs.declared.component.PlannedFound.the-variants as results
-use Rattle.plan.specs.Planned.{built, payload, pbpPayload, headLeft, planned, componentOf, before, plannedFound, placed, ahead, own, selected, composed, component}
+use Rattle.plan.specs.Planned.{built, payload, pbpPayload, headLeft, planned, componentOf, before, plannedFound, placed, ahead, own, composed, component}
+use Rattle.plan.specs.Planned as plans
+use Rattle.plan.specs.ChoiceSaid.{selected, Met}
 
 -- ---- texts
 
@@ -163,7 +165,7 @@ unfolding applicationAt applicationRead
 package-stored room store made n limit = refl
 
 pub selected-means : (room store : Seq ℕ) (made : ℕ) (name : Seq ℕ) (n : ℕ)
-    → foundMeant room store made name (selected room store made n) ≡ some (meant.planned (meant.componentOf (whole.applicationOf room store made name 32 n)))
+    → foundMeant room store made name (plans.selected room store made n) ≡ some (meant.planned (meant.componentOf (whole.applicationOf room store made name 32 n)))
 selected-means room store made name n =
     let a = applicationAt room store made n 32 .application in
     ap (λ (p : meant.PlannedComponent). some p)
@@ -280,31 +282,19 @@ module _ (room store : Seq ℕ) (made : ℕ) (name : Seq ℕ) where
   found-none results.Nothing e = refl
   found-none (results.At q) e = let z : _≡_ {A = ℕ} 0 1 = cc in absurd (omega arith)
 
-  -- the application that goes with the boot chain
-  abbrev pub chosenMeant : Choice → Option schemas.Application
-  chosenMeant choices.BootChain = none
-  chosenMeant choices.Undeclared = none
-  chosenMeant (choices.At place n) = some (whole.applicationOf room store made name 32 n)
-
-  -- 80 refuses the others
-  abbrev pub Met : Choice → Type 0
-  Met choices.BootChain = Unit {0}
-  Met choices.Undeclared = ⊥
-  Met (choices.At place n) = Unit {0}
-
   -- all components of 01's plan
   abbrev pub composition : Choice → Seq meant.PlannedComponent
-  composition c = map meant.planned (meant.composition (chosenMeant c) (componentsMeant room store made name))
+  composition c = map meant.planned (meant.composition (selected room store made name c) (componentsMeant room store made name))
 
   module _ (clear : Clear (λ n. componentAt room store made n 32 .fault) (components room store made)) where
     -- component number i of a plan is the one of 01's plan
-    pub composition-means : (c : Choice) → Met c → (i : ℕ) → foundMeant room store made name (component room store made c i) ≡ entryAt (composition c) i
+    pub composition-means : (c : Choice) → Met room store made name c → (i : ℕ) → foundMeant room store made name (component room store made c i) ≡ entryAt (composition c) i
     unfolding meant.composition
     composition-means choices.BootChain h i = own-means room store made name clear i
     composition-means choices.Undeclared h i = absurd h
     composition-means (choices.At place n) h i = composed-means room store made name clear n i
 
-    module _ (c : Choice) (h : Met c) (i : ℕ) where
+    module _ (c : Choice) (h : Met room store made name c) (i : ℕ) where
       pub composition-there : i < length (composition c) → (q : Planned) × (component room store made c i ≡ results.At q) × (entryAt (composition c) i ≡ some (plannedMeant room store made name q))
       composition-there l =
           let e = entry-there (composition c) i l in

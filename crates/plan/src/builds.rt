@@ -151,7 +151,7 @@ fn first_uses(store: &[u8], uses: [Build; 129], count: usize) -> BuildList
     }
 }
 
-// All uses of a plan in their order.
+// All uses of a plan in their order; a key that is not declared has none.
 fn uses(tree: &[u8], store: &[u8], made: usize, c: Choice) -> BuildList
     requires { ⌜ Rooms (now tree) made × Standing (now tree) c ⌝ }
     ensures { λ r. ⌜ Used 129 (builds.uses (now (tree .entry)) (now (store .entry)) made c) r ⌝ }
@@ -160,7 +160,10 @@ fn uses(tree: &[u8], store: &[u8], made: usize, c: Choice) -> BuildList
     let u = each_component(tree, store, made, l.place, l.end);
     match c {
         Choice::BootChain => u,
-        Choice::Undeclared => u,
+        Choice::Undeclared => BuildList {
+            count: 0,
+            items: no_builds(),
+        },
         Choice::At { place: _, value } => with_application(tree, store, made, value, u),
     }
 }

@@ -23,7 +23,6 @@ use Rattle.schema.specs.declared.Text.{Text}
 use Rattle.schema.specs.declared.Partition.{Partition}
 use Rattle.schema.specs.Words.{chipMeant}
 use Rattle.parse.specs.declared.Refusal.{Refusal}
-use Rattle.parse.specs.declared.Outcome.{Outcome}
 use Rattle.parse.specs.declared.entry.List.{List}
 use Rattle.parse.specs.declared.entry.Partitions.{Partitions}
 use Rattle.parse.specs.declared.front.Front.{Front}
@@ -39,9 +38,9 @@ use Rattle.parse.specs.Refused as refused
 use Rattle.parse.specs.Refused.{lentText, partitionNumbers}
 use Rattle.parse.specs.Views.{partitionList, componentList, applicationList}
 use Rattle.parse.specs.Verdict as verdicts
-use Rattle.parse.specs.Verdict.{Kept, Settling}
+use Rattle.parse.specs.Verdict.{Told}
 use Rattle.parse.proofs.Entering.{comps-many, comps-few}
-use Rattle.parse.proofs.Judging.{components-among, applications-among, partitions-judged, components-judged, applications-judged, verdict-settles}
+use Rattle.parse.proofs.Judging.{components-among, applications-among, partitions-judged, components-judged, applications-judged, verdict-told}
 use Rattle.layout.specs.declared.Fault.{Fault}
 use Rattle.layout.specs.declared.Mark.{Mark}
 use Rattle.layout.specs.Marks.{firstHit, faultOf, judged, Marked}
@@ -70,7 +69,7 @@ use Rattle.validate.specs.Faults.{
   partitionsJudged,
   Using,
 }
-use Rattle.validate.specs.Validated.{validating, Told}
+use Rattle.validate.specs.Validated.{validating}
 use Rattle.validate.proofs.Placing.{rules-low}
 
 -- ---- one group
@@ -295,7 +294,7 @@ module _ (name store tree : Seq ℕ) (made : ℕ) (h : Rooms tree made) where
       let v = verdicts.verdict tree store made name of01 in
       on (eqb (v .number) 0)
       (λ e. rw e (rules-low tree store made name (eqb-true (v .number) 0 e)))
-      (λ e. rw e (verdict-settles name store tree made of01 v refl refl h .place))
+      (λ e. rw e (verdict-told name store tree made of01 v refl refl h .low))
 
   told-is : (r : Refusal) → r ≡ validating name tree store made → Told (validating name tree store made) r
   told-is r e = record { is = e; low = rw e low }
@@ -321,10 +320,3 @@ module _ (name store tree : Seq ℕ) (made : ℕ) (h : Rooms tree made) where
         let v = earlier rules (layoutFault tree store made (f .board .chip)) in
         let d : r ≡ earlier (earlier p (earlier c a)) v = er ∙ ap (earlier p) (earlier-two c a v) ∙ earlier-two p (earlier c a) v in
         told-is r (rw (← front-is, eq-eqb (f .fault .number) 0 z, ← e) d)
-
-module _ (name store tree : Seq ℕ) (made : ℕ) (v : Refusal) (t : Told (validating name tree store made) v) where
-  pub told-settles : Rooms tree made → Settling v made
-  told-settles h = record { place = t .low; few = h .low }
-
-  pub told-kept : (store' tree' : Seq ℕ) (r : Outcome) → Kept v store tree made store' tree' r → Kept (validating name tree store made) store tree made store' tree' r
-  told-kept store' tree' r k = rw (← t .is) k

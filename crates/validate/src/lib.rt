@@ -1,4 +1,4 @@
-// The rules 30 to 70 over a preset's records, and `validate`.
+// The rules 30 to 70 over a preset's records.
 
 pub mod application;
 pub mod component;
@@ -8,10 +8,8 @@ pub mod uses;
 
 use crate::gather::Gathered;
 use crate::uses::Pair;
-use document::Read;
 use layout::Fault;
 use layout::Mark;
-use parse::Outcome;
 use parse::Refusal;
 use schema::Chip;
 use schema::Partition;
@@ -23,8 +21,8 @@ ghost use Rattle.layout.specs.Parts.{partName};
 ghost use Rattle.validate.specs.Gathered as gathered;
 ghost use Rattle.validate.specs.Faults as faults;
 ghost use Rattle.tree.specs.Doors.{Rooms};
-ghost use Rattle.parse.specs.Verdict.{Kept, Parsed};
-ghost use Rattle.validate.specs.Validated.{validating, Told};
+ghost use Rattle.parse.specs.Verdict.{Told};
+ghost use Rattle.validate.specs.Validated.{validating};
 
 // An entry read once: its record's fault, 0 for none; and what the rules ask of it: its mark, the packages it uses, and whether it lies in the first partition.
 pub struct Entry {
@@ -221,24 +219,4 @@ pub fn judge(tree: &[u8], store: &[u8], made: usize, name: &[u8]) -> Refusal
     let chip = board.chip;
     let rules = front::check(store, name, board, image);
     judge_partitions(tree, store, made, chip, rules)
-}
-
-// What the judge leaves of the rooms.
-fn keep(name: &[u8], store: &mut [u8], tree: &mut [u8], made: usize) -> Outcome
-    requires { ⌜ Rooms (now tree) made ⌝ }
-    ensures { λ r. ⌜ Kept (validating (now (name .entry)) (now (tree .entry)) (now (store .entry)) made) (now (store .entry)) (now (tree .entry)) made (now (store .exit)) (now (tree .exit)) r ⌝ }
-{
-    let v = judge(tree, store, made, name);
-    parse::settle(v, store, tree, made)
-}
-
-// Reads a preset into the two rooms and holds it to the rules. A refusal leaves both rooms all zero.
-pub fn validate(text: &[u8], name: &[u8], store: &mut [u8], tree: &mut [u8]) -> Outcome
-    ensures { λ r. ⌜ Parsed (validating (now (name .entry))) (now (text .entry)) (now (store .entry)) (now (tree .entry)) (now (store .exit)) (now (tree .exit)) r ⌝ }
-{
-    let r = document::read_tree(text, store, tree);
-    match r {
-        Read::Fine(st) => keep(name, store, tree, st.made),
-        Read::Fault { number, line } => parse::unread(number, line),
-    }
 }

@@ -6,6 +6,7 @@ use Rattle.plan.proofs.builds.uses.Reads as reads
 use Rattle.plan.proofs.builds.uses.Lts as lts
 use Rattle.parse.proofs.view.component_list.Reads as component-list-reads
 use Rattle.plan.proofs.builds.each_component.Reads as each-component-reads
+use Rattle.plan.proofs.builds.no_builds.Reads as no-builds-reads
 use Rattle.plan.proofs.builds.with_application.Reads as with-application-reads
 
 -- src/builds.rt:159:9
@@ -23,6 +24,9 @@ enum-told c = search needs
 -- src/builds.rt:163:31
 enum-told-2 : tie.Need-enum-told-2
 enum-told-2 c = search needs
+
+no-builds-requires : tie.Need-no-builds-requires
+no-builds-requires c κs = search needs
 
 -- src/builds.rt:164:32
 enum-known-c : tie.Need-enum-known-c
@@ -52,6 +56,7 @@ uses-spec =
     each-component-requires
     enum-told
     enum-told-2
+    no-builds-requires
     enum-known-c
     with-application-requires
     returns
