@@ -7,3 +7,4 @@ pub mod Viewing
 pub mod Plotting
 pub mod Recording
 pub mod Shown
+pub mod Reporting

@@ -34,11 +34,12 @@ use Rattle.document.specs.Rooms as rooms
 use Rattle.document.specs.Rooms.{suffice, judged}
 use Rattle.document.proofs.Reading.{suffices}
 use Rattle.parse.specs.declared.Refusal.{Refusal}
-use Rattle.parse.specs.declared.Outcome as parsed
+use Rattle.entry.specs.declared.Outcome as parsed
 use Rattle.parse.specs.Refusals.{earlier}
 use Rattle.parse.specs.Refused.{lentText, verdict}
 use Rattle.parse.specs.Views.{sound}
 use Rattle.parse.specs.Verdict as verdicts
+use Rattle.entry.specs.Settled as settled
 use Rattle.parse.specs.Filed.{file-named, file-inside}
 use Rattle.parse.specs.Answers.{Says, says-after, says-made, says-accepted, says-refused, earlier-clear}
 use Rattle.parse.specs.Whole.{presetMeant, preset-says, lent-is}
@@ -105,7 +106,7 @@ module _ (judge : List ℕ → List ℕ → ℕ → Refusal) (way : Table → An
   abbrev made : ℕ
   made = length (d .slots)
 
-  module _ (store' tree' : List ℕ) (o : parsed.Outcome) (j : verdicts.Judged judge d (zeros (length store)) (zeros (length tree)) store' tree' o) where
+  module _ (store' tree' : List ℕ) (o : parsed.Outcome) (j : settled.Judged judge d (zeros (length store)) (zeros (length tree)) store' tree' o) where
     carries : Carried room bytes (d .bytes) (d .slots)
     carries = carried room bytes (zeros (length store)) (d .bytes) (d .slots) (j .carries) refl
 
@@ -133,7 +134,7 @@ module _ (judge : List ℕ → List ℕ → ℕ → Refusal) (way : Table → An
       answer-not : 1 ≤ found .number → its ≡ refused (numbered (found .number)) (found .section) (found .place)
       answer-not z = rw (ep, says-refused (way (p .root)) found _ says z)
 
-      kept-is : verdicts.Kept found bytes room made store' tree' o
+      kept-is : settled.Kept found bytes room made store' tree' o
       kept-is = j .kept
 
       shown : store' ≡ bytes → tree' ≡ room → Shown store' tree' p
@@ -194,13 +195,13 @@ module _ (judge : List ℕ → List ℕ → ℕ → Refusal) (way : Table → An
 
 -- ---- every text
 pub answered-is : (judge : List ℕ → List ℕ → ℕ → Refusal) (way : Table → Answer meant.Preset) (text name store tree store' tree' : List ℕ) (o : parsed.Outcome) → Judges name judge way
-    → verdicts.Parsed judge text store tree store' tree' o
+    → settled.Parsed judge text store tree store' tree' o
     → Answered (answer way (inRooms of01 32 (length store) (length tree) text)) text name store tree store' tree' (exported o)
 answered-is judge way text name store tree store' tree' o js r =
     go (inRooms of01 32 (length store) (length tree) text) (judged text (length store) (length tree)) refl refl (judged-agrees text (length store) (length tree)) (r .by)
   where
     go : (a : Answer Parsed) (b : Answer Doc) → inRooms of01 32 (length store) (length tree) text ≡ a → judged text (length store) (length tree) ≡ b → Doc-agrees [] a b
-        → verdicts.ReadBy judge b (zeros (length store)) (zeros (length tree)) store' tree' o
+        → settled.ReadBy judge b (zeros (length store)) (zeros (length tree)) store' tree' o
         → Answered (answer way (inRooms of01 32 (length store) (length tree) text)) text name store tree store' tree' (exported o)
     go (accepted p) (accepted d) ea eb h j =
         on (eqb (found judge way text name store tree js p d eb h store' tree' o j .number) 0)
@@ -216,6 +217,27 @@ answered-is judge way text name store tree store' tree' o js r =
           shows = rw ea tt;
         }
 
+-- a tree that the judge passes is accepted by 01
+pub accepted-is : (judge : List ℕ → List ℕ → ℕ → Refusal) (way : Table → Answer meant.Preset) (text name store tree store' tree' : List ℕ) (o : parsed.Outcome) → Judges name judge way
+    → settled.Parsed judge text store tree store' tree' o → (d : Doc) → judged text (length store) (length tree) ≡ accepted d → o .number ≡ 0
+    → (p : Read) × (answer way (inRooms of01 32 (length store) (length tree) text) ≡ accepted p)
+accepted-is judge way text name store tree store' tree' o js r d ed z =
+    go (inRooms of01 32 (length store) (length tree) text) (judged text (length store) (length tree)) refl refl (judged-agrees text (length store) (length tree)) (r .by)
+  where
+    go : (a : Answer Parsed) (b : Answer Doc) → inRooms of01 32 (length store) (length tree) text ≡ a → judged text (length store) (length tree) ≡ b → Doc-agrees [] a b
+        → settled.ReadBy judge b (zeros (length store)) (zeros (length tree)) store' tree' o
+        → (p : Read) × (answer way (inRooms of01 32 (length store) (length tree) text) ≡ accepted p)
+    go (accepted p) (accepted c) ea eb h j =
+        let v = found judge way text name store tree js p c eb h store' tree' o j in
+        on (eqb (v .number) 0)
+        (λ t. (_, answer-fine judge way text name store tree js p c eb h store' tree' o j ea (eqb-true (v .number) 0 t)))
+        (λ t.
+        let k : o ≡ record { number = v .number; section = v .section; place = v .place; made = 0 } = rw t at (j .kept .says) in
+        absurd (eqb-false (v .number) 0 t (sym (ap (λ (x : parsed.Outcome). x .number) k) ∙ z)))
+    go (accepted p) (refused f i q) ea eb h j = absurd h
+    go (refused f i q) (accepted c) ea eb h j = absurd h
+    go (refused f i q) (refused f' i' q') ea eb h j = let x : refused f' i' q' ≡ accepted d = sym eb ∙ ed in let y : _≡_ {A = ℕ} 0 1 = cc in absurd (omega arith)
+
 -- two results that meet the promise are equal, answer and both rooms
 pub answered-decides : (a : Answer Read) (text name store tree store₁ tree₁ store₂ tree₂ : List ℕ) (r₁ r₂ : Outcome) → Answered a text name store tree store₁ tree₁ r₁
     → Answered a text name store tree store₂ tree₂ r₂ → (r₁ ≡ r₂) × (store₁ ≡ store₂) × (tree₁ ≡ tree₂)
@@ -226,7 +248,7 @@ answered-decides a text name store tree store₁ tree₁ store₂ tree₂ r₁ r
 reading-judges : (name : List ℕ) → Judges name (verdicts.reading name) (presetOf of01 name)
 reading-judges name = record { clear = λ room store made z. z; says = λ room store made root s. s }
 
-pub preset-is : (text name store tree store' tree' : List ℕ) (o : parsed.Outcome) (q : Outcome) → verdicts.Parsed (verdicts.reading name) text store tree store' tree' o → q ≡ exported o
+pub preset-is : (text name store tree store' tree' : List ℕ) (o : parsed.Outcome) (q : Outcome) → settled.Parsed (verdicts.reading name) text store tree store' tree' o → q ≡ exported o
     → Answered (recorded text name store tree) text name store tree store' tree' q
 unfolding read
 preset-is text name store tree store' tree' o q r e = rw e (answered-is (verdicts.reading name) (presetOf of01 name) text name store tree store' tree' o (reading-judges name) r)
@@ -279,7 +301,7 @@ validated-is : (text name store tree : List ℕ) → validated text name store t
 unfolding validate read
 validated-is text name store tree = answer-next (inRooms of01 32 (length store) (length tree) text) (presetOf of01 name) rules
 
-pub valid-is : (text name store tree store' tree' : List ℕ) (o : parsed.Outcome) (q : Outcome) → verdicts.Parsed (validating name) text store tree store' tree' o → q ≡ exported o
+pub valid-is : (text name store tree store' tree' : List ℕ) (o : parsed.Outcome) (q : Outcome) → settled.Parsed (validating name) text store tree store' tree' o → q ≡ exported o
     → Answered (validated text name store tree) text name store tree store' tree' q
 valid-is text name store tree store' tree' o q r e =
     rw (e, validated-is text name store tree) (answered-is (validating name) (rulesOver name) text name store tree store' tree' o (validating-judges name) r)
@@ -301,8 +323,25 @@ planned-is text name app key store tree =
     rw (validated-is text name store tree)
     (answer-next (inRooms of01 32 (length store) (length tree) text) (rulesOver name) (λ preset. plans.planOf preset (selection app key)))
 
-pub plan-is : (text name : List ℕ) (app : ℕ) (key store tree store' tree' : List ℕ) (o : parsed.Outcome) (q : Outcome) → verdicts.Parsed (planning name app key) text store tree store' tree' o
+pub plan-is : (text name : List ℕ) (app : ℕ) (key store tree store' tree' : List ℕ) (o : parsed.Outcome) (q : Outcome) → settled.Parsed (planning name app key) text store tree store' tree' o
     → q ≡ exported o → Answered (planned text name app key store tree) text name store tree store' tree' q
 plan-is text name app key store tree store' tree' o q r e =
     rw (e, planned-is text name app key store tree)
     (answered-is (planning name app key) (planOver name app key) text name store tree store' tree' o (planning-judges name app key) r)
+
+-- the same of planning
+pub plan-accepted : (text name : List ℕ) (app : ℕ) (key store tree store' tree' : List ℕ) (o : parsed.Outcome) → settled.Parsed (planning name app key) text store tree store' tree' o
+    → (d : Doc) → judged text (length store) (length tree) ≡ accepted d → o .number ≡ 0 → (p : Read) × (planned text name app key store tree ≡ accepted p)
+plan-accepted text name app key store tree store' tree' o r d ed z =
+    rw (planned-is text name app key store tree) (accepted-is (planning name app key) (planOver name app key) text name store tree store' tree' o (planning-judges name app key) r d ed z)
+
+-- and what it accepts has a tree
+pub plan-judged : (text name : List ℕ) (app : ℕ) (key store tree : List ℕ) (p : Read) → planned text name app key store tree ≡ accepted p → (d : Doc) × (judged text (length store) (length tree) ≡ accepted d)
+plan-judged text name app key store tree p e =
+    go (inRooms of01 32 (length store) (length tree) text) (judged text (length store) (length tree)) refl refl (judged-agrees text (length store) (length tree)) (sym (planned-is text name app key store tree) ∙ e)
+  where
+    go : (a : Answer Parsed) (b : Answer Doc) → inRooms of01 32 (length store) (length tree) text ≡ a → judged text (length store) (length tree) ≡ b → Doc-agrees [] a b
+        → answer (planOver name app key) (inRooms of01 32 (length store) (length tree) text) ≡ accepted p → (d : Doc) × (judged text (length store) (length tree) ≡ accepted d)
+    go a (accepted d) ea eb h k = (d, eb)
+    go (accepted x) (refused f i q) ea eb h k = absurd h
+    go (refused f i q) (refused f' i' q') ea eb h k = let x : refused f i q ≡ accepted p = rw ea at k in let y : _≡_ {A = ℕ} 0 1 = cc in absurd (omega arith)

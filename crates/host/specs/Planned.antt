@@ -1,15 +1,16 @@
 -- An accepted plan: what the views read from its rooms is 01's plan.
-use Prim.Native.Nat.{ℕ, zero, suc, _≤_, _<_}
+use Prim.Native.Nat.{ℕ, zero, suc, _+_, _≤_, _<_}
 use mathlib.Core.List.{List, [], _∷_, map}
 use mathlib.Core.Option.{Option, none, some}
 use mathlib.Core.Path.{_≡_, refl, sym, ap, subst, _∙_}
 use native.Mathlib.Omega.{arith}
-use borrow.Author.Tests.{ltb-true, ltb-false}
+use borrow.Author.Tests.{ltb-true, ltb-false, le-ltb}
 use lib.Dec.{ltb}
 use lib.ListN.{length, getD, length-map}
 use Rattle.meaning.specs.Base.{nil?}
 use Rattle.meaning.specs.Limits.{of01}
 use Rattle.meaning.specs.Refusal.{Answer, accepted, refused, after}
+use Rattle.meaning.specs.Fields.{each, listed}
 use Rattle.meaning.specs.Schema as schemas
 use Rattle.meaning.specs.Preset.{Read}
 use Rattle.meaning.specs.Plan as meant
@@ -17,11 +18,14 @@ use Rattle.laws.specs.Answers.{accepted-one, after-accepted}
 use Rattle.laws.specs.Cases.{on}
 use Rattle.tree.specs.Doors.{fieldsOf}
 use Rattle.parse.specs.Answers.{accepted-says}
-use Rattle.parse.specs.Entries.{componentAt}
+use Rattle.schema.specs.declared.Partition.{Partition}
+use Rattle.schema.specs.Texts.{spelled}
+use Rattle.parse.specs.Entries.{partitionAt, componentAt, partitions}
+use Rattle.parse.specs.Views.{partitionList}
 use Rattle.parse.specs.Given as given
 use Rattle.parse.specs.Given.{entryAt}
-use Rattle.parse.specs.Refused.{lentText}
-use Rattle.parse.specs.Whole.{Clear, presetMeant, componentOf, applicationOf}
+use Rattle.parse.specs.Refused.{lentText, partitionNumbers}
+use Rattle.parse.specs.Whole.{Clear, reader, presetMeant, componentOf, applicationOf}
 use Rattle.validate.specs.Gathered.{components}
 use Rattle.plan.specs.declared.choice.Choice.{Choice}
 use Rattle.plan.specs.declared.choice.Choice.the-variants as choices
@@ -29,14 +33,20 @@ use Rattle.plan.specs.declared.component.Build.{Build}
 use Rattle.plan.specs.declared.builds.BuildFound.{BuildFound}
 use Rattle.plan.specs.declared.builds.BuildFound.the-variants as builds
 use Rattle.plan.specs.Choices.{choice, fault}
-use Rattle.plan.specs.ChoiceSaid.{selection, selected, plan-says}
+use Rattle.plan.specs.ChoiceSaid.{selection, selected, Met, plan-says}
+use Rattle.plan.specs.declared.component.Planned as composing
+use Rattle.plan.specs.declared.component.PlannedFound.the-variants as founds
 use Rattle.plan.specs.Planned as composed
-use Rattle.plan.specs.PlannedSaid.{foundMeant, buildMeant, componentsMeant, chosenMeant, Met, composition, composition-means}
+use Rattle.plan.specs.Stems as stems
+use Rattle.plan.specs.StemSaid.{stem-means}
+use Rattle.plan.specs.TargetSaid.{targetMeant, partitionsMeant, planned-target}
+use Rattle.plan.specs.PlannedSaid.{foundMeant, plannedMeant, buildMeant, componentsMeant, composition, composition-means}
 use Rattle.plan.specs.Builds as needed
-use Rattle.plan.specs.BuildsSaid.{applicationChosen, builds-say}
+use Rattle.plan.specs.BuildsSaid.{builds-say}
 use Rattle.host.specs.declared.documents.Outcome.{Outcome}
 use Rattle.host.specs.Presets.{Records, Recorded, Answered, validated}
-use Rattle.host.specs.Plans.{planned, chosen, component, buildOf, buildShown, countsShown}
+use Rattle.host.specs.Plans.{planned, chosen, component, buildOf, buildShown, countsShown, targetOf, targetShown, stemShown}
+use Rattle.host.specs.Records.{bytesOf, partitionOf}
 
 -- ---- 01's plan of a text
 
@@ -83,12 +93,17 @@ module _ (room store : List ℕ) (made : ℕ) (name : List ℕ) where
   builtMeant builds.Nothing = none
   builtMeant (builds.At b) = some (buildMeant room store made name b)
 
--- components and builds by number, and how many there are
+-- components and builds by number, and how many there are; the partition of each component's reference, and the stem
 pub record Composed (name store tree : List ℕ) (app : ℕ) (key : List ℕ) (made : ℕ) (q : meant.Plan) : Type 0 where
   pub components : (i : ℕ) → foundMeant tree store made name (component tree store made app key i) ≡ entryAt (q .components) i
   pub builds : (i : ℕ) → builtMeant tree store made name (needed.build tree store made (chosen tree store made app key) i) ≡ entryAt (q .builds) i
   pub built : (i : ℕ) → buildShown tree store made app key i ≡ buildOf (needed.build tree store made (chosen tree store made app key) i)
   pub counts : countsShown tree store made app key ≡ record { components = length (q .components); builds = length (q .builds) }
+  pub target : (i : ℕ) (p : composing.Planned) → component tree store made app key i ≡ founds.At p
+      → targetMeant tree store made name (targetOf tree store made (component tree store made app key i)) ≡ meant.partitionFor (q .partitions) (plannedMeant tree store made name p .spec .role .partition)
+  pub targeted : (i : ℕ) → targetShown tree store made (component tree store made app key i) ≡ partitionOf (targetOf tree store made (component tree store made app key i))
+  pub stem : spelled store name (stems.stem tree store made name (chosen tree store made app key)) ≡ q .stem
+  pub stemmed : stemShown tree store made name app key ≡ bytesOf (stems.stem tree store made name (chosen tree store made app key))
 
 -- ---- lists
 
@@ -106,6 +121,16 @@ ahead-length : (a : schemas.Component) (cs : List schemas.Component) → length 
 ahead-length a [] = refl
 ahead-length a (c ∷ cs) = on (nil? (c .role .partition)) (λ t. rw t (ap suc (ahead-length a cs))) (λ t. rw t)
 
+-- a list without fault, not too long, is accepted
+module _ {Y : Type 0} (fault : ℕ → ℕ) (given' : ℕ → Y) (section : ℕ) where
+  each-accepted : (ns : List ℕ) (i : ℕ) → Clear fault ns → each (reader fault given' section) section i ns ≡ accepted (map given' ns)
+  each-accepted [] i k = refl
+  each-accepted (n ∷ ns) i k = rw (k .0, each-accepted ns (i + 1) (k .1))
+
+  listed-accepted : (limit : ℕ) (ns : List ℕ) → length ns ≤ limit → Clear fault ns → listed (reader fault given' section) section limit ns ≡ accepted (map given' ns)
+  unfolding listed
+  listed-accepted limit ns l k = rw (le-ltb limit (length ns) l) (each-accepted ns 0 k)
+
 -- ---- a choice that is met
 
 module _ (room store : List ℕ) (made : ℕ) (name : List ℕ) where
@@ -113,16 +138,6 @@ module _ (room store : List ℕ) (made : ℕ) (name : List ℕ) where
   clear-met choices.BootChain e = tt
   clear-met choices.Undeclared e = absurd (omega (arith, e))
   clear-met (choices.At place n) e = tt
-
-  same-chosen : (c : Choice) → chosenMeant room store made name c ≡ selected room store made name c
-  same-chosen choices.BootChain = refl
-  same-chosen choices.Undeclared = refl
-  same-chosen (choices.At place n) = refl
-
-  same-built : (c : Choice) → applicationChosen room store made name c ≡ selected room store made name c
-  same-built choices.BootChain = refl
-  same-built choices.Undeclared = refl
-  same-built (choices.At place n) = refl
 
   build-means : (c : Choice) (i : ℕ) → builtMeant room store made name (needed.build room store made c i) ≡ entryAt (map (buildMeant room store made name) (needed.buildsOf room store made c)) i
   unfolding needed.build
@@ -171,16 +186,37 @@ module _ (name store tree : List ℕ) (app : ℕ) (key : List ℕ) (p : Read) (h
 
   components-are : composition tree store made name c ≡ q .components
   unfolding meant.composed
-  components-are =
-      ap (λ (a : Option schemas.Application). map meant.planned (meant.composition a (componentsMeant tree store made name))) (same-chosen tree store made name c)
-      ∙ ap (λ (r : meant.Plan). r .components) (says .1)
+  components-are = ap (λ (r : meant.Plan). r .components) (says .1)
 
   builds-are : map (buildMeant tree store made name) (needed.buildsOf tree store made c) ≡ q .builds
   unfolding meant.composed
   builds-are =
-      builds-say tree store made name c few
-      ∙ ap (λ (a : Option schemas.Application). meant.buildsOf a (componentsMeant tree store made name)) (same-built tree store made name c)
+      builds-say tree store made name c met few
       ∙ ap (λ (r : meant.Plan). r .builds) (says .1)
+
+  -- no partition is refused
+  parts-read : (ps : List Partition) × (partitions tree store made (partitionList tree store made) 32 ≡ accepted ps)
+  parts-read = (
+    _,
+    listed-accepted (λ n. partitionAt tree store made n .fault) (λ n. partitionAt tree store made n .partition) 3 32 (partitionNumbers tree store made (fieldsOf tree made 1))
+        (given.partitions-few tree store made (fieldsOf tree made 1) of01 (lentText name) (h .clear)) (given.partitions-clear tree store made (fieldsOf tree made 1) of01 (lentText name) (h .clear)),
+  )
+
+  partitions-are : partitionsMeant tree store made name ≡ q .partitions
+  unfolding meant.composed
+  partitions-are = ap (λ (r : meant.Plan). r .partitions) (says .1)
+
+  declared-key : c ≡ choices.Undeclared → ⊥
+  declared-key e = absurd (rw e at met)
+
+  stem-is : spelled store name (stems.stem tree store made name c) ≡ q .stem
+  unfolding meant.composed
+  stem-is = stem-means tree store made name app key declared-key ∙ ap (λ (r : meant.Plan). r .stem) (says .1)
+
+  target-is : (i : ℕ) (p : composing.Planned) → composed.component tree store made c i ≡ founds.At p
+      → targetMeant tree store made name (targetOf tree store made (composed.component tree store made c i)) ≡ meant.partitionFor (q .partitions) (plannedMeant tree store made name p .spec .role .partition)
+  target-is i p d =
+      rw d (planned-target tree store made name (parts-read .0) (parts-read .1) c i p d ∙ ap (λ (ps : List schemas.Partition). meant.partitionFor ps (plannedMeant tree store made name p .spec .role .partition)) partitions-are)
 
   pub plan-shown : Composed name store tree app key made q
   plan-shown =
@@ -188,6 +224,10 @@ module _ (name store tree : List ℕ) (app : ℕ) (key : List ℕ) (p : Read) (h
         components = λ i. rw (h .sound) (composition-means tree store made name clear c met i ∙ ap (λ (cs : List meant.PlannedComponent). entryAt cs i) components-are);
         builds = λ i. build-means tree store made name c i ∙ ap (λ (bs : List meant.Build). entryAt bs i) builds-are;
         built = λ i. rw (h .sound);
+        target = λ i p d. rw (h .sound) (target-is i p (rw (h .sound) at d));
+        targeted = λ i. rw (h .sound);
+        stem = stem-is;
+        stemmed = rw (h .sound);
         counts =
             rw (
               h .sound,

@@ -1,6 +1,7 @@
 // The boundary for hosts: what C and Rust call. No export has a `requires`.
 
 mod documents;
+mod listings;
 mod plans;
 mod presets;
 mod records;

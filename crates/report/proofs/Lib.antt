@@ -1,0 +1,5 @@
+pub mod Digits
+pub mod Pages
+pub mod Writing
+pub mod Lining
+pub mod Listing

@@ -1,0 +1,118 @@
+-- The lines of the listing: one law for each.
+use Prim.Native.Nat.{ℕ, _+_}
+use mathlib.Core.List.{List, [], _∷_, _++_, append-assoc, append-nil}
+use mathlib.Core.Path.{_≡_, ap, _∙_}
+use lib.ListN.{length}
+use Rattle.meaning.specs.Base.{ascii}
+use Rattle.meaning.specs.Schema as meant
+use Rattle.meaning.specs.Listing.{spaced, decimal, dashed, stemLine, refusedLine}
+use Rattle.tree.specs.declared.Fields.{Fields}
+use Rattle.tree.specs.Doors.{fieldsOf}
+use Rattle.schema.specs.declared.Text.{Text}
+use Rattle.schema.specs.declared.Word.{Word}
+use Rattle.schema.specs.declared.Chip.{Chip}
+use Rattle.schema.specs.declared.Chip.the-variants as chips
+use Rattle.schema.specs.declared.Media.{Media}
+use Rattle.schema.specs.declared.Media.the-variants as medias
+use Rattle.schema.specs.declared.Kind.{Kind}
+use Rattle.schema.specs.declared.Kind.the-variants as kinds
+use Rattle.schema.specs.declared.Partition.{Partition}
+use Rattle.schema.specs.declared.Component.{Component}
+use Rattle.schema.specs.declared.Application.{Application}
+use Rattle.schema.specs.Words.{word, chipMeant, mediaMeant, kindMeant, chipWord, mediaWord, kindWord}
+use Rattle.schema.specs.Texts.{clip, spelled}
+use Rattle.parse.specs.declared.front.Front.{Front}
+use Rattle.parse.specs.declared.view.Counts.{Counts}
+use Rattle.parse.specs.Front.{frontRead}
+use Rattle.parse.specs.Meant.{featureList}
+use Rattle.parse.specs.Refused.{lentText}
+use Rattle.parse.specs.Views.{countsOf}
+use Rattle.plan.specs.declared.component.Build.{Build}
+use Rattle.report.specs.Page.{Wrote}
+use Rattle.report.specs.Shown as shown
+use Rattle.report.proofs.Pages.{wrote-then}
+use Rattle.report.proofs.Writing.{field-by}
+
+-- ---- words
+chip-said : (c : Chip) (w : Word) → w ≡ chipWord c → word w ≡ meant.chipWord (chipMeant c)
+unfolding word meant.chipWord
+chip-said chips.D13x w e = rw e
+chip-said chips.D21x w e = rw e
+
+media-said : (m : Media) (w : Word) → w ≡ mediaWord m → word w ≡ meant.mediaWord (mediaMeant m)
+unfolding word meant.mediaWord
+media-said medias.SpiNor w e = rw e
+media-said medias.SpiNand w e = rw e
+
+kind-said : (k : Kind) (w : Word) → w ≡ kindWord k → word w ≡ meant.kindWord (kindMeant k)
+unfolding word meant.kindWord
+kind-said kinds.App w e = rw e
+kind-said kinds.Pbp w e = rw e
+kind-said kinds.Raw w e = rw e
+
+-- ---- lines
+module _ (o o1 o2 o3 : List ℕ) (n n1 n2 n3 : ℕ) where
+  pub stem-line : (s : List ℕ) → Wrote (ascii "stem") o n o1 n1 → Wrote (32 ∷ s) o1 n1 o2 n2 → Wrote (10 ∷ []) o2 n2 o3 n3 → Wrote (stemLine s) o n o3 n3
+  unfolding stemLine
+  stem-line s w a z = simp append-assoc (wrote-then w (wrote-then a z))
+
+  module _ (o4 : List ℕ) (n4 : ℕ) where
+    pub build-line : (room store : List ℕ) (made : ℕ) (name : List ℕ) (b : Build) (k : ℕ)
+        → Wrote (ascii "build") o n o1 n1 → Wrote (32 ∷ spelled store name (b .«package»)) o1 n1 o2 n2 → Wrote (32 ∷ decimal k) o2 n2 o3 n3 → Wrote (10 ∷ []) o3 n3 o4 n4
+        → k ≡ length (featureList room store made (b .features))
+        → Wrote (shown.build room store made name b) o n o4 n4
+    unfolding shown.build
+    build-line room store made name b k w x y z e = simp append-assoc (wrote-then w (wrote-then x (wrote-then (field-by y (ap decimal e)) z)))
+
+    module _ (o5 : List ℕ) (n5 : ℕ) where
+      pub part-line : (store : List ℕ) (p : Partition) (s : List ℕ) (end : ℕ)
+          → Wrote (ascii "part") o n o1 n1 → Wrote (32 ∷ s) o1 n1 o2 n2 → Wrote (32 ∷ decimal (p .offset)) o2 n2 o3 n3 → Wrote (32 ∷ decimal end) o3 n3 o4 n4 → Wrote (10 ∷ []) o4 n4 o5 n5
+          → s ≡ clip (p .from) (p .len) store → end ≡ p .offset + p .size
+          → Wrote (shown.part store p) o n o5 n5
+      unfolding shown.part
+      part-line store p s end w x y v z e f = simp append-assoc (wrote-then w (wrote-then (field-by x e) (wrote-then y (wrote-then (field-by v (ap decimal f)) z))))
+
+      pub refused-line : (number section place : ℕ)
+          → Wrote (ascii "refused") o n o1 n1 → Wrote (32 ∷ decimal number) o1 n1 o2 n2 → Wrote (32 ∷ decimal section) o2 n2 o3 n3 → Wrote (32 ∷ decimal place) o3 n3 o4 n4 → Wrote (10 ∷ []) o4 n4 o5 n5
+          → Wrote (refusedLine number section place) o n o5 n5
+      unfolding refusedLine
+      refused-line number section place w x y v z = simp append-assoc (wrote-then w (wrote-then x (wrote-then y (wrote-then v z))))
+
+      module _ (store name : List ℕ) where
+        pub comp-line : (c : Component) (k : Word)
+            → Wrote (ascii "comp") o n o1 n1 → Wrote (32 ∷ spelled store name (c .head .name)) o1 n1 o2 n2 → Wrote (32 ∷ word k) o2 n2 o3 n3
+            → Wrote (32 ∷ dashed (spelled store name (c .role .partition))) o3 n3 o4 n4 → Wrote (10 ∷ []) o4 n4 o5 n5
+            → k ≡ kindWord (c .head .kind)
+            → Wrote (shown.comp store name c) o n o5 n5
+        unfolding shown.comp
+        comp-line c k w x y v z e = simp append-assoc (wrote-then w (wrote-then x (wrote-then (field-by y (kind-said (c .head .kind) k e)) (wrote-then v z))))
+
+        pub app-line : (a : Application)
+            → Wrote (ascii "app") o n o1 n1 → Wrote (32 ∷ spelled store name (a .«package»)) o1 n1 o2 n2 → Wrote (32 ∷ spelled store name (a .name)) o2 n2 o3 n3
+            → Wrote (32 ∷ dashed (spelled store name (a .partition))) o3 n3 o4 n4 → Wrote (10 ∷ []) o4 n4 o5 n5
+            → Wrote (shown.app store name a) o n o5 n5
+        unfolding shown.app
+        app-line a w x y v z = simp append-assoc (wrote-then w (wrote-then x (wrote-then y (wrote-then v z))))
+
+      pub counts-line : (room store : List ℕ) (made : ℕ) (c : Counts)
+          → Wrote (32 ∷ decimal (c .partitions)) o n o1 n1 → Wrote (32 ∷ decimal (c .components)) o1 n1 o2 n2 → Wrote (32 ∷ decimal (c .applications)) o2 n2 o3 n3
+          → Wrote (32 ∷ decimal made) o3 n3 o4 n4 → Wrote (10 ∷ []) o4 n4 o5 n5
+          → c ≡ countsOf room store made
+          → Wrote (shown.counts room store made) o n o5 n5
+      unfolding shown.counts
+      counts-line room store made c x y v w z e = simp append-assoc (wrote-then (rw e at x) (wrote-then (rw e at y) (wrote-then (rw e at v) (wrote-then w z))))
+
+  pub device-line : (chip : Chip) (media : Media) (c m : Word)
+      → Wrote (ascii "ok") o n o1 n1 → Wrote (32 ∷ word c) o1 n1 o2 n2 → Wrote (32 ∷ word m) o2 n2 o3 n3 → c ≡ chipWord chip → m ≡ mediaWord media
+      → Wrote (ascii "ok" ++ spaced (meant.chipWord (chipMeant chip) ∷ meant.mediaWord (mediaMeant media) ∷ [])) o n o3 n3
+  device-line chip media c m w x y e f = simp append-nil (wrote-then w (wrote-then (field-by x (chip-said chip c e)) (field-by y (media-said media m f))))
+
+module _ (room store : List ℕ) (made : ℕ) (name : List ℕ) (o o1 o2 : List ℕ) (n n1 n2 : ℕ) where
+  pub ok-line : (root : Fields) (lent : Text) (f : Front)
+      → Wrote (ascii "ok" ++ spaced (meant.chipWord (chipMeant (f .board .chip)) ∷ meant.mediaWord (mediaMeant (f .image .media)) ∷ [])) o n o1 n1 → Wrote (shown.counts room store made) o1 n1 o2 n2
+      → root ≡ fieldsOf room made 1 → lent ≡ lentText name → f ≡ frontRead room store made root lent
+      → Wrote (shown.ok room store made name) o n o2 n2
+  unfolding shown.ok
+  ok-line root lent f x y e1 e2 e3 =
+      let e : f ≡ frontRead room store made (fieldsOf room made 1) (lentText name) = e3 ∙ rw (e1, e2) in
+      wrote-then (rw e at x) y

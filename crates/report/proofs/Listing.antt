@@ -1,0 +1,163 @@
+-- A line for each entry of a list: one law for each way on and out.
+use Prim.Native.Nat.{ℕ, suc, _+_, _-_, _≤_, _<_}
+use mathlib.Core.List.{List as Seq, [], _∷_, _++_, append-assoc, append-nil}
+use mathlib.Core.Path.{_≡_, refl, sym, ap, subst, _∙_}
+use native.Mathlib.Omega.{arith}
+use native.Mathlib.Numerals.{add-one}
+use lib.ListN.{length, drop, getD, drop-of-length-le}
+use lib.Seq.{drop-cons, getD-take}
+use Rattle.meaning.specs.Listing.{each, stemLine}
+use Rattle.tree.specs.declared.Found.{Found}
+use Rattle.tree.specs.declared.Found.the-variants.{At, Nothing}
+use Rattle.tree.specs.Room.{Finds, slotAt, child}
+use Rattle.tree.specs.Order.{next}
+use Rattle.tree.specs.Doors.{Rooms, items}
+use Rattle.tree.specs.Spans.{items-step, items-end}
+use Rattle.schema.specs.declared.Text.{Text}
+use Rattle.schema.specs.Texts.{spelled}
+use Rattle.parse.specs.declared.entry.List.{List}
+use Rattle.parse.specs.declared.entry.PartitionRead.{PartitionRead}
+use Rattle.parse.specs.declared.component.ComponentRead.{ComponentRead}
+use Rattle.parse.specs.declared.application.ApplicationRead.{ApplicationRead}
+use Rattle.parse.specs.Entries.{partitionAt, componentAt, applicationAt, walk}
+use Rattle.parse.specs.Views.{partitionList}
+use Rattle.parse.proofs.Judging.{partitions-among}
+use Rattle.plan.specs.declared.builds.BuildList.{BuildList}
+use Rattle.plan.specs.declared.choice.Choice.the-variants.{BootChain}
+use Rattle.plan.specs.declared.component.Build.{Build}
+use Rattle.plan.specs.Builds.{Used, blank, buildsOf}
+use Rattle.plan.specs.Stems.{stem}
+use Rattle.report.specs.Page.{Wrote}
+use Rattle.report.specs.Shown as shown
+use Rattle.report.proofs.Pages.{wrote-nil, wrote-then}
+
+-- the lines of some entries stand on the page, and with those of the entries that are left they are the lines of all
+pub record Left {X : Type 0} (f : X → Seq ℕ) (all left : Seq X) (out : Seq ℕ) (at : ℕ) (out′ : Seq ℕ) (at′ : ℕ) : Type 0 where
+  pub done : Seq ℕ
+  pub wrote : Wrote done out at out′ at′
+  pub lines : done ++ each f left ≡ each f all
+
+module _ {X : Type 0} (f : X → Seq ℕ) (all : Seq X) (out : Seq ℕ) (at : ℕ) where
+  pub left-start : Left f all all out at out at
+  left-start = record { done = []; wrote = wrote-nil out at; lines = refl }
+
+  module _ (left : Seq X) (out′ : Seq ℕ) (at′ : ℕ) (k : Left f all left out at out′ at′) where
+    pub left-long : length out′ ≡ length out
+    left-long = k .wrote .long
+
+    left-end : left ≡ [] → Wrote (each f all) out at out′ at′
+    left-end e = subst (λ (s : Seq ℕ). Wrote s out at out′ at′) (sym (append-nil (k .done)) ∙ rw e at (k .lines)) (k .wrote)
+
+    left-on : (x : X) (more : Seq X) → left ≡ x ∷ more → (out″ : Seq ℕ) (at″ : ℕ) → Wrote (f x) out′ at′ out″ at″ → Left f all more out at out″ at″
+    left-on x more e out″ at″ w =
+        record {
+          done = k .done ++ f x;
+          wrote = wrote-then (k .wrote) w;
+          lines = append-assoc (k .done) (f x) (each f more) ∙ rw e at (k .lines);
+        }
+
+-- ---- items one after the other
+
+module _ (f : ℕ → Seq ℕ) (room : Seq ℕ) (l m : List) (d : l ≡ m) (out : Seq ℕ) (at from : ℕ) (out′ : Seq ℕ) (at′ : ℕ)
+    (k : Left f (items room (l .end) (l .place) 0) (items room (l .end) (l .place) from) out at out′ at′) where
+  items-out : items room (l .end) (l .place) from ≡ [] → Wrote (each f (items room (m .end) (m .place) 0)) out at out′ at′
+  items-out e = rw d at (left-end f (items room (l .end) (l .place) 0) out at (items room (l .end) (l .place) from) out′ at′ k e)
+
+  pub items-past : l .end ≤ from → Wrote (each f (items room (m .end) (m .place) 0)) out at out′ at′
+  unfolding items
+  items-past h = let z : l .end - from ≡ 0 = omega arith in items-out (rw z)
+
+  pub items-none : (found : Found) → Finds from (l .end) (child room (l .end) (l .place) from) found → found ≡ Nothing → Wrote (each f (items room (m .end) (m .place) 0)) out at out′ at′
+  items-none found h g = items-out (items-end room (l .end) (l .place) from found h g)
+
+module _ (f : ℕ → Seq ℕ) (room : Seq ℕ) (end place : ℕ) (out : Seq ℕ) (at from : ℕ) (out′ : Seq ℕ) (at′ : ℕ)
+    (k : Left f (items room end place 0) (items room end place from) out at out′ at′) (found : Found) (h : Finds from end (child room end place from) found) (n : ℕ) (g : found ≡ At n) where
+  items-on : (out″ : Seq ℕ) (at″ : ℕ) → Wrote (f n) out′ at′ out″ at″ → Left f (items room end place 0) (items room end place (n + 1)) out at out″ at″
+  items-on = left-on f (items room end place 0) out at (items room end place from) out′ at′ k n (items room end place (n + 1)) (items-step room end place from n found h g)
+
+-- ---- steps by key
+
+module _ (f : ℕ → Seq ℕ) (room store : Seq ℕ) (l m : List) (d : l ≡ m) (out : Seq ℕ) (at : ℕ) (after : Found) (i : ℕ) (out′ : Seq ℕ) (at′ : ℕ)
+    (k : Left f (walk room store (l .end) (l .place) 65 Nothing) (walk room store (l .end) (l .place) (65 - i) after) out at out′ at′) where
+  keys-out : walk room store (l .end) (l .place) (65 - i) after ≡ [] → Wrote (each f (walk room store (m .end) (m .place) 65 Nothing)) out at out′ at′
+  keys-out e = rw d at (left-end f (walk room store (l .end) (l .place) 65 Nothing) out at (walk room store (l .end) (l .place) (65 - i) after) out′ at′ k e)
+
+  pub keys-past : 65 ≤ i → Wrote (each f (walk room store (m .end) (m .place) 65 Nothing)) out at out′ at′
+  keys-past h = let z : 65 - i ≡ 0 = omega arith in keys-out (rw z)
+
+  pub keys-none : i < 65 → (found : Found) → Finds 0 (l .end) (next (slotAt room) store (l .end) (l .place) after) found → found ≡ Nothing
+      → Wrote (each f (walk room store (m .end) (m .place) 65 Nothing)) out at out′ at′
+  keys-none b found h g =
+      let z : 65 - i ≡ suc (64 - i) = omega arith in
+      let e : next (slotAt room) store (l .end) (l .place) after ≡ Nothing = sym (h .is) ∙ g in
+      keys-out (rw (z, e))
+
+module _ (f : ℕ → Seq ℕ) (room store : Seq ℕ) (end place : ℕ) (out : Seq ℕ) (at : ℕ) (after : Found) (i : ℕ) (out′ : Seq ℕ) (at′ : ℕ)
+    (k : Left f (walk room store end place 65 Nothing) (walk room store end place (65 - i) after) out at out′ at′) (b : i < 65)
+    (found : Found) (h : Finds 0 end (next (slotAt room) store end place after) found) (n : ℕ) (g : found ≡ At n) where
+  keys-on : (out″ : Seq ℕ) (at″ : ℕ) → Wrote (f n) out′ at′ out″ at″ → Left f (walk room store end place 65 Nothing) (walk room store end place (65 - (i + 1)) (At n)) out at out″ at″
+  keys-on =
+      let z : 65 - i ≡ suc (65 - (i + 1)) = omega arith in
+      let e : next (slotAt room) store end place after ≡ At n = sym (h .is) ∙ g in
+      left-on f (walk room store end place 65 Nothing) out at (walk room store end place (65 - i) after) out′ at′ k n (walk room store end place (65 - (i + 1)) (At n)) (rw (z, e))
+
+-- ---- the lines of entries by their numbers
+
+module _ (room store : Seq ℕ) (made : ℕ) (name : Seq ℕ) where
+  -- of the partition, the component, the application that value number n is
+  abbrev pub partAt : ℕ → Seq ℕ
+  partAt n = shown.part store (partitionAt room store made n .partition)
+
+  abbrev pub compAt : ℕ → Seq ℕ
+  compAt n = shown.comp store name (componentAt room store made n 32 .component)
+
+  abbrev pub appAt : ℕ → Seq ℕ
+  appAt n = shown.app store name (applicationAt room store made n 32 .application)
+
+  module _ (end place : ℕ) (out : Seq ℕ) (at : ℕ) where
+    pub parts-on : (from : ℕ) (out′ : Seq ℕ) (at′ : ℕ) → Left partAt (items room end place 0) (items room end place from) out at out′ at′
+        → (found : Found) → Finds from end (child room end place from) found → (n : ℕ) → found ≡ At n
+        → (r : PartitionRead) → r ≡ partitionAt room store made n → (out″ : Seq ℕ) (at″ : ℕ) → Wrote (shown.part store (r .partition)) out′ at′ out″ at″
+        → Left partAt (items room end place 0) (items room end place (n + 1)) out at out″ at″
+    parts-on from out′ at′ k found h n g r e out″ at″ w = items-on partAt room end place out at from out′ at′ k found h n g out″ at″ (rw e at w)
+
+    pub comps-on : (from : ℕ) (out′ : Seq ℕ) (at′ : ℕ) → Left compAt (items room end place 0) (items room end place from) out at out′ at′
+        → (found : Found) → Finds from end (child room end place from) found → (n : ℕ) → found ≡ At n
+        → (r : ComponentRead) → r ≡ componentAt room store made n 32 → (out″ : Seq ℕ) (at″ : ℕ) → Wrote (shown.comp store name (r .component)) out′ at′ out″ at″
+        → Left compAt (items room end place 0) (items room end place (n + 1)) out at out″ at″
+    comps-on from out′ at′ k found h n g r e out″ at″ w = items-on compAt room end place out at from out′ at′ k found h n g out″ at″ (rw e at w)
+
+    pub apps-on : (after : Found) (i : ℕ) (out′ : Seq ℕ) (at′ : ℕ) → Left appAt (walk room store end place 65 Nothing) (walk room store end place (65 - i) after) out at out′ at′ → i < 65
+        → (found : Found) → Finds 0 end (next (slotAt room) store end place after) found → (n : ℕ) → found ≡ At n
+        → (r : ApplicationRead) → r ≡ applicationAt room store made n 32 → (out″ : Seq ℕ) (at″ : ℕ) → Wrote (shown.app store name (r .application)) out′ at′ out″ at″
+        → Left appAt (walk room store end place 65 Nothing) (walk room store end place (65 - (i + 1)) (At n)) out at out″ at″
+    apps-on after i out′ at′ k b found h n g r e out″ at″ w = keys-on appAt room store end place out at after i out′ at′ k b found h n g out″ at″ (rw e at w)
+
+-- the partitions stand among the values made
+pub parts-within : (room store : Seq ℕ) (made : ℕ) (l : List) → Rooms room made → l ≡ partitionList room store made → l .end ≤ made
+parts-within room store made l r e = partitions-among room store made l r e .end
+
+-- ---- builds
+
+module _ (room store : Seq ℕ) (made : ℕ) (name : Seq ℕ) (b : BuildList) (u : Used 129 (buildsOf room store made BootChain) b) (out : Seq ℕ) (at i : ℕ) (out′ : Seq ℕ) (at′ : ℕ)
+    (k : Left (shown.build room store made name) (buildsOf room store made BootChain) (drop i (buildsOf room store made BootChain)) out at out′ at′) where
+  -- the boot chain's builds
+  abbrev bs : Seq Build
+  bs = buildsOf room store made BootChain
+
+  pub builds-past : b .count ≤ i → Wrote (shown.builds room store made name) out at out′ at′
+  builds-past h =
+      let l : length bs ≤ i = omega (arith, u .count, h) in
+      left-end (shown.build room store made name) bs out at (drop i bs) out′ at′ k (drop-of-length-le bs l)
+
+  pub builds-on : i < b .count → (x : Build) → x ≡ getD (b .items) i blank → (out″ : Seq ℕ) (at″ : ℕ) → Wrote (shown.build room store made name x) out′ at′ out″ at″
+      → Left (shown.build room store made name) bs (drop (i + 1) bs) out at out″ at″
+  builds-on h x e out″ at″ w =
+      let d : getD bs i blank ≡ x = ap (λ (xs : Seq Build). getD xs i blank) (sym (u .items)) ∙ getD-take (length bs) (b .items) i blank (omega (arith, h, u .count)) ∙ sym e in
+      left-on (shown.build room store made name) bs out at (drop i bs) out′ at′ k x (drop (i + 1) bs)
+      (rw (add-one i, ← d) (drop-cons bs i blank (omega (arith, h, u .count)))) out″ at″ w
+
+-- the builds and the stem behind them
+pub outcome-wrote : (room store : Seq ℕ) (made : ℕ) (name out out′ out″ : Seq ℕ) (at at′ at″ : ℕ) (t : Text) → Wrote (shown.builds room store made name) out at out′ at′ → t ≡ stem room store made name BootChain
+    → Wrote (stemLine (spelled store name t)) out′ at′ out″ at″ → Wrote (shown.outcome room store made name) out at out″ at″
+outcome-wrote room store made name out out′ out″ at at′ at″ t h e k = wrote-then h (rw e at k)

@@ -1,0 +1,76 @@
+use borrow.Author.Needs.{needs}
+use Prim.Native.Nat.{_-_}
+use lib.ListN.{drop}
+use Rattle.plan.specs.declared.choice.Choice.the-variants.{BootChain}
+use Rattle.plan.specs.Builds.{buildsOf}
+use Rattle.report.specs.Shown.{build}
+use Rattle.report.proofs.Listing.{Left, left-start, left-long, builds-past, builds-on}
+use Rattle.report.proofs.lists.builds.Statement.{statement}
+use Rattle.report.proofs.lists.builds.Tie as tie
+use Rattle.report.proofs.lists.builds.Reads as reads
+use Rattle.report.proofs.lists.builds.Lts as lts
+use Rattle.plan.proofs.builds.builds.Reads as builds-reads
+use Rattle.report.proofs.line.build.Reads as build-reads
+
+abbrev Inv-loop : tie.InvT-loop
+Inv-loop out₀ at tree store made name items count to₀ i₀ out to i = Left (build tree store made name) (buildsOf tree store made BootChain) (drop i (buildsOf tree store made BootChain)) out₀ at out to
+
+abbrev μ-loop : tie.MeasureT-loop
+μ-loop out₀ at tree store made name items count to₀ i₀ out to i = count - i
+
+-- src/lists.rt:110:9
+builds-requires : tie.Need-builds-requires Inv-loop μ-loop
+builds-requires c κs = search needs
+
+-- src/lists.rt:114:5
+loop-holds : tie.Need-loop-holds Inv-loop μ-loop
+loop-holds c = search (needs, left-start)
+
+-- src/lists.rt:115:17
+mul-x : tie.Need-mul-x Inv-loop μ-loop
+mul-x c = search needs
+
+-- src/lists.rt:115:17
+array-copy-out-x : tie.Need-array-copy-out-x Inv-loop μ-loop
+array-copy-out-x c = search needs
+
+-- src/lists.rt:116:9
+build-requires : tie.Need-build-requires Inv-loop μ-loop
+build-requires c κs = search needs
+
+-- src/lists.rt:114:9
+add-i : tie.Need-add-i Inv-loop μ-loop
+add-i c = search needs
+
+-- src/lists.rt:114:5
+loop-less : tie.Need-loop-less Inv-loop μ-loop
+loop-less c = search needs
+
+-- src/lists.rt:114:5
+loop-again : tie.Need-loop-again Inv-loop μ-loop
+loop-again c = search (needs, builds-on)
+
+-- src/lists.rt:99:1
+same-length : tie.Need-same-length Inv-loop μ-loop
+same-length c = search (needs, left-long)
+
+-- src/lists.rt:99:1
+returns : tie.Need-returns Inv-loop μ-loop
+returns c = search (needs, builds-past)
+
+pub builds-spec : {M : Type 1} → statement M
+builds-spec =
+    tie.close
+    (tie.spec
+    Inv-loop
+    μ-loop
+    builds-requires
+    loop-holds
+    mul-x
+    array-copy-out-x
+    build-requires
+    add-i
+    loop-less
+    loop-again
+    same-length
+    returns)

@@ -1,0 +1,107 @@
+-- The lines say what 01 says of the preset that the rooms' records stand for, and of its boot chain.
+use Prim.Native.Nat.{ℕ, _≤_}
+use mathlib.Core.List.{List as Seq, [], _∷_, _++_, map, append-assoc}
+use mathlib.Core.Option.{none}
+use mathlib.Core.Path.{_≡_, refl, sym, ap, _∙_}
+use lib.ListN.{length, length-map}
+use Rattle.meaning.specs.Base.{ascii}
+use Rattle.meaning.specs.Limits.{of01}
+use Rattle.meaning.specs.Schema as schemas
+use Rattle.meaning.specs.Plan as plans
+use Rattle.meaning.specs.Listing as meant
+use Rattle.meaning.specs.Listing.{each, spaced, decimal}
+use Rattle.tree.specs.Doors.{fieldsOf}
+use Rattle.tree.specs.Spans.{items-count}
+use Rattle.schema.specs.declared.Partition.{Partition}
+use Rattle.schema.specs.declared.Component.{Component}
+use Rattle.schema.specs.declared.Application.{Application}
+use Rattle.parse.specs.Entries.{partitionAt, componentAt, applicationAt}
+use Rattle.parse.specs.Meant.{partitionMeant, componentMeant, applicationMeant}
+use Rattle.parse.specs.Refused.{lentText, partitionNumbers, componentNumbers, applicationNumbers}
+use Rattle.parse.specs.Views.{partitionList, componentList, countsOf}
+use Rattle.parse.specs.Whole.{presetMeant, partitionOf, componentOf, applicationOf}
+use Rattle.validate.specs.Gathered.{components}
+use Rattle.plan.specs.declared.component.Build.{Build}
+use Rattle.plan.specs.declared.choice.Choice.the-variants.{BootChain}
+use Rattle.plan.specs.Builds.{buildsOf}
+use Rattle.plan.specs.PlannedSaid.{buildMeant}
+use Rattle.plan.specs.BuildsSaid.{builds-say}
+use Rattle.plan.specs.StemSaid.{boot-stem-means}
+use Rattle.report.specs.Shown as shown
+
+-- lines of entries are lines of what the entries stand for
+each-meant : {X Y : Type 0} (f : X → Seq ℕ) (g : Y → Seq ℕ) (of : X → Y) → ((x : X) → f x ≡ g (of x)) → (xs : Seq X) → each f xs ≡ each g (map of xs)
+each-meant f g of h [] = refl
+each-meant f g of h (x ∷ xs) = rw (h x, each-meant f g of h xs)
+
+-- the fields of a line in two parts
+spaced-parts : (fs gs : Seq (Seq ℕ)) (s : Seq ℕ) → spaced fs ++ (spaced gs ++ s) ≡ spaced (fs ++ gs) ++ s
+spaced-parts [] gs s = refl
+spaced-parts (f ∷ fs) gs s = ap (λ (t : Seq ℕ). 32 ∷ t) (append-assoc f (spaced fs) (spaced gs ++ s) ∙ ap (λ (t : Seq ℕ). f ++ t) (spaced-parts fs gs s) ∙ sym (append-assoc f (spaced (fs ++ gs)) s))
+
+module _ (room store : Seq ℕ) (made : ℕ) (name : Seq ℕ) where
+  abbrev preset : schemas.Preset
+  preset = presetMeant room store made name (fieldsOf room made 1) of01 (lentText name)
+
+  abbrev plan : plans.Plan
+  plan = plans.composed preset plans.bootChain none
+
+  -- ---- a line
+
+  part-says : (p : Partition) → shown.part store p ≡ meant.partLine (partitionMeant room store made name p)
+  unfolding shown.part meant.partLine
+  part-says p = refl
+
+  comp-says : (c : Component) → shown.comp store name c ≡ meant.compLine (componentMeant room store made name c)
+  unfolding shown.comp meant.compLine
+  comp-says c = refl
+
+  app-says : (a : Application) → shown.app store name a ≡ meant.appLine (applicationMeant room store made name a)
+  unfolding shown.app meant.appLine
+  app-says a = refl
+
+  build-says : (b : Build) → shown.build room store made name b ≡ meant.buildLine (buildMeant room store made name b)
+  unfolding shown.build meant.buildLine
+  build-says b = refl
+
+  ok-says : shown.ok room store made name ≡ meant.okLine made preset
+  unfolding shown.ok shown.counts countsOf meant.okLine
+  ok-says =
+      let root = fieldsOf room made 1 in
+      let counts = countsOf room store made in
+      let ps : length (preset .partitions) ≡ counts .partitions = length-map (partitionNumbers room store made root) (partitionOf room store made name) ∙ items-count room (partitionList room store made .end) (partitionList room store made .place) in
+      let cs : length (preset .components) ≡ counts .components = length-map (componentNumbers room store made root) (componentOf room store made name 32) ∙ items-count room (componentList room store made .end) (componentList room store made .place) in
+      let more : length (preset .applications) ≡ counts .applications = length-map (applicationNumbers room store made root 64) (applicationOf room store made name 32) in
+      rw (ps, cs, more)
+      (ap (λ (t : Seq ℕ). ascii "ok" ++ t)
+      (spaced-parts (schemas.chipWord (preset .board .chip) ∷ schemas.mediaWord (preset .image .media) ∷ [])
+      (decimal (counts .partitions) ∷ decimal (counts .components) ∷ decimal (counts .applications) ∷ decimal made ∷ []) (10 ∷ [])))
+
+  -- ---- the lists
+
+  parts-say : shown.parts room store made name ≡ each meant.partLine (preset .partitions)
+  parts-say =
+      each-meant (λ (n : ℕ). shown.part store (partitionAt room store made n .partition)) meant.partLine (partitionOf room store made name)
+      (λ n. part-says (partitionAt room store made n .partition)) (partitionNumbers room store made (fieldsOf room made 1))
+
+  comps-say : shown.comps room store made name ≡ each meant.compLine (preset .components)
+  comps-say =
+      each-meant (λ (n : ℕ). shown.comp store name (componentAt room store made n 32 .component)) meant.compLine (componentOf room store made name 32)
+      (λ n. comp-says (componentAt room store made n 32 .component)) (componentNumbers room store made (fieldsOf room made 1))
+
+  apps-say : shown.apps room store made name ≡ each meant.appLine (preset .applications)
+  apps-say =
+      each-meant (λ (n : ℕ). shown.app store name (applicationAt room store made n 32 .application)) meant.appLine (applicationOf room store made name 32)
+      (λ n. app-says (applicationAt room store made n 32 .application)) (applicationNumbers room store made (fieldsOf room made 1) 64)
+
+  module _ (few : length (components room store made) ≤ 64) where
+    builds-lines-say : shown.builds room store made name ≡ each meant.buildLine (plan .builds)
+    unfolding plans.composed
+    builds-lines-say =
+        each-meant (shown.build room store made name) meant.buildLine (buildMeant room store made name) build-says (buildsOf room store made BootChain)
+        ∙ ap (each meant.buildLine) (builds-say room store made name BootChain tt few)
+
+    -- the lines of the rooms are 01's lines
+    pub lines-say : shown.lines room store made name ≡ meant.linesOf made preset plan
+    unfolding plans.composed meant.linesOf
+    lines-say = rw (ok-says, parts-say, comps-say, apps-say, builds-lines-say, boot-stem-means room store made name, append-assoc, append-assoc, append-assoc)

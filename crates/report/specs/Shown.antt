@@ -1,0 +1,80 @@
+-- Level 2 of the listing: its lines, by what stands in the rooms.
+use Prim.Native.Nat.{ℕ, _+_}
+use mathlib.Core.List.{List as Seq, [], _∷_, _++_}
+use lib.ListN.{length}
+use Rattle.meaning.specs.Base.{ascii}
+use Rattle.meaning.specs.Schema as schemas
+use Rattle.meaning.specs.Listing as meant
+use Rattle.meaning.specs.Listing.{line, spaced, decimal, dashed, each}
+use Rattle.tree.specs.declared.Found.the-variants.{Nothing}
+use Rattle.tree.specs.Doors.{fieldsOf, items}
+use Rattle.schema.specs.declared.Partition.{Partition}
+use Rattle.schema.specs.declared.Component.{Component}
+use Rattle.schema.specs.declared.Application.{Application}
+use Rattle.schema.specs.Words.{chipMeant, mediaMeant, kindMeant}
+use Rattle.schema.specs.Texts.{clip, spelled}
+use Rattle.parse.specs.Entries.{partitionAt, componentAt, applicationAt, walk}
+use Rattle.parse.specs.Views.{partitionList, componentList, applicationList, countsOf}
+use Rattle.parse.specs.Front.{frontRead}
+use Rattle.parse.specs.Meant.{featureList}
+use Rattle.parse.specs.Refused.{lentText}
+use Rattle.plan.specs.declared.component.Build.{Build}
+use Rattle.plan.specs.declared.choice.Choice.the-variants.{BootChain}
+use Rattle.plan.specs.Builds.{buildsOf}
+use Rattle.plan.specs.Stems as stems
+
+-- ---- a line
+
+unfoldable pub part : Seq ℕ → Partition → Seq ℕ
+part store p = line (ascii "part") (clip (p .from) (p .len) store ∷ decimal (p .offset) ∷ decimal (p .offset + p .size) ∷ [])
+
+unfoldable pub comp : Seq ℕ → Seq ℕ → Component → Seq ℕ
+comp store name c =
+    line (ascii "comp") (spelled store name (c .head .name) ∷ schemas.kindWord (kindMeant (c .head .kind)) ∷ dashed (spelled store name (c .role .partition)) ∷ [])
+
+unfoldable pub app : Seq ℕ → Seq ℕ → Application → Seq ℕ
+app store name a =
+    line (ascii "app") (spelled store name (a .«package») ∷ spelled store name (a .name) ∷ dashed (spelled store name (a .partition)) ∷ [])
+
+module _ (room store : Seq ℕ) (made : ℕ) where
+  -- how many entries there are, and values made
+  unfoldable pub counts : Seq ℕ
+  counts =
+      spaced (decimal (countsOf room store made .partitions) ∷ decimal (countsOf room store made .components) ∷ decimal (countsOf room store made .applications) ∷ decimal made ∷ [])
+      ++ (10 ∷ [])
+
+  module _ (name : Seq ℕ) where
+    unfoldable pub build : Build → Seq ℕ
+    build b = line (ascii "build") (spelled store name (b .«package») ∷ decimal (length (featureList room store made (b .features))) ∷ [])
+
+    unfoldable pub ok : Seq ℕ
+    ok =
+        let f = frontRead room store made (fieldsOf room made 1) (lentText name) in
+        ascii "ok" ++ (spaced (schemas.chipWord (chipMeant (f .board .chip)) ∷ schemas.mediaWord (mediaMeant (f .image .media)) ∷ []) ++ counts)
+
+    -- ---- the lists
+
+    abbrev pub parts : Seq ℕ
+    parts = each (λ (n : ℕ). part store (partitionAt room store made n .partition)) (items room (partitionList room store made .end) (partitionList room store made .place) 0)
+
+    abbrev pub comps : Seq ℕ
+    comps = each (λ (n : ℕ). comp store name (componentAt room store made n 32 .component)) (items room (componentList room store made .end) (componentList room store made .place) 0)
+
+    abbrev pub apps : Seq ℕ
+    apps =
+        each (λ (n : ℕ). app store name (applicationAt room store made n 32 .application))
+        (walk room store (applicationList room store made .end) (applicationList room store made .place) 65 Nothing)
+
+    abbrev pub builds : Seq ℕ
+    builds = each build (buildsOf room store made BootChain)
+
+    -- ---- all lines
+
+    abbrev pub entries : Seq ℕ
+    entries = ok ++ (parts ++ (comps ++ apps))
+
+    abbrev pub outcome : Seq ℕ
+    outcome = builds ++ meant.stemLine (spelled store name (stems.stem room store made name BootChain))
+
+    abbrev pub lines : Seq ℕ
+    lines = entries ++ outcome

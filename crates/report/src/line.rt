@@ -1,0 +1,139 @@
+// The lines of the listing, one function for each.
+
+use crate::page;
+use plan::component::Build;
+use schema::Application;
+use schema::Chip;
+use schema::Component;
+use schema::Media;
+use schema::Partition;
+use schema::Text;
+ghost use mathlib.Core.List.{[], _∷_, _++_};
+ghost use Rattle.meaning.specs.Base.{ascii};
+ghost use Rattle.meaning.specs.Schema as schemas;
+ghost use Rattle.meaning.specs.Listing as meant;
+ghost use Rattle.schema.specs.Texts.{spelled};
+ghost use Rattle.schema.specs.Words.{chipMeant, mediaMeant};
+ghost use Rattle.tree.specs.Doors.{Rooms};
+ghost use Rattle.report.specs.Page.{Wrote};
+ghost use Rattle.report.specs.Shown as shown;
+
+// How many entries there are, and how many values were made.
+fn counts(out: &mut [u8], at: usize, tree: &[u8], store: &[u8], made: usize) -> usize
+    requires { ⌜ Rooms (now tree) made ⌝ }
+    ensures { λ r. ⌜ Wrote (shown.counts (now (tree .entry)) (now (store .entry)) made) (now (out .entry)) at (now (out .exit)) r ⌝ }
+{
+    let c = parse::view::counts_of(tree, store, made);
+    let p = page::number(out, at, c.partitions as u64);
+    let q = page::number(out, p, c.components as u64);
+    let s = page::number(out, q, c.applications as u64);
+    let t = page::number(out, s, made as u64);
+    page::put(out, t, b"\n")
+}
+
+// `ok`, chip and media.
+fn device(out: &mut [u8], at: usize, chip: Chip, media: Media) -> usize
+    ensures { λ r. ⌜ Wrote (ascii "ok" ++ meant.spaced (schemas.chipWord (chipMeant chip) ∷ schemas.mediaWord (mediaMeant media) ∷ [])) (now (out .entry)) at (now (out .exit)) r ⌝ }
+{
+    let a = page::put(out, at, b"ok");
+    let b = page::word(out, a, chip.name());
+    page::word(out, b, media.name())
+}
+
+// `ok`: chip, media, partitions, components, applications, values made.
+pub fn ok(out: &mut [u8], at: usize, tree: &[u8], store: &[u8], made: usize, name: &[u8]) -> usize
+    requires { ⌜ Rooms (now tree) made ⌝ }
+    ensures { λ r. ⌜ Wrote (shown.ok (now (tree .entry)) (now (store .entry)) made (now (name .entry))) (now (out .entry)) at (now (out .exit)) r ⌝ }
+{
+    let root = tree::fields_at(tree, made, 1);
+    let f = parse::front::read_front(tree, store, made, root, parse::lent_name(name));
+    let board = f.board;
+    let image = f.image;
+    let chip = board.chip;
+    let media = image.media;
+    let a = device(out, at, chip, media);
+    counts(out, a, tree, store, made)
+}
+
+// `part`: name, start, end.
+pub fn part(out: &mut [u8], at: usize, store: &[u8], p: Partition) -> usize
+    ensures { λ r. ⌜ Wrote (shown.part (now (store .entry)) p) (now (out .entry)) at (now (out .exit)) r ⌝ }
+{
+    let a = page::put(out, at, b"part");
+    let b = page::field(out, a, schema::stored(store, p.from, p.len));
+    let c = page::number(out, b, p.offset as u64);
+    let d = page::number(out, c, layout::end_of(p));
+    page::put(out, d, b"\n")
+}
+
+// `comp`: name, kind, reference.
+pub fn comp(out: &mut [u8], at: usize, store: &[u8], name: &[u8], x: Component) -> usize
+    ensures { λ r. ⌜ Wrote (shown.comp (now (store .entry)) (now (name .entry)) x) (now (out .entry)) at (now (out .exit)) r ⌝ }
+{
+    let head = x.head;
+    let role = x.role;
+    let kind = head.kind;
+    let own = head.name;
+    let partition = role.partition;
+    let a = page::put(out, at, b"comp");
+    let b = page::text(out, a, store, name, own);
+    let c = page::word(out, b, kind.name());
+    let d = page::reference(out, c, store, name, partition);
+    page::put(out, d, b"\n")
+}
+
+// `app`: package, name, partition.
+pub fn app(out: &mut [u8], at: usize, store: &[u8], name: &[u8], x: Application) -> usize
+    ensures { λ r. ⌜ Wrote (shown.app (now (store .entry)) (now (name .entry)) x) (now (out .entry)) at (now (out .exit)) r ⌝ }
+{
+    let package = x.package;
+    let own = x.name;
+    let partition = x.partition;
+    let a = page::put(out, at, b"app");
+    let b = page::text(out, a, store, name, package);
+    let c = page::text(out, b, store, name, own);
+    let d = page::reference(out, c, store, name, partition);
+    page::put(out, d, b"\n")
+}
+
+// `build`: package, feature count.
+pub fn build(
+    out: &mut [u8],
+    at: usize,
+    tree: &[u8],
+    store: &[u8],
+    made: usize,
+    name: &[u8],
+    x: Build,
+) -> usize
+    requires { ⌜ Rooms (now tree) made ⌝ }
+    ensures { λ r. ⌜ Wrote (shown.build (now (tree .entry)) (now (store .entry)) made (now (name .entry)) x) (now (out .entry)) at (now (out .exit)) r ⌝ }
+{
+    let package = x.package;
+    let list = x.features;
+    let n = features::count(tree, store, made, list);
+    let a = page::put(out, at, b"build");
+    let b = page::text(out, a, store, name, package);
+    let c = page::number(out, b, n as u64);
+    page::put(out, c, b"\n")
+}
+
+// `stem`.
+pub fn stem(out: &mut [u8], at: usize, store: &[u8], name: &[u8], t: Text) -> usize
+    ensures { λ r. ⌜ Wrote (meant.stemLine (spelled (now (store .entry)) (now (name .entry)) t)) (now (out .entry)) at (now (out .exit)) r ⌝ }
+{
+    let a = page::put(out, at, b"stem");
+    let b = page::text(out, a, store, name, t);
+    page::put(out, b, b"\n")
+}
+
+// `refused`, number, section, place.
+pub fn refused(out: &mut [u8], at: usize, number: u32, section: u32, place: usize) -> usize
+    ensures { λ r. ⌜ Wrote (meant.refusedLine number section place) (now (out .entry)) at (now (out .exit)) r ⌝ }
+{
+    let a = page::put(out, at, b"refused");
+    let b = page::number(out, a, number as u64);
+    let c = page::number(out, b, section as u64);
+    let d = page::number(out, c, place as u64);
+    page::put(out, d, b"\n")
+}

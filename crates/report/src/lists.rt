@@ -1,0 +1,119 @@
+// A line for each entry of a preset's lists, and for each build.
+
+use plan::choice::Choice;
+use tree::Found;
+ghost use Rattle.tree.specs.Doors.{Rooms};
+ghost use Rattle.report.specs.Page.{Wrote};
+ghost use Rattle.report.specs.Shown as shown;
+
+// The partitions, in their order.
+pub fn parts(
+    out: &mut [u8],
+    at: usize,
+    tree: &[u8],
+    store: &[u8],
+    made: usize,
+    name: &[u8],
+) -> usize
+    requires { ⌜ Rooms (now tree) made ⌝ }
+    ensures { λ r. ⌜ Wrote (shown.parts (now (tree .entry)) (now (store .entry)) made (now (name .entry))) (now (out .entry)) at (now (out .exit)) r ⌝ }
+{
+    let l = parse::view::partition_list(tree, store, made);
+    let place = l.place;
+    let end = l.end;
+    let mut to = at;
+    let mut from = 0;
+    while from < end {
+        let found = tree::child(tree, end, place, from);
+        match found {
+            Found::Nothing => return to,
+            Found::At(n) => {
+                let r = parse::entry::partition_at(tree, store, made, n);
+                let p = r.partition;
+                to = crate::line::part(out, to, store, p);
+                from = n + 1;
+            }
+        }
+    }
+    to
+}
+
+// The components, in their order.
+pub fn comps(
+    out: &mut [u8],
+    at: usize,
+    tree: &[u8],
+    store: &[u8],
+    made: usize,
+    name: &[u8],
+) -> usize
+    requires { ⌜ Rooms (now tree) made ⌝ }
+    ensures { λ r. ⌜ Wrote (shown.comps (now (tree .entry)) (now (store .entry)) made (now (name .entry))) (now (out .entry)) at (now (out .exit)) r ⌝ }
+{
+    let l = parse::view::component_list(tree, store, made);
+    let place = l.place;
+    let end = l.end;
+    let mut to = at;
+    let mut from = 0;
+    while from < end {
+        let found = tree::child(tree, end, place, from);
+        match found {
+            Found::Nothing => return to,
+            Found::At(n) => {
+                let r = parse::entry::component_at(tree, store, made, n, 32);
+                let c = r.component;
+                to = crate::line::comp(out, to, store, name, c);
+                from = n + 1;
+            }
+        }
+    }
+    to
+}
+
+// The applications, in byte order of key.
+pub fn apps(out: &mut [u8], at: usize, tree: &[u8], store: &[u8], made: usize, name: &[u8]) -> usize
+    requires { ⌜ Rooms (now tree) made ⌝ }
+    ensures { λ r. ⌜ Wrote (shown.apps (now (tree .entry)) (now (store .entry)) made (now (name .entry))) (now (out .entry)) at (now (out .exit)) r ⌝ }
+{
+    let l = parse::view::application_list(tree, store, made);
+    let place = l.place;
+    let end = l.end;
+    let mut to = at;
+    let mut after = Found::Nothing;
+    for _i in 0..65usize {
+        let found = tree::next(tree, store, end, place, after);
+        match found {
+            Found::Nothing => return to,
+            Found::At(n) => {
+                let r = parse::entry::application_at(tree, store, made, n, 32);
+                let a = r.application;
+                to = crate::line::app(out, to, store, name, a);
+                after = Found::At(n);
+            }
+        }
+    }
+    to
+}
+
+// What is built for the boot chain, in first use.
+pub fn builds(
+    out: &mut [u8],
+    at: usize,
+    tree: &[u8],
+    store: &[u8],
+    made: usize,
+    name: &[u8],
+) -> usize
+    requires { ⌜ Rooms (now tree) made ⌝ }
+    ensures { λ r. ⌜ Wrote (shown.builds (now (tree .entry)) (now (store .entry)) made (now (name .entry))) (now (out .entry)) at (now (out .exit)) r ⌝ }
+{
+    let b = plan::builds::builds(tree, store, made, Choice::BootChain);
+    let items = b.items;
+    let count = b.count;
+    let mut to = at;
+    for i in 0..count {
+        let x = items[i];
+        to = crate::line::build(out, to, tree, store, made, name, x);
+    }
+    to
+}
