@@ -14,6 +14,7 @@ fn main() {
     let folder = file.parent().unwrap();
     println!("cargo:rustc-link-search=native={}", folder.display());
     println!("cargo:rustc-link-lib=static=host");
+    println!("cargo:rustc-env=PRESET_LIB={}", file.display());
 }
 
 // PRESET_LIB_DIR names another folder with a libhost.a, to try the harness on a deliberately wrong one.

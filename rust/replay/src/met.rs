@@ -1,4 +1,6 @@
 //! How often each refusal was met.
+use crate::plan::model as plan;
+use crate::validate::model as validate;
 
 /// By number, 0 being none.
 #[derive(Clone, Debug)]
@@ -28,6 +30,24 @@ impl Met {
     pub fn seldom(&self, numbers: impl IntoIterator<Item = u32>, least: usize) -> Option<u32> {
         let mut numbers = numbers.into_iter();
         numbers.find(|&number| self.of(number) < least)
+    }
+
+    /// How many refusals there were.
+    pub fn refused(&self) -> usize {
+        self.0[1..].iter().sum()
+    }
+
+    /// With how many numbers.
+    pub fn numbers(&self) -> usize {
+        self.0[1..].iter().filter(|n| **n > 0).count()
+    }
+
+    /// The numbers of 01 that were never met; 17 goes by the rooms alone.
+    pub fn unmet(&self) -> Vec<u32> {
+        let text = (1..=16).chain(20..=25);
+        let rules = validate::NUMBERS.into_iter().chain(plan::NUMBERS);
+        let all = text.chain(rules);
+        all.filter(|&number| self.of(number) == 0).collect()
     }
 
     /// In one line.

@@ -2,7 +2,7 @@
 use replay::met::Met;
 use replay::records::answer::Read;
 use replay::records::ask::{Host, VALIDATE};
-use replay::{ask, document, plan, records, validate, value, vector};
+use replay::{ask, document, listing, plan, records, validate, value, vector};
 
 fn lines(name: &str) -> Vec<String> {
     let all = std::fs::read_to_string(vector::file(name)).expect(name);
@@ -109,4 +109,25 @@ fn every_recorded_plan() {
     let seldom = met.seldom(plan::model::NUMBERS, 5);
     assert_eq!(seldom, None, "{}", met.summary());
     assert!(met.of(0) >= 80, "{}", met.summary());
+}
+
+// Every number that the boot chain is refused with: neither 17, which goes by the rooms, nor 80 and 81.
+#[test]
+fn every_recorded_listing() {
+    let (mut met, mut host) = (Met::default(), listing::ask::Host::default());
+    for line in lines("listing.txt") {
+        let (name, text, want) =
+            listing::vector::read(&line).unwrap_or_else(|e| panic!("{e} in {line}"));
+        let again = listing::vector::write(&name, &text, &want);
+        assert_eq!(again, line, "read and written again");
+        let text = document::vector::joined(&text);
+        let defined = listing::model::read(&text, &name);
+        assert_eq!(defined, want, "{line}: definition against record");
+        let told = host.judge_fully(&text, &name, &want);
+        told.unwrap_or_else(|e| panic!("{line}: port against record, {e}"));
+        met.count(want.err().map_or(0, |refusal| refusal.number));
+    }
+    assert_eq!(met.unmet(), [80, 81], "{}", met.summary());
+    assert!(met.of(0) >= 150, "{}", met.summary());
+    assert!(met.of(0) + met.refused() >= 500, "{}", met.summary());
 }

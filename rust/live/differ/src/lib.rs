@@ -2,9 +2,13 @@
 pub mod compare;
 pub mod corners;
 pub mod document;
+pub mod listing;
+pub mod long;
 pub mod original;
 pub mod plan;
 pub mod record;
 pub mod records;
+pub mod run;
+pub mod shorten;
 pub mod validate;
 pub mod value;

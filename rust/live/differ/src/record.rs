@@ -1,6 +1,6 @@
 //! The recorded answers: of each kind picked texts and a fixed number of random ones.
 use crate::records::compare::{Question, answers};
-use crate::{corners, document, original, plan, records, validate, value};
+use crate::{corners, document, listing, original, plan, records, validate, value};
 use replay::document::vector::{Parts, joined};
 use replay::plan::keys::Answered;
 use replay::random::Rng;
@@ -164,6 +164,32 @@ pub const PLAN: Record = Record {
     lines: plan_lines,
 };
 
+pub const LISTING: Record = Record {
+    file: "listing.txt",
+    asked: || {
+        let corners = listing::corners::CORNERS.len();
+        format!(
+            "Preset::parse and plan, the lines that 01 prints of preset and plan or the number of the message, \
+             to {corners} picked presets, those of plan.txt and validate.txt, the limits of document.txt and \
+             records.txt"
+        )
+    },
+    note: "# Count of values is that of rust/replay/src/document/model.rs; of refusals section and place, and the \
+           numbers 1, 2, 14, 15, 16 and 25, are those of rust/replay/src/validate/model.rs.\n",
+    picked: listing::corners::picked,
+    seed: 29,
+    random: 350,
+    make: replay::listing::random::text,
+    lengths: 20..=600,
+    within: |_| true,
+    lines: |t| {
+        let text = joined(t);
+        let listed = listing::compare::listed(&text, lent(&text));
+        let listed = listed.unwrap_or_else(|e| panic!("{}: {e}", text.escape_ascii()));
+        vec![replay::listing::vector::write(lent(&text), t, &listed)]
+    },
+};
+
 // The name that is lent goes by the text.
 fn lent(text: &[u8]) -> &'static [u8] {
     let names = replay::records::random::NAMES;
@@ -171,42 +197,38 @@ fn lent(text: &[u8]) -> &'static [u8] {
 }
 
 // All answers to a question about a preset.
-fn told(asked: &Question, text: &[u8]) -> Vec<Answered> {
+fn told(asked: &Question, text: &[u8]) -> (Read, Vec<Answered>) {
     let answers = answers(asked, text, lent(text));
     answers.unwrap_or_else(|e| panic!("{}: {e}", text.escape_ascii()))
 }
 
 fn preset_lines(asked: &Question, t: &Parts) -> Vec<String> {
     let text = joined(t);
-    let line = |read: Read| {
-        let recorded = read.map(|answer| (answer.text.made, answer.preset));
-        replay::records::vector::write(lent(&text), t, &recorded)
-    };
-    let told = told(asked, &text).into_iter();
-    told.map(|(_, read)| line(read)).collect()
+    let (read, _) = told(asked, &text);
+    let recorded = read.map(|answer| (answer.text.made, answer.preset));
+    vec![replay::records::vector::write(lent(&text), t, &recorded)]
 }
 
 // Of the keys that are not declared, one.
 fn plan_lines(t: &Parts) -> Vec<String> {
     let text = joined(t);
-    let undeclared = |(_, read): &Answered| read.as_ref().is_err_and(|e| e.number == 80);
-    let (others, mut told): (Vec<_>, Vec<_>) = told(&plan::compare::PLAN, &text)
-        .into_iter()
-        .partition(undeclared);
+    let (read, all) = told(&plan::compare::PLAN, &text);
+    let undeclared = |one: &Answered| one.refusal.is_some_and(|e| e.number == 80);
+    let (others, mut told): (Vec<_>, Vec<_>) = all.into_iter().partition(undeclared);
     let count = others.len().max(1);
     told.extend(others.into_iter().nth(text.len() % count));
-    let line = |(selected, read): Answered| {
-        let planned = read.map(|answer| {
-            let plan = replay::plan::model::plan(&answer.preset, selected.as_deref());
+    let line = |one: Answered| {
+        let planned = one.told(&read).into_owned().map(|answer| {
+            let plan = replay::plan::model::plan(&answer.preset, one.selected.as_deref());
             (answer.text.made, plan.expect("planned"))
         });
-        replay::plan::vector::write(lent(&text), t, &selected, &planned)
+        replay::plan::vector::write(lent(&text), t, &one.selected, &planned)
     };
     told.into_iter().map(line).collect()
 }
 
 /// All files.
-pub const ALL: [Record; 6] = [TEXT, VALUE, DOCUMENT, RECORDS, VALIDATE, PLAN];
+pub const ALL: [Record; 7] = [TEXT, VALUE, DOCUMENT, RECORDS, VALIDATE, PLAN, LISTING];
 
 /// Texts in one part each.
 pub fn plain(texts: &[&str]) -> Vec<Parts> {

@@ -53,9 +53,9 @@ fn definitions_against_the_original() {
     for _ in 0..COUNT {
         let (name, text) = (name(&mut r), random::text(&mut r));
         let told = answers(&ASKED, &text, &name);
-        let told = told.unwrap_or_else(|e| panic!("{}: {e}", text.escape_ascii()));
-        let numbers = told.iter().map(|(_, read)| read.as_ref().err());
-        numbers.for_each(|e| met.count(e.map_or(0, |e| e.number)));
+        let (_, told) = told.unwrap_or_else(|e| panic!("{}: {e}", text.escape_ascii()));
+        let numbers = told.iter().map(|one| one.refusal.map_or(0, |e| e.number));
+        numbers.for_each(|number| met.count(number));
     }
     println!("{}", met.summary());
     assert_eq!(met.seldom(NUMBERS, 100), None, "{}", met.summary());

@@ -92,12 +92,30 @@ impl Room {
         Room::before(length, GUARD.len())
     }
 
+    /// Ends at a protected page, or begins behind one, or both where its length is of whole pages; what else
+    /// there is between these pages is guard bytes.
+    pub fn beside(length: usize, ending: bool) -> Self {
+        let mut memory = Fenced::new(length);
+        memory.bytes().fill(GUARD[0]);
+        let spare = memory.inside - length;
+        let from = if ending { spare } else { 0 };
+        let end = from + length;
+        Room { memory, from, end }
+    }
+
     fn before(length: usize, behind: usize) -> Self {
         let mut memory = Fenced::new(GUARD.len() + length + behind);
         memory.bytes().fill(GUARD[0]);
         let end = memory.inside - behind;
         let from = end - length;
         Room { memory, from, end }
+    }
+
+    /// Makes it another length, no longer than it was at first, that ends at the same place.
+    pub fn fit(&mut self, length: usize) {
+        self.from = self.end - length;
+        let before = self.from - GUARD.len()..self.from;
+        self.memory.bytes()[before].copy_from_slice(&GUARD);
     }
 
     /// Fills the room with noise. Word by word: an emulator copies long parts byte by byte.
@@ -120,8 +138,9 @@ impl Room {
     pub fn kept(&mut self) -> bool {
         let (from, end) = (self.from, self.end);
         let all = self.memory.bytes();
-        let behind = &all[end..];
-        all[from - GUARD.len()..from] == GUARD && behind == &GUARD[..behind.len()]
+        let before = &all[from.saturating_sub(GUARD.len())..from];
+        let behind = &all[end..all.len().min(end + GUARD.len())];
+        *before == GUARD[..before.len()] && *behind == GUARD[..behind.len()]
     }
 }
 

@@ -1,5 +1,5 @@
 //! The port's plans, with the rooms that they leave looked through.
-use super::keys::answers;
+use super::keys::{Answered, answers};
 use super::model::{self, Selected};
 use super::vector::rows;
 use crate::records::answer::{Preset, Read};
@@ -35,13 +35,32 @@ pub fn difference(got: &Plan, want: &Plan) -> Option<String> {
 
 /// Plans a preset for every selection, and holds each answer against the definitions.
 pub fn judge(host: &mut Host, text: &[u8], name: &[u8], read: &Read) -> Result<(), String> {
-    for (selected, want) in answers(read) {
-        host.selected = selected;
-        let told = host.judge(text, name, &want);
-        told.map_err(|e| format!("{}{e}", about(&host.selected)))?
-            .ok();
+    for one in answers(read) {
+        host.selecting(&one, text, name, read, false)?;
     }
     Ok(())
+}
+
+impl Host {
+    /// Plans it for one selection, in all sorts of rooms where that is wished for. A brief answer is
+    /// asked for behind the boot chain's.
+    pub fn selecting(
+        &mut self,
+        one: &Answered,
+        text: &[u8],
+        name: &[u8],
+        read: &Read,
+        fully: bool,
+    ) -> Result<(), String> {
+        let want = one.told(read);
+        self.selected.clone_from(&one.selected);
+        let told = match (one.brief, fully) {
+            (true, _) => self.briefly(text, name, &want),
+            (false, true) => self.judge_fully(text, name, &want).map(drop),
+            (false, false) => self.judge(text, name, &want).map(drop),
+        };
+        told.map_err(|e| format!("{}{e}", about(&self.selected)))
+    }
 }
 
 /// Looks through every view of a plan in any rooms: what is not found is zero, all views of a

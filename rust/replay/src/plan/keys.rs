@@ -1,19 +1,18 @@
 //! What is selected of a preset.
 use super::model::chosen;
-use crate::records::answer::{Preset, Read};
+use crate::records::answer::{Preset, Read, Refusal};
+use std::borrow::Cow;
 
 // All where there are no more than so many, else the first, one between and the last: every view of a
 // plan is called for each.
 const FEW: usize = 8;
 
-fn declared(p: &Preset) -> Vec<Vec<u8>> {
-    let count = p.apps.len();
-    let places = match count <= FEW {
+// The places of applications whose plans are looked at in every view.
+fn looked_at(count: usize) -> Vec<usize> {
+    match count <= FEW {
         true => (0..count).collect(),
         false => vec![0, count / 2, count - 1],
-    };
-    let keys = places.into_iter().map(|i: usize| p.apps[i].package.clone());
-    keys.collect()
+    }
 }
 
 /// Keys that are seldom or never declared: none at all, no characters, one that is begun or goes on,
@@ -34,30 +33,63 @@ pub fn undeclared(p: &Preset) -> [Vec<u8>; 7] {
     all.map(<[u8]>::to_vec)
 }
 
-/// What is selected, and what is told then.
-pub type Answered = (Option<Vec<u8>>, Read);
+/// What is selected and how it is refused, where it is.
+pub struct Answered {
+    pub selected: Option<Vec<u8>>,
+    pub refusal: Option<Refusal>,
+    /// Answer and rooms alone are looked at, and no view is called.
+    pub brief: bool,
+}
+
+impl Answered {
+    fn whole(selected: Option<Vec<u8>>, refusal: Option<Refusal>) -> Self {
+        Answered {
+            selected,
+            refusal,
+            brief: false,
+        }
+    }
+
+    /// The boot chain of a preset that is read and validated like this.
+    pub fn boot_chain(read: &Read) -> Self {
+        Answered::whole(None, read.as_ref().err().copied())
+    }
+
+    /// What is told of a preset that is read and validated like this.
+    pub fn told<'a>(&self, read: &'a Read) -> Cow<'a, Read> {
+        let refused = self.refusal.map(|refusal| Cow::Owned(Err(refusal)));
+        refused.unwrap_or(Cow::Borrowed(read))
+    }
+}
 
 /// Every selection with its answer, where a preset is read and validated like this: the boot chain,
-/// the declared applications, and two other keys, which go by the text.
+/// then the declared applications, those first whose plans are not looked at, and two other keys, which
+/// go by the text.
 pub fn answers(read: &Read) -> Vec<Answered> {
     let answer = match read {
         Ok(answer) => answer,
         Err(refusal) => {
             let both = [None, Some(b"desk".to_vec())];
-            return both.map(|selected| (selected, Err(*refusal))).into();
+            return both.map(|key| Answered::whole(key, Some(*refusal))).into();
         }
     };
     let preset = &answer.preset;
-    let (mut keys, mut others) = (declared(preset), undeclared(preset));
+    let told = |key: &[u8]| chosen(preset, Some(key)).err();
+    let looked_at = looked_at(preset.apps.len());
+    let mut all = vec![Answered::boot_chain(read)];
+    all.extend(preset.apps.iter().enumerate().map(|(i, app)| Answered {
+        selected: Some(app.package.clone()),
+        refusal: told(&app.package),
+        brief: !looked_at.contains(&i),
+    }));
+    all[1..].sort_by_key(|one| !one.brief);
+    let mut others = undeclared(preset);
     others.rotate_left(answer.text.store.len() % 7);
-    let others = others.into_iter().filter(|key| !keys.contains(key));
-    let others: Vec<_> = others.take(2).collect();
-    keys.extend(others);
-    let all = std::iter::once(None).chain(keys.into_iter().map(Some));
-    let each = all.map(|selected| {
-        let told = chosen(preset, selected.as_deref());
-        let told = told.map(|_| answer.clone());
-        (selected, told)
-    });
-    each.collect()
+    let declared = |key: &Vec<u8>| preset.apps.iter().any(|app| app.package == *key);
+    let others = others.into_iter().filter(|key| !declared(key)).take(2);
+    all.extend(others.map(|key| {
+        let refusal = told(&key);
+        Answered::whole(Some(key), refusal)
+    }));
+    all
 }

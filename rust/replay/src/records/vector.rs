@@ -75,7 +75,7 @@ fn amount(n: &Option<u32>) -> String {
     n.map_or("-".into(), |n| n.to_string())
 }
 
-const CHIPS: [(&str, Chip); 2] = [("d13x", Chip::D13x), ("d21x", Chip::D21x)];
+pub(crate) const CHIPS: [(&str, Chip); 2] = [("d13x", Chip::D13x), ("d21x", Chip::D21x)];
 pub(crate) const MEDIA: [(&str, Media); 2] =
     [("spi-nor", Media::SpiNor), ("spi-nand", Media::SpiNand)];
 pub(crate) const KINDS: [(&str, ComponentKind); 3] = [

@@ -1,6 +1,6 @@
 //! One whole text through the port, the original and the definitions, which have limits.
 use super::original;
-use crate::compare::shortest_difference;
+use crate::shorten::shortest_difference;
 use replay::document::answer::shown;
 use replay::document::ask::{Heard, Host};
 use replay::document::model;
@@ -11,7 +11,7 @@ use replay::met::Met;
 pub struct Judge {
     host: Host,
     /// Once there was a difference, every text is read in all sorts of rooms.
-    differed: bool,
+    pub(crate) differed: bool,
     pub met: Met,
 }
 

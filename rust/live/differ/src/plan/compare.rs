@@ -6,7 +6,7 @@ use crate::validate::compare::VALIDATE;
 use oracle::preset::Preset as Theirs;
 use port::preset::Preset;
 use replay::plan::ask::{PLAN as DOOR, difference};
-use replay::plan::keys::answers;
+use replay::plan::keys::{Answered, answers};
 use replay::plan::{model, random};
 use replay::records::answer::Read;
 use replay::records::ask::{Host, about};
@@ -26,14 +26,14 @@ pub fn judge() -> Judge {
 }
 
 // By the definitions, once the original plans the same of a preset that is accepted.
-fn selected(text: &[u8], name: &[u8], read: Read) -> Answers {
-    let all = answers(&read);
+fn selected(text: &[u8], name: &[u8], read: &Read) -> Answers {
+    let all = answers(read);
     let Ok(answer) = read else {
         return Ok(all);
     };
     let text = std::str::from_utf8(text).map_err(|e| format!("not refused with 2: {e}"))?;
     let theirs = parsed(text, name).map_err(|told| format!("accepted against {told:?}"))?;
-    for (key, _) in &all {
+    for Answered { selected: key, .. } in &all {
         let same = same(&answer.preset, &theirs, key.as_deref());
         same.map_err(|e| format!("{}definition against original, {e}", about(key)))?;
     }

@@ -1,12 +1,12 @@
 //! One preset through the port, the original and the definitions, which have limits.
 use super::original::{self, Told};
-use crate::compare::shortest_difference;
+use crate::shorten::shortest_difference;
 use port::preset::Preset;
 use replay::met::Met;
 use replay::plan::keys::Answered;
 use replay::random::Rng;
 use replay::records::answer::{Read, Refusal};
-use replay::records::ask::{Host, about, difference};
+use replay::records::ask::{Host, difference};
 use replay::records::model::{self, LIMITS, Limits, UNLIMITED};
 use replay::records::random;
 use std::thread;
@@ -21,7 +21,7 @@ pub struct Question {
     /// Presets to ask about.
     pub random: fn(&mut Rng) -> Vec<u8>,
     /// What is told for all that may be selected, where a preset is answered like this.
-    pub selected: fn(&[u8], &[u8], Read) -> Answers,
+    pub selected: fn(&[u8], &[u8], &Read) -> Answers,
 }
 
 /// All answers, or where definitions and original differ.
@@ -33,7 +33,7 @@ pub const RECORDS: Question = Question {
     original: original::read,
     numbers: &[20, 21, 22, 23, 24, 25],
     random: random::text,
-    selected: |_, _, read| Ok(vec![(None, read)]),
+    selected: |_, _, read| Ok(vec![Answered::boot_chain(read)]),
 };
 
 /// What the definitions say of a preset, once the original says the same where it can.
@@ -58,10 +58,15 @@ pub fn answer(asked: &Question, text: &[u8], name: &[u8]) -> Result<Read, String
     Ok(defined)
 }
 
-/// The same for all that may be selected.
-pub fn answers(asked: &Question, text: &[u8], name: &[u8]) -> Answers {
+/// The same, and for all that may be selected.
+pub fn answers(
+    asked: &Question,
+    text: &[u8],
+    name: &[u8],
+) -> Result<(Read, Vec<Answered>), String> {
     let read = answer(asked, text, name)?;
-    (asked.selected)(text, name, read)
+    let all = (asked.selected)(text, name, &read)?;
+    Ok((read, all))
 }
 
 fn number(read: &Read) -> u32 {
@@ -100,7 +105,7 @@ pub struct Judge {
     /// The name that is lent.
     pub name: Vec<u8>,
     /// Once there was a difference, every preset is read in all sorts of rooms.
-    differed: bool,
+    pub(crate) differed: bool,
     pub met: Met,
 }
 
@@ -127,17 +132,13 @@ impl Judge {
     }
 
     fn all(&mut self, text: &[u8]) -> Result<(), String> {
-        for (selected, want) in answers(&self.asked, text, &self.name)? {
-            self.host.selected = selected;
-            let heard = match self.differed {
-                true => self.host.judge_fully(text, &self.name, &want),
-                false => self.host.judge(text, &self.name, &want),
-            };
-            let about = about(&self.host.selected);
-            heard
-                .map_err(|e| format!("{about}port against definition, {e}"))?
-                .ok();
-            self.met.count(number(&want));
+        let (read, all) = answers(&self.asked, text, &self.name)?;
+        for one in all {
+            let told = self
+                .host
+                .selecting(&one, text, &self.name, &read, self.differed);
+            told.map_err(|e| format!("port against definition, {e}"))?;
+            self.met.count(one.refusal.map_or(0, |e| e.number));
         }
         Ok(())
     }

@@ -1,0 +1,162 @@
+//! From a text to records, to a verdict, to a plan, to the lines of the listing.
+use crate::texts::{EXAMPLES, example};
+use crate::timing::{Times, measured};
+use differ::listing::original::rendered;
+use oracle::preset::{ImagePlan, Preset, Selection};
+use port::{document, plan, plans, preset, records};
+use replay::faults::{Input, Rooms, least};
+use replay::large::full;
+use std::hint::black_box;
+use std::path::Path;
+
+const HEAD: &str = "\
+| preset | bytes | partitions | components | applications | runs | port | original | port / original |
+|---|---|---|---|---|---|---|---|---|";
+pub const READ_NOTE: &str = "
+From text to records. The port's time is `preset_read`, which checks that the bytes are UTF-8, zeroes both
+rooms and judges every field; records are views of the rooms. The original's time is `Preset::parse`, with
+the preset it makes dropped again.";
+pub const VALIDATE_NOTE: &str = "
+From text to a verdict. The port's time is `preset_validate`, which does all that `preset_read` does and
+then goes through the rules. The original's time is `Preset::parse` and `validate`, with the preset dropped
+again.";
+pub const BOOT_CHAIN_NOTE: &str = "
+From text to the plan of the boot chain. The port's time is `preset_plan`, which does all that
+`preset_validate` does and then judges the selection; the plan is views of the rooms. The original's time is
+`Preset::parse` and `plan`, which validates, with the preset and the plan dropped again.";
+pub const APPLICATION_NOTE: &str = "
+The same with the last of the applications.";
+pub const WHOLE_NOTE: &str = "
+The same, and every view of the plan called once, its texts and features copied out.";
+pub const LISTING_NOTE: &str = "
+From text to lines. The port's time is `preset_listing`, which plans the boot chain, zeroes the output of
+73733 bytes too and writes the lines into it. The original's time is `Preset::parse`, `plan` and writing
+the lines into a new `String`, all dropped again.";
+
+/// What both sides do with a preset and the key of one of its applications, and whether they leave the
+/// same; the last is what the output holds.
+pub struct Job<T> {
+    /// The refusal's number.
+    pub ours: fn(Input, Rooms) -> u32,
+    pub theirs: fn(&str, &str) -> T,
+    same: fn(records::Rooms, &str, &str, &[u8]) -> bool,
+}
+
+pub const READ: Job<Preset> = Job {
+    ours: |i, [store, tree, _]| records::read(i.text, i.name, store, tree).number,
+    theirs: |text, _| parsed(text),
+    same: |_, _, _, _| true,
+};
+
+pub const VALIDATE: Job<Preset> = Job {
+    ours: |i, [store, tree, _]| records::validate(i.text, i.name, store, tree).number,
+    theirs: |text, _| {
+        let preset = parsed(text);
+        preset.validate().expect("no rule is broken");
+        preset
+    },
+    ..READ
+};
+
+pub const BOOT_CHAIN: Job<(Preset, ImagePlan)> = Job {
+    ours: |i, [store, tree, _]| plans::plan(i.text, i.name, None.into(), store, tree).number,
+    theirs: |text, _| planned(text, &Selection::Bootloader),
+    same: |rooms, text, _, _| same_plan(rooms, text, None),
+};
+
+pub const APPLICATION: Job<(Preset, ImagePlan)> = Job {
+    ours: |i, [store, tree, _]| plans::plan(i.text, i.name, Some(i.key).into(), store, tree).number,
+    theirs: |text, key| planned(text, &Selection::App(key.into())),
+    same: |rooms, text, key, _| same_plan(rooms, text, Some(key)),
+};
+
+pub const WHOLE: Job<(Preset, ImagePlan)> = Job {
+    ours: |i, [store, tree, _]| {
+        let selection = Some(i.key).into();
+        let got = plans::plan(i.text, i.name, selection, store, tree);
+        let made = got.made as usize;
+        let plan = plan::rebuild(records::Rooms { tree, store, made }, i.name, selection);
+        black_box(plan).expect("a plan");
+        got.number
+    },
+    ..APPLICATION
+};
+
+pub const LISTING: Job<(Preset, ImagePlan, String)> = Job {
+    ours: |i, [store, tree, out]| port::listing::listing(i.text, i.name, store, tree, out).number,
+    // the count of values is no work of the original's
+    theirs: |text, _| listed(text, 0),
+    same: |rooms, text, _, out| {
+        let (_, _, lines) = listed(text, rooms.made);
+        replay::ask::holds(out, lines.as_bytes()).is_ok()
+    },
+};
+
+// What is lent, and what the original's file is called.
+pub const NAME: &[u8] = b"board";
+
+pub fn parsed(text: &str) -> Preset {
+    Preset::parse(text, Path::new("board.toml")).expect("records")
+}
+
+fn planned(text: &str, selection: &Selection) -> (Preset, ImagePlan) {
+    let preset = parsed(text);
+    let plan = preset.plan(selection).expect("a plan");
+    (preset, plan)
+}
+
+pub fn listed(text: &str, made: usize) -> (Preset, ImagePlan, String) {
+    let (preset, plan) = planned(text, &Selection::Bootloader);
+    let lines = rendered(&preset, &plan, made);
+    (preset, plan, lines)
+}
+
+fn same_plan(rooms: records::Rooms, text: &str, key: Option<&str>) -> bool {
+    let got = plan::rebuild(rooms, NAME, key.map(str::as_bytes).into());
+    let want = differ::plan::original::plan(&parsed(text), key);
+    got.expect("a plan") == want.expect("a plan")
+}
+
+/// One table of a job.
+pub fn presets<T>(job: &Job<T>, note: &str) {
+    println!("\n{HEAD}");
+    for name in EXAMPLES {
+        row(job, name, &example(name));
+    }
+    row(job, "all lists full", &full());
+    println!("{note}");
+}
+
+fn row<T>(job: &Job<T>, name: &str, text: &str) {
+    let p = parsed(text);
+    let (bytes, parts) = (text.len(), p.partitions.len());
+    let (comps, apps) = (p.components.len(), p.apps.len());
+    let times = both(job, name, text).columns();
+    println!("| {name} | {bytes} | {parts} | {comps} | {apps} | {times} |");
+}
+
+/// Both sides on one preset with its last application, once they are seen to leave the same.
+pub fn both<T>(job: &Job<T>, name: &str, text: &str) -> Times {
+    let (key, _) = parsed(text).apps.pop_last().expect("an application");
+    let mut rooms = least(NAME).map(|length| vec![0; length]);
+    let [store, tree, _] = &mut rooms;
+    let made = document::read(text.as_bytes(), store, tree).made as usize;
+    let mut ours = || {
+        let input = Input {
+            text: black_box(text).as_bytes(),
+            name: NAME,
+            key: key.as_bytes(),
+        };
+        let number = (job.ours)(input, rooms.each_mut().map(Vec::as_mut_slice));
+        assert_eq!(number, 0, "{name}");
+    };
+    ours();
+    let times = measured(ours, || (job.theirs)(black_box(text), &key));
+    let [store, tree, out] = &rooms;
+    let rooms = records::Rooms { tree, store, made };
+    let got = preset::rebuild(rooms, NAME).expect("records");
+    let want = differ::records::original::read(text, NAME);
+    assert!(want == Ok(got), "{name}: records");
+    assert!((job.same)(rooms, text, &key, out), "{name}: plans or lines");
+    times
+}

@@ -1,0 +1,4 @@
+//! The same for the listing.
+pub mod compare;
+pub mod corners;
+pub mod original;

@@ -1,0 +1,45 @@
+//! The listing on all sides: the port, the definitions and the original.
+use differ::listing::compare::Judge;
+use differ::record::LISTING;
+use differ::run::Run;
+use replay::document::vector;
+use replay::plan::cases::CASES;
+use replay::random::Rng;
+use replay::records::random::NAMES;
+use replay::validate::spelled;
+
+#[test]
+fn corners() {
+    let mut judge = Judge::default();
+    for (i, text) in LISTING.texts().enumerate() {
+        judge.name = NAMES[i % NAMES.len()].to_vec();
+        judge.check(&vector::joined(&text));
+    }
+    println!("{}", judge.met.summary());
+    assert_eq!(judge.met.unmet(), [80, 81], "{}", judge.met.summary());
+}
+
+#[test]
+fn around_every_boundary() {
+    let (mut r, mut judge) = (Rng::new(SEED), Judge::default());
+    for (_, presets) in CASES {
+        for preset in presets() {
+            judge.check(spelled::text(&mut r, &preset).as_bytes());
+        }
+    }
+    assert!(judge.met.of(0) > 3_000, "{}", judge.met.summary());
+}
+
+const SEED: u64 = 20_241_202;
+
+#[test]
+fn random_presets() {
+    let run = Run {
+        sides: || Box::new(Judge::default()),
+        count: 30_000,
+        seed: SEED,
+    };
+    let met = run.go(|_| ()).unwrap_or_else(|e| panic!("{}", e.told));
+    println!("{}", met.summary());
+    assert_eq!(met.unmet(), [80, 81], "{}", met.summary());
+}

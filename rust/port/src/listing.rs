@@ -1,0 +1,58 @@
+//! The listing: a preset read, held to the rules, its boot chain planned, and the lines that 01 prints.
+
+/// `number` 0: accepted, with the lines in `written` bytes of the output; else a refusal with its
+/// section and place.
+#[repr(C)]
+#[derive(Clone, Copy, Debug, Default, PartialEq, Eq)]
+pub struct Listed {
+    pub number: u32,
+    pub section: u32,
+    pub place: u32,
+    pub written: u32,
+}
+
+/// The least output that `listing` takes for a name that is lent.
+pub fn out_min(name: &[u8]) -> usize {
+    73_728 + name.len()
+}
+
+mod sys {
+    use super::Listed;
+
+    unsafe extern "C" {
+        pub fn preset_listing(
+            text: *const u8,
+            n: usize,
+            name: *const u8,
+            name_n: usize,
+            store: *mut u8,
+            store_room: usize,
+            tree: *mut u8,
+            tree_room: usize,
+            out: *mut u8,
+            out_room: usize,
+        ) -> Listed;
+    }
+}
+
+/// Plans a preset's boot chain and writes its lines at the head of `out`, and zeros behind them.
+pub fn listing(
+    text: &[u8],
+    name: &[u8],
+    store: &mut [u8],
+    tree: &mut [u8],
+    out: &mut [u8],
+) -> Listed {
+    let (to, room) = (store.as_mut_ptr(), store.len());
+    let (slots, places) = (tree.as_mut_ptr(), tree.len());
+    let (page, length) = (out.as_mut_ptr(), out.len());
+    let (from, n) = (text.as_ptr(), text.len());
+    let (board, letters) = (name.as_ptr(), name.len());
+    // SAFETY: all five are live slices of their lengths and the borrow rules keep the lent rooms
+    // apart from the rest; preset_listing has no precondition.
+    unsafe {
+        sys::preset_listing(
+            from, n, board, letters, to, room, slots, places, page, length,
+        )
+    }
+}

@@ -1,0 +1,72 @@
+//! What a host may rely on beside the answers: how deep the stack is used, and that threads do not meet.
+use replay::faults::{FUNCTIONS, Function, Input, Said, least};
+use replay::mixed;
+use replay::random::Rng;
+use replay::records::random::EXAMPLES;
+use replay::stack::{most, used, within};
+use std::thread;
+
+// docs/HOST.md says so.
+const STACK: usize = 64 * 1_024;
+
+fn called(function: &Function, text: &[u8], key: &[u8]) -> (Said, [Vec<u8>; 3]) {
+    let name = b"board";
+    let mut rooms = least(name).map(|length| vec![0; length]);
+    let input = Input { text, name, key };
+    let said = (function.call)(input, rooms.each_mut().map(Vec::as_mut_slice));
+    (said, rooms)
+}
+
+#[test]
+fn stack() {
+    for (called, bytes, text) in most() {
+        println!("{called}: {bytes} bytes, {text}");
+        assert!(
+            bytes > 4_096 && bytes < STACK,
+            "{called}: {bytes} bytes, {text}"
+        );
+    }
+}
+
+// What is measured is right for a call that is known to take much, or next to nothing.
+#[test]
+fn stack_that_is_known() {
+    let filled = || {
+        std::hint::black_box([7u8; 50_000]);
+    };
+    assert!((50_000..60_000).contains(&used(filled)), "{}", used(filled));
+    assert!(used(|| ()) < 1_024, "{}", used(|| ()));
+}
+
+// A thread has some of its stack for itself.
+#[test]
+fn a_small_stack_is_enough() {
+    for function in FUNCTIONS {
+        for text in EXAMPLES {
+            within(STACK + 16_384, || {
+                drop(called(function, text.as_bytes(), b"desk"))
+            });
+        }
+    }
+}
+
+// The same answers and rooms in many threads at once as in one.
+#[test]
+fn threads_do_not_meet() {
+    let mut r = Rng::new(51);
+    let texts: Vec<_> = (0..60).map(|_| mixed::text(&mut r)).collect();
+    let all = || -> Vec<_> {
+        let each = texts
+            .iter()
+            .flat_map(|t| FUNCTIONS.iter().map(move |f| (t, f)));
+        each.map(|(text, function)| called(function, text, b"desk"))
+            .collect()
+    };
+    let want = all();
+    thread::scope(|scope| {
+        let threads = [(); 4].map(|_| scope.spawn(all));
+        for thread in threads {
+            assert!(thread.join().expect("an answer") == want);
+        }
+    });
+}
