@@ -34,12 +34,12 @@ use Rattle.document.specs.Rooms as rooms
 use Rattle.document.specs.Rooms.{suffice, judged}
 use Rattle.document.proofs.Reading.{suffices}
 use Rattle.parse.specs.declared.Refusal.{Refusal}
-use Rattle.entry.specs.declared.Outcome as parsed
+use Rattle.ways.specs.declared.Outcome as parsed
 use Rattle.parse.specs.Refusals.{earlier}
 use Rattle.parse.specs.Refused.{lentText, verdict}
 use Rattle.parse.specs.Views.{sound}
 use Rattle.parse.specs.Verdict as verdicts
-use Rattle.entry.specs.Settled as settled
+use Rattle.ways.specs.Settled as settled
 use Rattle.parse.specs.Filed.{file-named, file-inside}
 use Rattle.parse.specs.Answers.{Says, says-after, says-made, says-accepted, says-refused, earlier-clear}
 use Rattle.parse.specs.Whole.{presetMeant, preset-says, lent-is}

@@ -29,9 +29,9 @@ use Rattle.parse.specs.Refused.{lentText}
 use Rattle.validate.specs.Gathered.{components}
 use Rattle.report.specs.Shown.{lines}
 use Rattle.report.specs.Said.{lines-say}
-use Rattle.entry.specs.declared.Outcome as entered
+use Rattle.ways.specs.declared.Outcome as entered
 use Rattle.listed.specs.declared.Listed as lists
-use Rattle.entry.specs.Settled.{Parsed}
+use Rattle.ways.specs.Settled.{Parsed}
 use Rattle.listed.specs.Listings as entries
 use Rattle.host.specs.declared.documents.Outcome.{Outcome}
 use Rattle.host.specs.declared.listings.Listed.{Listed}

@@ -24,11 +24,11 @@ use Rattle.parse.specs.Verdict.{Told}
 use Rattle.plan.specs.Planning.{planning}
 use Rattle.report.specs.Page.{Wrote}
 use Rattle.report.specs.Shown.{lines}
-use Rattle.entry.specs.declared.Outcome.{Outcome}
+use Rattle.ways.specs.declared.Outcome.{Outcome}
 use Rattle.listed.specs.declared.Listed.{Listed}
-use Rattle.entry.specs.Settled.{Kept, Settling, Parsed}
+use Rattle.ways.specs.Settled.{Kept, Settling, Parsed}
 use Rattle.listed.specs.Listings.{unlisted, Blank, Listable, Listing, TreeListed, Unroomed, Lined, Planned, Short, Lists}
-use Rattle.entry.proofs.Settling.{read-rooms, judged-on, read-refused}
+use Rattle.ways.proofs.Settling.{read-rooms, judged-on, read-refused}
 
 -- ---- the room of the output
 

@@ -15,9 +15,9 @@ use Rattle.parse.specs.declared.Refusal.{Refusal}
 use Rattle.parse.specs.Verdict.{Told}
 use Rattle.plan.specs.Planning.{planning}
 use Rattle.report.specs.Shown.{lines}
-use Rattle.entry.specs.declared.Outcome.{Outcome}
+use Rattle.ways.specs.declared.Outcome.{Outcome}
 use Rattle.listed.specs.declared.Listed.{Listed}
-use Rattle.entry.specs.Settled.{Kept, Parsed}
+use Rattle.ways.specs.Settled.{Kept, Parsed}
 
 -- a refusal
 abbrev pub unlisted : Outcome → Listed

@@ -1,7 +1,7 @@
 // From a text to its listing, for every text, name and rooms.
 
 use document::Read;
-use entry::Outcome;
+use ways::Outcome;
 ghost use mathlib.Core.Path.{_≡_};
 ghost use lib.ListN.{length};
 ghost use Rattle.meaning.specs.Listing as meant;
@@ -77,7 +77,7 @@ fn list_tree(name: &[u8], store: &mut [u8], tree: &mut [u8], out: &mut [u8], mad
     ensures { λ r. ⌜ listings.TreeListed (now (name .entry)) (now (store .entry)) (now (tree .entry)) made (now (out .entry)) (now (store .exit)) (now (tree .exit)) (now (out .exit)) r ⌝ }
 {
     let v = plan::judge(tree, store, made, name, 0, b"");
-    let o = entry::settle(v, store, tree, made);
+    let o = ways::settle(v, store, tree, made);
     list(o, store, tree, out, name)
 }
 
@@ -89,7 +89,7 @@ fn list_text(text: &[u8], name: &[u8], store: &mut [u8], tree: &mut [u8], out: &
     let r = document::read_tree(text, store, tree);
     match r {
         Read::Fine(st) => list_tree(name, store, tree, out, st.made),
-        Read::Fault { number, line } => unlisted(entry::unread(number, line)),
+        Read::Fault { number, line } => unlisted(ways::unread(number, line)),
     }
 }
 

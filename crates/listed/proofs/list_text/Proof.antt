@@ -7,7 +7,7 @@ use Rattle.listed.proofs.list_text.Lts as lts
 use Rattle.document.proofs.read_tree.Reads as read-tree-reads
 use Rattle.listed.proofs.list_tree.Reads as list-tree-reads
 use Rattle.listed.proofs.unlisted.Reads as unlisted-reads
-use Rattle.entry.proofs.unread.Reads as unread-reads
+use Rattle.ways.proofs.unread.Reads as unread-reads
 
 -- src/listings.rt:101:9
 read-tree-requires : tie.Need-read-tree-requires

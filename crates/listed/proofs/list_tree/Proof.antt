@@ -5,7 +5,7 @@ use Rattle.listed.proofs.list_tree.Tie as tie
 use Rattle.listed.proofs.list_tree.Reads as reads
 use Rattle.listed.proofs.list_tree.Lts as lts
 use Rattle.listed.proofs.list.Reads as list-reads
-use Rattle.entry.proofs.settle.Reads as settle-reads
+use Rattle.ways.proofs.settle.Reads as settle-reads
 use Rattle.plan.proofs.judge.Reads as judge-reads
 
 -- src/listings.rt:85:53

@@ -1,12 +1,12 @@
-use Rattle.entry.proofs.Settling.{read-rooms, read-settles, judged-on, read-refused}
+use Rattle.ways.proofs.Settling.{read-rooms, read-settles, judged-on, read-refused}
 use borrow.Author.Needs.{needs}
-use Rattle.entry.proofs.validating.validate.Statement.{statement}
-use Rattle.entry.proofs.validating.validate.Tie as tie
-use Rattle.entry.proofs.validating.validate.Reads as reads
-use Rattle.entry.proofs.validating.validate.Lts as lts
+use Rattle.ways.proofs.validating.validate.Statement.{statement}
+use Rattle.ways.proofs.validating.validate.Tie as tie
+use Rattle.ways.proofs.validating.validate.Reads as reads
+use Rattle.ways.proofs.validating.validate.Lts as lts
 use Rattle.document.proofs.read_tree.Reads as read-tree-reads
-use Rattle.entry.proofs.settle.Reads as settle-reads
-use Rattle.entry.proofs.unread.Reads as unread-reads
+use Rattle.ways.proofs.settle.Reads as settle-reads
+use Rattle.ways.proofs.unread.Reads as unread-reads
 use Rattle.validate.proofs.judge.Reads as judge-reads
 
 -- src/validating.rt:12:9

@@ -15,8 +15,8 @@ use Rattle.document.specs.declared.Read.the-variants as reads
 use Rattle.document.specs.Rooms as rooms
 use Rattle.parse.specs.declared.Refusal.{Refusal}
 use Rattle.parse.specs.Verdict.{Told}
-use Rattle.entry.specs.declared.Outcome.{Outcome}
-use Rattle.entry.specs.Settled.{Kept, Settling, ReadBy, Parsed}
+use Rattle.ways.specs.declared.Outcome.{Outcome}
+use Rattle.ways.specs.Settled.{Kept, Settling, ReadBy, Parsed}
 
 module _ (store tree : Seq ℕ) (made : ℕ) (v : Refusal) (h : Settling v made) where
   pub kept-fine : v .number ≡ 0 → Kept v store tree made store tree (record { number = 0; section = 0; place = 0; made = made })

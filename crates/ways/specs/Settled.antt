@@ -10,7 +10,7 @@ use Rattle.toml_lite.specs.Carries.{Carries}
 use Rattle.toml_lite.specs.Doc.{Doc}
 use Rattle.document.specs.Rooms as rooms
 use Rattle.parse.specs.declared.Refusal.{Refusal}
-use Rattle.entry.specs.declared.Outcome.{Outcome}
+use Rattle.ways.specs.declared.Outcome.{Outcome}
 
 abbrev pub outcomeOf : ℕ → Refusal → Outcome
 outcomeOf made v = pick (eqb (v .number) 0) (record { number = 0; section = 0; place = 0; made = made }) (record { number = v .number; section = v .section; place = v .place; made = 0 })

@@ -3,7 +3,7 @@
 use crate::Outcome;
 use document::Read;
 ghost use Rattle.plan.specs.Planning.{planning};
-ghost use Rattle.entry.specs.Settled.{Parsed};
+ghost use Rattle.ways.specs.Settled.{Parsed};
 
 // Reads a preset into the two rooms, holds it to the rules and to the selection: 0 is the boot chain, any other the application of the key. A refusal leaves both rooms all zero.
 pub fn plan(

@@ -6,7 +6,7 @@ pub mod validating;
 
 use parse::Refusal;
 ghost use mathlib.Core.Path.{_≡_};
-ghost use Rattle.entry.specs.Settled.{Settling, Kept};
+ghost use Rattle.ways.specs.Settled.{Settling, Kept};
 
 // What a text comes to: number 0 and the count of values made; or 01's number, section and place.
 pub struct Outcome {

@@ -1,9 +1,9 @@
-use Rattle.entry.proofs.Settling.{kept-fine, kept-not}
+use Rattle.ways.proofs.Settling.{kept-fine, kept-not}
 use borrow.Author.Needs.{needs}
-use Rattle.entry.proofs.settle.Statement.{statement}
-use Rattle.entry.proofs.settle.Tie as tie
-use Rattle.entry.proofs.settle.Reads as reads
-use Rattle.entry.proofs.settle.Lts as lts
+use Rattle.ways.proofs.settle.Statement.{statement}
+use Rattle.ways.proofs.settle.Tie as tie
+use Rattle.ways.proofs.settle.Reads as reads
+use Rattle.ways.proofs.settle.Lts as lts
 use Rattle.slices.proofs.zero.Reads as zero-reads
 
 -- src/lib.rt:38:9
