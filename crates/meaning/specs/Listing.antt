@@ -58,6 +58,7 @@ appLine a = line (ascii "app") (a .pack ∷ a .name ∷ dashed (a .partition) �
 unfoldable pub buildLine : Build → List ℕ
 buildLine b = line (ascii "build") (b .pack ∷ decimal (length (b .features)) ∷ [])
 
+-- the last line of 01's output, "stem loader": the plan's stem
 unfoldable pub stemLine : List ℕ → List ℕ
 stemLine s = line (ascii "stem") (s ∷ [])
 
@@ -90,6 +91,7 @@ pub record Listed : Type 0 where
   pub planned : Planned
   pub lines : List ℕ
 
+-- the listing of a plan
 abbrev pub listed : Planned → Listed
 listed x = record { planned = x; lines = linesOf (x .read .parsed .made) (x .read .preset) (x .plan) }
 

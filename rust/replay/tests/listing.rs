@@ -93,13 +93,10 @@ fn examples() {
 
 #[test]
 fn around_every_boundary() {
-    let (mut r, mut host) = (Rng::new(15), Host::default());
-    for (_, presets) in CASES {
-        for preset in presets() {
-            let text = spelled::text(&mut r, &preset);
-            judged(&mut host, text.as_bytes(), b"board");
-        }
-    }
+    let mut host = Host::default();
+    spelled::each(&CASES, 15, |text| {
+        judged(&mut host, text, b"board");
+    });
 }
 
 #[test]

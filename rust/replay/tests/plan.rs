@@ -215,13 +215,8 @@ fn changes_break_no_rule() {
 
 #[test]
 fn around_every_boundary() {
-    let (mut r, mut host) = (Rng::new(5), Host::new(PLAN));
-    for (_, presets) in CASES {
-        for preset in presets() {
-            let text = spelled::text(&mut r, &preset);
-            judged(&mut host, text.as_bytes(), b"board");
-        }
-    }
+    let mut host = Host::new(PLAN);
+    spelled::each(&CASES, 5, |text| judged(&mut host, text, b"board"));
 }
 
 #[test]

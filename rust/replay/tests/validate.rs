@@ -231,13 +231,8 @@ fn judged(host: &mut Host, text: &[u8], name: &[u8]) {
 
 #[test]
 fn around_every_boundary() {
-    let (mut r, mut host) = (Rng::new(5), Host::new(VALIDATE));
-    for (_, presets) in CASES {
-        for preset in presets() {
-            let text = spelled::text(&mut r, &preset);
-            judged(&mut host, text.as_bytes(), b"board");
-        }
-    }
+    let mut host = Host::new(VALIDATE);
+    spelled::each(&CASES, 5, |text| judged(&mut host, text, b"board"));
 }
 
 #[test]

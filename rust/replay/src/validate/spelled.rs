@@ -5,7 +5,18 @@ use crate::records::draft::{Block, Draft};
 use crate::records::model::{belongings, filename_for};
 use crate::records::spelling::Section;
 use crate::records::vector::{KINDS, MEDIA, named};
+use crate::validate::cases::Case;
 use port::preset::{AppSpec, BoardInfo, Chip, ComponentSpec, ImageInfo, PartitionSpec};
+
+/// Each preset of these cases as a text, one after the other.
+pub fn each(cases: &[Case], seed: u64, mut asked: impl FnMut(&[u8])) {
+    let mut r = Rng::new(seed);
+    for (_, presets) in cases {
+        for preset in presets() {
+            asked(text(&mut r, &preset).as_bytes());
+        }
+    }
+}
 
 /// A text that is read as these records where `board` is lent as name.
 pub fn text(r: &mut Rng, p: &Preset) -> String {
