@@ -2,12 +2,14 @@
 use Prim.Native.Nat.{ℕ, _≤_, _<_}
 use mathlib.Core.Bool.{Bool, true, false}
 use mathlib.Core.List.{List}
-use mathlib.Core.Path.{_≡_}
+use mathlib.Core.Path.{_≡_, _∙_}
 use borrow.Author.Tests.{lt-ltb, le-ltb, ne-eqb}
 use lib.Dec.{eqb, ltb}
 use lib.ListN.{length}
 use Rattle.meaning.specs.Base.{pick, less}
 use Rattle.laws.specs.Cases.{on}
+use Rattle.meaning.specs.Features.{words}
+use Rattle.schema.specs.Texts.{clip}
 use Rattle.tree.specs.Doors.{items}
 use Rattle.tree.specs.declared.Value.{Value}
 use Rattle.tree.specs.declared.Value.the-variants as values
@@ -16,6 +18,7 @@ use Rattle.features.specs.declared.Piece.{Piece}
 use Rattle.features.specs.declared.FeaturesRead.{FeaturesRead}
 use Rattle.features.specs.declared.Feature.{Feature}
 use Rattle.features.specs.declared.Feature.the-variants as features
+use Rattle.features.specs.Ordered.{words-length}
 use Rattle.features.specs.Pieces.{pieceOf, wordsFrom, allTexts, fewWords, itemsFault, fewItems, featuresRead, bytesOf, behind, ahead, better}
 
 -- ---- what a value is
@@ -23,12 +26,15 @@ pub piece-is : (v w : Value) (p : Piece) → v ≡ w → p ≡ pieceOf w → p �
 piece-is v w p e h = rw e h
 
 -- ---- the limit
-module _ (store : List ℕ) (limit from len n : ℕ) (e : n ≡ length (wordsFrom store from len 0)) where
+module _ (store : List ℕ) (limit from len n : ℕ) (s : List ℕ) (e : n ≡ length (words s)) (f : s ≡ clip from len store) where
+  count-is : length (wordsFrom store from len 0) ≡ n
+  count-is = words-length store from len ∙ rw (← f, e)
+
   pub words-many : (r : FeaturesRead) → limit < n → r ≡ record { fault = 25; features = Absent } → r ≡ fewWords store limit from len
-  words-many r h k = rw (← e, lt-ltb limit n h) k
+  words-many r h k = rw (count-is, lt-ltb limit n h) k
 
   pub words-few : n ≤ limit → record { fault = 0; features = Words from len } ≡ fewWords store limit from len
-  words-few h = rw (← e, le-ltb limit n h)
+  words-few h = rw (count-is, le-ltb limit n h)
 
 module _ (tree store : List ℕ) (made limit place : ℕ) where
   by-fault : fewItems tree store made limit place

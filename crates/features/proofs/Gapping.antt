@@ -14,14 +14,13 @@ use Rattle.features.specs.Gaps.{gaps, run}
 -- ---- skip
 pub record Skipping (s : List ℕ) (at i : ℕ) : Type 0 where
   pub low : at ≤ i
-  pub high : i ≤ length s
   pub left : i + gaps (drop i s) ≡ at + gaps (drop at s)
 
 module _ (s : List ℕ) (at i : ℕ) (r : Bool) where
   pub skip-on : Skipping s at i → i < length s → r ≡ gap (getD s i 0) → r ≡ true → Skipping s at (i + 1)
   skip-on k h e t =
       let g : gaps (drop i s) ≡ suc (gaps (drop (i + 1) s)) = rw (drop-cons s i 0 h, ← e, t, add-one) in
-      record { low = omega (arith, k .low); high = omega arith; left = omega (arith, k .left) }
+      record { low = omega (arith, k .low); left = omega (arith, k .left) }
 
   pub skip-hit : Skipping s at i → i < length s → r ≡ gap (getD s i 0) → r ≡ false → i ≡ at + gaps (drop at s)
   skip-hit k h e t =
@@ -36,14 +35,13 @@ skip-end s at i k h =
 -- ---- stop
 pub record Running (s : List ℕ) (at i : ℕ) : Type 0 where
   pub low : at ≤ i
-  pub high : i ≤ length s
   pub left : i + run (drop i s) ≡ at + run (drop at s)
 
 module _ (s : List ℕ) (at i : ℕ) (r : Bool) where
   pub run-on : Running s at i → i < length s → r ≡ gap (getD s i 0) → r ≡ false → Running s at (i + 1)
   run-on k h e t =
       let g : run (drop i s) ≡ suc (run (drop (i + 1) s)) = rw (drop-cons s i 0 h, ← e, t, add-one) in
-      record { low = omega (arith, k .low); high = omega arith; left = omega (arith, k .left) }
+      record { low = omega (arith, k .low); left = omega (arith, k .left) }
 
   pub run-hit : Running s at i → i < length s → r ≡ gap (getD s i 0) → r ≡ true → i ≡ at + run (drop at s)
   run-hit k h e t =

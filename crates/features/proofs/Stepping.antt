@@ -8,10 +8,9 @@ use mir.Syntax.{w64}
 use mir.Val.{Fits}
 use borrow.Author.Tests.{leb-true, lt-ltb, le-ltb}
 use lib.Dec.{leb}
-use lib.ListN.{length, drop, drop-of-length-le, length-drop}
-use lib.Seq.{drop-drop, length-take-le}
+use lib.ListN.{length, drop, length-drop}
+use lib.Seq.{length-take-le}
 use Rattle.meaning.specs.Base.{pick, nil?}
-use Rattle.meaning.specs.Features.{gap}
 use Rattle.laws.specs.Cases.{on}
 use Rattle.schema.specs.Texts.{clip}
 use Rattle.tree.specs.declared.Found.{Found}
@@ -28,50 +27,14 @@ use Rattle.features.specs.declared.Feature.{Feature}
 use Rattle.features.specs.declared.Feature.the-variants as features
 use Rattle.features.specs.declared.Raw.{Raw}
 use Rattle.features.specs.declared.Raw.the-variants as raws
-use Rattle.features.specs.Gaps.{gaps, run}
-use Rattle.features.specs.Pieces.{close, wordsAt, wordsFrom, Steps, pieceOf, isText, allTexts, itemsFault, itemsFrom, piecesFrom, pieces, bound, better, nextOf}
+use Rattle.features.specs.declared.reader.Word.{Word}
+use Rattle.features.specs.declared.reader.Word.the-variants as words
+use Rattle.features.specs.Reading.{wordAt}
+use Rattle.features.specs.Pieces.{wordsAt, wordsFrom, Steps, pieceOf, isText, allTexts, itemsFault, itemsFrom, piecesFrom, pieces, bound, better, nextOf}
 use Rattle.tree.specs.Doors.{Rooms}
-
--- ---- behind a run of gaps and behind a run of other bytes
-
-gaps-fit : (s : List ℕ) → gaps s ≤ length s
-gaps-fit [] = omega arith
-gaps-fit (b ∷ s) = on (gap b) (λ e. rw e (omega (arith, gaps-fit s))) (λ e. rw e (omega arith))
-
-run-fit : (s : List ℕ) → run s ≤ length s
-run-fit [] = omega arith
-run-fit (b ∷ s) = on (gap b) (λ e. rw e (omega arith)) (λ e. rw e (omega (arith, run-fit s)))
-
--- behind the gaps stands a byte that is none
-run-some : (s : List ℕ) → gaps s < length s → 0 < run (drop (gaps s) s)
-run-some [] h = absurd (omega arith)
-run-some (b ∷ s) h =
-    on (gap b) (λ e. rw e (run-some s (let k : suc (gaps s) < suc (length s) = rw e at h in omega arith))) (λ e. rw (e, e) (omega arith))
-
-words-gaps : (i : ℕ) (s : List ℕ) → wordsAt i 0 s ≡ wordsAt (i + gaps s) 0 (drop (gaps s) s)
-words-gaps i [] = refl
-words-gaps i (b ∷ s) =
-    let e : i + suc (gaps s) ≡ i + 1 + gaps s = omega arith in
-    let z : i + 0 ≡ i = omega arith in
-    on (gap b) (λ t. rw (t, e) (words-gaps (i + 1) s)) (λ t. rw (t, z, t))
-
-words-run : (i n : ℕ) (s : List ℕ) → wordsAt i n s ≡ close (i + run s) (n + run s) (wordsAt (i + run s) 0 (drop (run s) s))
-words-run i n [] = let e : i + 0 ≡ i = omega arith in let f : n + 0 ≡ n = omega arith in rw (e, f)
-words-run i n (b ∷ s) =
-    let e : i + suc (run s) ≡ i + 1 + run s = omega arith in
-    let f : n + suc (run s) ≡ n + 1 + run s = omega arith in
-    let y : i + 0 ≡ i = omega arith in
-    let z : n + 0 ≡ n = omega arith in
-    on (gap b) (λ t. rw (t, y, z, t)) (λ t. rw (t, e, f) (words-run (i + 1) (n + 1) s))
-
-close-some : (i n : ℕ) (ps : List Piece) → 0 < n → close i n ps ≡ record { from = i - n; len = n } ∷ ps
-close-some i zero ps h = absurd (omega arith)
-close-some i (suc n) ps h = refl
+use Rattle.features.proofs.Wording.{met, words-none, words-some}
 
 -- ---- raw_word
-
-pub at-clip : (s t : List ℕ) (at : ℕ) → s ≡ t → at ≤ length t → at ≤ length s
-at-clip s t at e h = rw e h
 
 clip-end : (store : List ℕ) (from len : ℕ) → 0 < length (clip from len store) → from + length (clip from len store) ≤ length store
 unfolding clip
@@ -84,77 +47,24 @@ clip-end store from len h =
     rw (e, d, length-take-le len (drop from store) k) l)
     (λ e. absurd (let k : 0 < 0 = rw e at h in omega arith))
 
-module _ (store : List ℕ) (from len at a : ℕ) (s : List ℕ) (e : s ≡ clip from len store) (f : a ≡ at + gaps (drop at s)) where
-  behind-gaps : wordsFrom store from len at ≡ wordsAt (from + a) 0 (drop a s)
-  behind-gaps =
-      let d : from + at + gaps (drop at s) ≡ from + a = omega arith in
-      let w : wordsAt (from + at) 0 (drop at s) ≡ wordsAt (from + a) 0 (drop a s)
-      = words-gaps (from + at) (drop at s) ∙ rw (d, drop-drop, ← f) in
-      rw (← e) w
+module _ (store : List ℕ) (from len at : ℕ) (s : List ℕ) (e : s ≡ clip from len store) (w : Word) (f : w ≡ wordAt s at) where
+  pub raw-end : w ≡ words.End → wordsFrom store from len at ≡ []
+  raw-end g = rw (← e) (words-none from s at (sym f ∙ g))
 
-  pub word-end : length s ≤ a → wordsFrom store from len at ≡ []
-  word-end h = behind-gaps ∙ rw (drop-of-length-le s h)
+  module _ (a b : ℕ) (g : w ≡ words.At a b) where
+    some : (wordsAt (from + at) 0 (drop at s) ≡ record { from = from + a; len = b - a } ∷ wordsAt (from + b) 0 (drop b s)) × (at < b) × (b ≤ length s)
+    some = words-some from s at a b (sym f ∙ g)
 
-  module _ (h : a < length s) where
-    pub word-fits : length store < 2 ^ 64 → Fits w64 (from + a)
-    word-fits l =
+    pub raw-rises : a ≤ b
+    raw-rises = omega (arith, met from s at a b (sym f ∙ g) .2)
+
+    pub raw-fits : length store < 2 ^ 64 → Fits w64 (from + a)
+    raw-fits l =
         let k : length s ≡ length (clip from len store) = ap length e in
-        record { fits = omega (arith, clip-end store from len (omega arith)) }
+        record { fits = omega (arith, some .1, some .2, raw-rises, clip-end store from len (omega (arith, some .1, some .2))) }
 
-    module _ (b : ℕ) (g : b ≡ a + run (drop a s)) where
-      runs : a < b
-      runs =
-          let c : gaps (drop at s) < length (drop at s) = simp length-drop (omega arith) in
-          let d : drop (gaps (drop at s)) (drop at s) ≡ drop a s = rw (drop-drop, ← f) in
-          let r : 0 < run (drop a s) = rw d at (run-some (drop at s) c) in
-          omega arith
-
-      pub word-step : Steps (wordsFrom store from len) (length (clip from len store)) at (raws.At (record { from = from + a; len = b - a }) b)
-      word-step =
-          let i : from + a + run (drop a s) ≡ from + b = omega arith in
-          let n : 0 + run (drop a s) ≡ b - a = omega arith in
-          let j : from + b - (b - a) ≡ from + a = omega (arith, runs) in
-          let w : wordsAt (from + a) 0 (drop a s) ≡ record { from = from + a; len = b - a } ∷ wordsAt (from + b) 0 (drop b s)
-          = words-run (from + a) 0 (drop a s) ∙ rw (i, drop-drop, ← g, n, close-some (from + b) (b - a) (wordsAt (from + b) 0 (drop b s)) (omega (arith, runs)), j) in
-          let m : length (drop a s) ≡ length s - a = length-drop a s in
-          (behind-gaps ∙ rw (← e) w, omega (arith, runs), omega (arith, run-fit (drop a s), ap length e))
-
--- ---- count_words
-
-pub record Counting (store : List ℕ) (from len : ℕ) (s : List ℕ) (n at : ℕ) : Type 0 where
-  pub is : s ≡ clip from len store
-  pub high : at ≤ length s
-  pub most : n ≤ at
-  pub left : n + length (wordsFrom store from len at) ≡ length (wordsFrom store from len 0)
-
-module _ (store : List ℕ) (from len : ℕ) (s : List ℕ) where
-  pub count-start : s ≡ clip from len store → Counting store from len s 0 0
-  count-start e = record { is = e; high = omega arith; most = omega arith; left = omega arith }
-
-  module _ (n at : ℕ) (k : Counting store from len s n at) where
-    pub count-end : length s ≤ at → n ≡ length (wordsFrom store from len 0)
-    count-end h =
-        let w : wordsAt (from + at) 0 (drop at s) ≡ [] = rw (drop-of-length-le s h) in
-        let v : wordsFrom store from len at ≡ [] = rw (← k .is) w in
-        omega (arith, k .left, ap length v)
-
-    module _ (a : ℕ) (f : a ≡ at + gaps (drop at s)) where
-      pub count-last : length s ≤ a → n ≡ length (wordsFrom store from len 0)
-      count-last h = omega (arith, k .left, ap length (word-end store from len at a s (k .is) f h))
-
-      module _ (h : a < length s) (b : ℕ) (g : b ≡ a + run (drop a s)) where
-        pub count-on : Counting store from len s (n + 1) b
-        count-on =
-            let w = word-step store from len at a s (k .is) f h b g in
-            record {
-              is = k .is;
-              high = omega (arith, w .2, ap length (k .is));
-              most = omega (arith, k .most, w .1);
-              left = omega (arith, k .left, ap length (w .0));
-            }
-
-        pub count-less : length s - b < length s - at
-        count-less = let w = word-step store from len at a s (k .is) f h b g in omega (arith, w .1)
+    pub raw-step : Steps (wordsFrom store from len) (length (clip from len store)) at (raws.At (record { from = from + a; len = b - a }) b)
+    raw-step = rw (← e) some
 
 -- ---- raw_item
 
@@ -235,9 +145,6 @@ module _ (tree store : List ℕ) (made place limit fault n at : ℕ) (k : Siftin
 -- ---- raw_next
 
 module _ (tree store : List ℕ) (made at : ℕ) (f : Features) where
-  pub words-in : (from len : ℕ) → Rooms tree made × (at ≤ bound tree store made f) → f ≡ Words from len → at ≤ length (clip from len store)
-  words-in from len h e = rw e at (h .1)
-
   pub items-in : (place : ℕ) → Rooms tree made × (at ≤ bound tree store made f) → f ≡ Items place → at ≤ made
   items-in place h e = rw e at (h .1)
 

@@ -1,3 +1,4 @@
 pub mod Gaps
+pub mod Reading
 pub mod Pieces
 pub mod Ordered

@@ -101,6 +101,13 @@ pub pieces-words : (room store : List ℕ) (made from len : ℕ) → bytesAll st
 unfolding piecesFrom
 pieces-words room store made from len = words-pieces store from len
 
+-- a string by itself
+pub words-count : (s : List ℕ) → length (wordsAt 0 0 s) ≡ length (words s)
+unfolding words
+words-count s =
+    sym (bytes-length s (wordsAt 0 0 s))
+    ∙ ap length (words-open s s 0 [] [] (rw append-nil) ∙ onto-none (parts s))
+
 pub words-length : (store : List ℕ) (from len : ℕ) → length (wordsFrom store from len 0) ≡ length (words (clip from len store))
 words-length store from len = sym (bytes-length store (wordsFrom store from len 0)) ∙ ap length (words-pieces store from len)
 

@@ -1,18 +1,20 @@
 // Feature lists: the words of a stored text or the items of an array, judged, and walked in byte order by a cursor.
 
+pub mod reader;
+
+use reader::Word;
 use schema::Features;
 use tree::Found;
 use tree::Value;
 ghost use mathlib.Core.Bool.{true};
 ghost use mathlib.Core.Path.{_≡_};
-ghost use Prim.Native.Nat.{_+_, _≤_};
-ghost use lib.ListN.{length, drop};
+ghost use Prim.Native.Nat.{_≤_};
+ghost use lib.ListN.{length};
 ghost use Rattle.meaning.specs.Base.{pick, nil?, same, less};
 ghost use Rattle.meaning.specs.Features as meant;
 ghost use Rattle.schema.specs.Texts.{clip};
 ghost use Rattle.features.specs.Pieces as piece;
 ghost use Rattle.tree.specs.Doors.{Rooms};
-ghost use Rattle.features.specs.Gaps.{gaps, run};
 ghost use Rattle.features.specs.Ordered.{bytesAll};
 ghost use Rattle.meaning.specs.Rules.{sameAll};
 
@@ -40,64 +42,22 @@ pub struct FeaturesRead {
     pub features: Features,
 }
 
-fn gap(b: u8) -> bool
-    ensures { λ r. ⌜ r ≡ meant.gap b ⌝ }
-{
-    if b == 32 {
-        return true;
-    }
-    b == 44
-}
-
-// The first byte from a position on that is no gap.
-fn skip(s: &[u8], at: usize) -> usize
-    requires { ⌜ at ≤ length (now s) ⌝ }
-    ensures { λ r. ⌜ r ≡ at + gaps (drop at (now (s .entry))) ⌝ }
-{
-    let mut i = at;
-    while i < s.len() {
-        if gap(s[i]) {
-            i += 1;
-        } else {
-            return i;
-        }
-    }
-    i
-}
-
-// The first byte from a position on that is a gap.
-fn stop(s: &[u8], at: usize) -> usize
-    requires { ⌜ at ≤ length (now s) ⌝ }
-    ensures { λ r. ⌜ r ≡ at + run (drop at (now (s .entry))) ⌝ }
-{
-    let mut i = at;
-    while i < s.len() {
-        if gap(s[i]) {
-            return i;
-        }
-        i += 1;
-    }
-    i
-}
-
 // The first word of a stored text from a position on.
 fn raw_word(store: &[u8], from: usize, len: usize, at: usize) -> Raw
-    requires { ⌜ at ≤ length (clip from len (now store)) ⌝ }
     ensures { λ r. ⌜ piece.Steps (piece.wordsFrom (now (store .entry)) from len) (length (clip from len (now (store .entry)))) at r ⌝ }
 {
     let s = schema::stored(store, from, len);
-    let a = skip(s, at);
-    if a < s.len() {
-        let b = stop(s, a);
-        return Raw::At(
+    let word = reader::first(s, at);
+    match word {
+        Word::End => Raw::End,
+        Word::At { from: a, to: b } => Raw::At(
             Piece {
                 from: from + a,
                 len: b - a,
             },
             b,
-        );
+        ),
     }
-    Raw::End
 }
 
 // Where a text stands in the store.
@@ -154,24 +114,6 @@ pub fn is_empty(tree: &[u8], store: &[u8], made: usize, f: Features) -> bool
         Raw::End => true,
         Raw::At(_, _) => false,
     }
-}
-
-// How many words a stored text has.
-fn count_words(store: &[u8], from: usize, len: usize) -> usize
-    ensures { λ r. ⌜ r ≡ length (piece.wordsFrom (now (store .entry)) from len 0) ⌝ }
-{
-    let s = schema::stored(store, from, len);
-    let mut n: usize = 0;
-    let mut at = 0;
-    while at < s.len() {
-        let a = skip(s, at);
-        if s.len() <= a {
-            return n;
-        }
-        at = stop(s, a);
-        n += 1;
-    }
-    n
 }
 
 fn is_text(v: Value) -> bool
@@ -237,7 +179,7 @@ fn wrong(fault: u32) -> FeaturesRead
 fn few_words(store: &[u8], from: usize, len: usize, limit: usize) -> FeaturesRead
     ensures { λ r. ⌜ r ≡ piece.fewWords (now (store .entry)) limit from len ⌝ }
 {
-    let words = count_words(store, from, len);
+    let words = reader::count(schema::stored(store, from, len));
     if limit < words {
         return wrong(25);
     }

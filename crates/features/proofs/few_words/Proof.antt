@@ -4,11 +4,15 @@ use Rattle.features.proofs.few_words.Statement.{statement}
 use Rattle.features.proofs.few_words.Tie as tie
 use Rattle.features.proofs.few_words.Reads as reads
 use Rattle.features.proofs.few_words.Lts as lts
-use Rattle.features.proofs.count_words.Reads as count-words-reads
+use Rattle.features.proofs.reader.count.Reads as count-reads
 use Rattle.features.proofs.wrong.Reads as wrong-reads
+use Rattle.schema.proofs.stored.Reads as stored-reads
 
-count-words-requires : tie.Need-count-words-requires
-count-words-requires c κs = search needs
+stored-requires : tie.Need-stored-requires
+stored-requires c κs = search needs
+
+count-requires : tie.Need-count-requires
+count-requires c κs = search needs
 
 wrong-requires : tie.Need-wrong-requires
 wrong-requires c κs = search needs
@@ -20,4 +24,5 @@ returns-2 : tie.Need-returns-2
 returns-2 c = search (needs, words-few)
 
 pub few-words-spec : {M : Type 1} → statement M
-few-words-spec = tie.close (tie.spec count-words-requires wrong-requires returns returns-2)
+few-words-spec =
+    tie.close (tie.spec stored-requires count-requires wrong-requires returns returns-2)

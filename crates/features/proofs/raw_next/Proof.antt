@@ -1,4 +1,4 @@
-use Rattle.features.proofs.Stepping.{words-in, items-in, next-none, next-words, next-items}
+use Rattle.features.proofs.Stepping.{items-in, next-none, next-words, next-items}
 use borrow.Author.Needs.{needs}
 use Rattle.features.proofs.raw_next.Statement.{statement}
 use Rattle.features.proofs.raw_next.Tie as tie
@@ -14,7 +14,7 @@ enum-known-f : tie.Need-enum-known-f
 enum-known-f c = search needs
 
 raw-word-requires : tie.Need-raw-word-requires
-raw-word-requires c κs = words-in _ _ _ _ _ _ _ (c .before .before .before .before .before .pre) (c .before .f .given .1)
+raw-word-requires c κs = search needs
 
 enum-known-f-2 : tie.Need-enum-known-f-2
 enum-known-f-2 c = search needs

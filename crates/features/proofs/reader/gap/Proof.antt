@@ -1,9 +1,9 @@
 use Rattle.laws.specs.Tests.{tests}
 use Rattle.meaning.specs.Features.{gap}
-use Rattle.features.proofs.gap.Statement.{statement}
-use Rattle.features.proofs.gap.Tie as tie
-use Rattle.features.proofs.gap.Reads as reads
-use Rattle.features.proofs.gap.Lts as lts
+use Rattle.features.proofs.reader.gap.Statement.{statement}
+use Rattle.features.proofs.reader.gap.Tie as tie
+use Rattle.features.proofs.reader.gap.Reads as reads
+use Rattle.features.proofs.reader.gap.Lts as lts
 
 returns : tie.Need-returns
 unfolding gap

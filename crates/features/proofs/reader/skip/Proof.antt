@@ -2,11 +2,11 @@ use borrow.Author.Needs.{needs}
 use Prim.Native.Nat.{_-_}
 use lib.ListN.{length}
 use Rattle.features.proofs.Gapping.{Skipping, skip-on, skip-hit, skip-end}
-use Rattle.features.proofs.skip.Statement.{statement}
-use Rattle.features.proofs.skip.Tie as tie
-use Rattle.features.proofs.skip.Reads as reads
-use Rattle.features.proofs.skip.Lts as lts
-use Rattle.features.proofs.gap.Reads as gap-reads
+use Rattle.features.proofs.reader.skip.Statement.{statement}
+use Rattle.features.proofs.reader.skip.Tie as tie
+use Rattle.features.proofs.reader.skip.Reads as reads
+use Rattle.features.proofs.reader.skip.Lts as lts
+use Rattle.features.proofs.reader.gap.Reads as gap-reads
 
 abbrev Inv-loop : tie.InvT-loop
 Inv-loop s at i₀ i = Skipping s at i

@@ -2,11 +2,11 @@ use borrow.Author.Needs.{needs}
 use Prim.Native.Nat.{_-_}
 use lib.ListN.{length}
 use Rattle.features.proofs.Gapping.{Running, run-on, run-hit, run-end}
-use Rattle.features.proofs.stop.Statement.{statement}
-use Rattle.features.proofs.stop.Tie as tie
-use Rattle.features.proofs.stop.Reads as reads
-use Rattle.features.proofs.stop.Lts as lts
-use Rattle.features.proofs.gap.Reads as gap-reads
+use Rattle.features.proofs.reader.stop.Statement.{statement}
+use Rattle.features.proofs.reader.stop.Tie as tie
+use Rattle.features.proofs.reader.stop.Reads as reads
+use Rattle.features.proofs.reader.stop.Lts as lts
+use Rattle.features.proofs.reader.gap.Reads as gap-reads
 
 abbrev Inv-loop : tie.InvT-loop
 Inv-loop s at i₀ i = Running s at i
