@@ -8,7 +8,6 @@ use native.Mathlib.Numerals.{add-one}
 use lib.ListN.{length, getD, drop, drop-of-length-le}
 use lib.Seq.{drop-cons}
 use Rattle.meaning.specs.Features.{gap}
-use Rattle.laws.specs.Cases.{on}
 use Rattle.features.specs.Gaps.{gaps, run}
 
 -- ---- skip

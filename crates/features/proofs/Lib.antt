@@ -1,5 +1,6 @@
 pub mod Gapping
 pub mod Wording
+pub mod Held
 pub mod Stepping
 pub mod Choosing
 pub mod Comparing

@@ -1,6 +1,6 @@
 // Feature lists: the words of a stored text or the items of an array, judged, and walked in byte order by a cursor.
 
-pub mod reader;
+mod reader;
 
 use reader::Word;
 use schema::Features;
