@@ -56,7 +56,7 @@ module _ (store : List ℕ) (from len at : ℕ) (s : List ℕ) (e : s ≡ clip f
     some = words-some from s at a b (sym f ∙ g)
 
     pub raw-rises : a ≤ b
-    raw-rises = omega (arith, met from s at a b (sym f ∙ g) .2)
+    raw-rises = omega (arith, met s at a b (sym f ∙ g) .2)
 
     pub raw-fits : length store < 2 ^ 64 → Fits w64 (from + a)
     raw-fits l =

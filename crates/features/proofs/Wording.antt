@@ -72,6 +72,16 @@ only-gaps i t z =
     (λ e. absurd (omega (arith, run-some t (ltb-true (gaps t) (length t) e))))
     (λ e. words-gaps i t ∙ rw (drop-of-length-le t (ltb-false (gaps t) (length t) e)))
 
+-- where the word that is met stands
+pub met : (s : List ℕ) (at a b : ℕ) → wordAt s at ≡ words.At a b → (a ≡ at + gaps (drop at s)) × (b ≡ a + run (drop a s)) × (a < b)
+unfolding wordAt
+met s at a b e =
+    let c = at + gaps (drop at s) in
+    let d = c + run (drop c s) in
+    on (ltb c d)
+    (λ t. let f : c ≡ a = cc in let g : d ≡ b = cc in (sym f, rw (← f) (sym g), rw (← f, ← g) (ltb-true c d t)))
+    (λ t. let z : _≡_ {A = ℕ} 0 1 = cc in absurd (omega arith))
+
 -- a string that stands at a position, read from a place on
 module _ (from : ℕ) (s : List ℕ) (at : ℕ) where
   pub words-none : wordAt s at ≡ words.End → wordsAt (from + at) 0 (drop at s) ≡ []
@@ -84,30 +94,20 @@ module _ (from : ℕ) (s : List ℕ) (at : ℕ) where
       (λ t. let z : _≡_ {A = ℕ} 0 1 = cc in absurd (omega arith))
       (λ t. only-gaps (from + at) (drop at s) (rw d (omega (arith, ltb-false a b t))))
 
-  module _ (a b : ℕ) (e : wordAt s at ≡ words.At a b) where
-    pub met : (a ≡ at + gaps (drop at s)) × (b ≡ a + run (drop a s)) × (a < b)
-    unfolding wordAt
-    met =
-        let c = at + gaps (drop at s) in
-        let d = c + run (drop c s) in
-        on (ltb c d)
-        (λ t. let f : c ≡ a = cc in let g : d ≡ b = cc in (sym f, rw (← f) (sym g), rw (← f, ← g) (ltb-true c d t)))
-        (λ t. let z : _≡_ {A = ℕ} 0 1 = cc in absurd (omega arith))
-
-    pub words-some : (wordsAt (from + at) 0 (drop at s) ≡ record { from = from + a; len = b - a } ∷ wordsAt (from + b) 0 (drop b s)) × (at < b) × (b ≤ length s)
-    words-some =
-        let f = met .0 in
-        let g = met .1 in
-        let r = met .2 in
-        let d : from + at + gaps (drop at s) ≡ from + a = omega (arith, f) in
-        let i : from + a + run (drop a s) ≡ from + b = omega (arith, g) in
-        let n : 0 + run (drop a s) ≡ b - a = omega (arith, g) in
-        let j : from + b - (b - a) ≡ from + a = omega (arith, r) in
-        let m : length (drop a s) ≡ length s - a = length-drop a s in
-        let u : wordsAt (from + at) 0 (drop at s) ≡ wordsAt (from + a) 0 (drop a s) = words-gaps (from + at) (drop at s) ∙ rw (d, drop-drop, ← f) in
-        let v : wordsAt (from + a) 0 (drop a s) ≡ record { from = from + a; len = b - a } ∷ wordsAt (from + b) 0 (drop b s)
-        = words-run (from + a) 0 (drop a s) ∙ rw (i, drop-drop, ← g, n, close-some (from + b) (b - a) (wordsAt (from + b) 0 (drop b s)) (omega (arith, r)), j) in
-        (u ∙ v, omega (arith, f, r), omega (arith, r, g, run-fit (drop a s)))
+  pub words-some : (a b : ℕ) → wordAt s at ≡ words.At a b → (wordsAt (from + at) 0 (drop at s) ≡ record { from = from + a; len = b - a } ∷ wordsAt (from + b) 0 (drop b s)) × (at < b) × (b ≤ length s)
+  words-some a b e =
+      let f = met s at a b e .0 in
+      let g = met s at a b e .1 in
+      let r = met s at a b e .2 in
+      let d : from + at + gaps (drop at s) ≡ from + a = omega (arith, f) in
+      let i : from + a + run (drop a s) ≡ from + b = omega (arith, g) in
+      let n : 0 + run (drop a s) ≡ b - a = omega (arith, g) in
+      let j : from + b - (b - a) ≡ from + a = omega (arith, r) in
+      let m : length (drop a s) ≡ length s - a = length-drop a s in
+      let u : wordsAt (from + at) 0 (drop at s) ≡ wordsAt (from + a) 0 (drop a s) = words-gaps (from + at) (drop at s) ∙ rw (d, drop-drop, ← f) in
+      let v : wordsAt (from + a) 0 (drop a s) ≡ record { from = from + a; len = b - a } ∷ wordsAt (from + b) 0 (drop b s)
+      = words-run (from + a) 0 (drop a s) ∙ rw (i, drop-drop, ← g, n, close-some (from + b) (b - a) (wordsAt (from + b) 0 (drop b s)) (omega (arith, r)), j) in
+      (u ∙ v, omega (arith, f, r), omega (arith, r, g, run-fit (drop a s)))
 
 -- ---- count: so many words have been met before a place
 
