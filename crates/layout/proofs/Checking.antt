@@ -22,7 +22,8 @@ block-some schemas.d21x = omega arith
 pub marking : (chip : schemas.Chip) (block n : ℕ) → n ≤ 32 → block ≡ schemas.eraseFor chip → Marking n block
 marking chip block n h e = record { fits = h; some = rw e (block-some chip) }
 
-abbrev noPart : Partition
+-- what stands past the end of a list of partitions
+abbrev pub noPart : Partition
 noPart = record { from = 0; len = 0; offset = 0; size = 0 }
 
 module _ (chip : schemas.Chip) (bytes : List ℕ) (ps : List Partition) (n : ℕ) where

@@ -29,11 +29,11 @@ module _ (name bytes : List ℕ) (xs : List Partition) (n : ℕ) where
         let b : rank name (map (partName bytes) (slice i n xs)) ≡ 0 = rw (a, slice-empty n xs) in
         omega (arith, k .left, b)
 
-    module _ (d : Partition) (l : i < n) (s : List ℕ) (e : s ≡ partName bytes (getD xs i d)) (r : Bool) (g : r ≡ same name s) where
+    module _ (d : Partition) (l : i < n) (r : Bool) (g : r ≡ same name (partName bytes (getD xs i d))) where
       find-head : rank name (map (partName bytes) (take n xs)) ≡ i + pick r 0 (suc (rank name (map (partName bytes) (slice (i + 1) n xs))))
       find-head =
           let a : slice i n xs ≡ getD xs i d ∷ slice (suc i) n xs = slice-cons i n xs d l (k .long) in
-          rw (add-one i) (rw (a, ← e, ← g) at (k .left))
+          rw (add-one i) (rw (a, ← g) at (k .left))
 
       pub find-on : r ≡ false → Seeking name bytes xs n (i + 1)
       find-on z = let a = rw z at find-head in record { high = omega arith; long = k .long; left = omega (arith, a) }

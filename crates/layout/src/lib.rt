@@ -1,5 +1,7 @@
 // Partitions on the flash: 40 to 48 over an array of partitions and a chip, and lookup by name; and the first fault among entries whose names must differ.
 
+pub mod lent;
+
 use schema::Chip;
 use schema::Partition;
 ghost use mathlib.Core.Path.{_≡_};
@@ -196,14 +198,19 @@ pub fn check(bytes: &[u8], items: [Partition; 32], count: usize, chip: Chip) -> 
     )
 }
 
+fn bears(bytes: &[u8], p: Partition, name: &[u8]) -> bool
+    ensures { λ r. ⌜ r ≡ same (now (name .entry)) (parts.partName (now (bytes .entry)) p) ⌝ }
+{
+    slices::same(name, schema::stored(bytes, p.from, p.len))
+}
+
 // The first partition that bears a name; as many as there are where none does.
 pub fn find(bytes: &[u8], items: [Partition; 32], count: usize, name: &[u8]) -> usize
     requires { ⌜ count ≤ 32 ⌝ }
     ensures { λ r. ⌜ r ≡ rank (now (name .entry)) (map (parts.partName (now (bytes .entry))) (take count items)) ⌝ }
 {
     for i in 0..count {
-        let p = items[i];
-        if slices::same(name, schema::stored(bytes, p.from, p.len)) {
+        if bears(bytes, items[i], name) {
             return i;
         }
     }

@@ -5,8 +5,7 @@ use Rattle.layout.proofs.find.Statement.{statement}
 use Rattle.layout.proofs.find.Tie as tie
 use Rattle.layout.proofs.find.Reads as reads
 use Rattle.layout.proofs.find.Lts as lts
-use Rattle.schema.proofs.stored.Reads as stored-reads
-use Rattle.slices.proofs.same.Reads as same-reads
+use Rattle.layout.proofs.bears.Reads as bears-reads
 
 abbrev Inv-loop : tie.InvT-loop
 Inv-loop bytes count name items i₀ i = Seeking name bytes items count i
@@ -17,17 +16,14 @@ abbrev μ-loop : tie.MeasureT-loop
 loop-holds : tie.Need-loop-holds Inv-loop μ-loop
 loop-holds c = search (needs, find-start)
 
-mul-p : tie.Need-mul-p Inv-loop μ-loop
-mul-p c = search needs
+mul-bears : tie.Need-mul-bears Inv-loop μ-loop
+mul-bears c = search needs
 
-array-copy-out-p : tie.Need-array-copy-out-p Inv-loop μ-loop
-array-copy-out-p c = search needs
+array-copy-out-bears : tie.Need-array-copy-out-bears Inv-loop μ-loop
+array-copy-out-bears c = search needs
 
-stored-requires : tie.Need-stored-requires Inv-loop μ-loop
-stored-requires c κs = search needs
-
-same-requires : tie.Need-same-requires Inv-loop μ-loop
-same-requires c κs = search needs
+bears-requires : tie.Need-bears-requires Inv-loop μ-loop
+bears-requires c κs = search needs
 
 returns : tie.Need-returns Inv-loop μ-loop
 returns c = search (needs, find-hit)
@@ -51,10 +47,9 @@ find-spec =
     Inv-loop
     μ-loop
     loop-holds
-    mul-p
-    array-copy-out-p
-    stored-requires
-    same-requires
+    mul-bears
+    array-copy-out-bears
+    bears-requires
     returns
     add-i
     loop-less

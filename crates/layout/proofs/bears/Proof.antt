@@ -1,0 +1,20 @@
+use borrow.Author.Needs.{needs}
+use Rattle.layout.proofs.Judging.{same-of}
+use Rattle.layout.proofs.bears.Statement.{statement}
+use Rattle.layout.proofs.bears.Tie as tie
+use Rattle.layout.proofs.bears.Reads as reads
+use Rattle.layout.proofs.bears.Lts as lts
+use Rattle.schema.proofs.stored.Reads as stored-reads
+use Rattle.slices.proofs.same.Reads as same-reads
+
+stored-requires : tie.Need-stored-requires
+stored-requires c κs = search needs
+
+same-requires : tie.Need-same-requires
+same-requires c κs = search needs
+
+returns : tie.Need-returns
+returns c = search (needs, same-of)
+
+pub bears-spec : {M : Type 1} → statement M
+bears-spec = tie.close (tie.spec stored-requires same-requires returns)

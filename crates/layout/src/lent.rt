@@ -1,0 +1,33 @@
+// A partition by its name among lent partitions: what `crate::find` says of an array by value.
+
+use crate::bears;
+use schema::Partition;
+ghost use mathlib.Core.Path.{_≡_};
+ghost use mathlib.Core.List.{map};
+ghost use Prim.Native.Nat.{_≤_};
+ghost use lib.ListN.{length, take};
+ghost use Rattle.layout.specs.Marks.{rank};
+ghost use Rattle.layout.specs.Parts.{partName};
+
+// The first of so many that bears a name; as many as there are where none does.
+pub fn scan(bytes: &[u8], items: &[Partition], count: usize, name: &[u8]) -> usize
+    requires { ⌜ count ≤ length (now items) ⌝ }
+    ensures { λ r. ⌜ r ≡ rank (now (name .entry)) (map (partName (now (bytes .entry))) (take count (now (items .entry)))) ⌝ }
+{
+    let mut i = 0;
+    while i < count {
+        if bears(bytes, items[i], name) {
+            return i;
+        }
+        i += 1;
+    }
+    count
+}
+
+// The same of an array, which is lent on: who calls this needs no proof by hand.
+pub fn find(bytes: &[u8], items: [Partition; 32], count: usize, name: &[u8]) -> usize
+    requires { ⌜ count ≤ 32 ⌝ }
+    ensures { λ r. ⌜ r ≡ rank (now (name .entry)) (map (partName (now (bytes .entry))) (take count items)) ⌝ }
+{
+    scan(bytes, &items, count, name)
+}
