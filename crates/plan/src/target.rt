@@ -20,7 +20,7 @@ fn aim(store: &[u8], items: [Partition; 32], count: usize, t: Text) -> usize
 {
     match t {
         Text::Absent => count,
-        Text::Stored { from, len } => layout::find(
+        Text::Stored { from, len } => layout::lent::find(
             store,
             items,
             count,
@@ -32,7 +32,7 @@ fn aim(store: &[u8], items: [Partition; 32], count: usize, t: Text) -> usize
             let s = w.span();
             let from = s.from;
             let to = s.to;
-            layout::find(store, items, count, name_of(&all[from..to]))
+            layout::lent::find(store, items, count, name_of(&all[from..to]))
         }
         Text::WithAic { from: _, len: _ } => count,
     }

@@ -4,7 +4,7 @@ use Rattle.plan.proofs.target.aim.Statement.{statement}
 use Rattle.plan.proofs.target.aim.Tie as tie
 use Rattle.plan.proofs.target.aim.Reads as reads
 use Rattle.plan.proofs.target.aim.Lts as lts
-use Rattle.layout.proofs.find.Reads as find-reads
+use Rattle.layout.proofs.lent.find.Reads as find-reads
 use Rattle.schema.proofs.Word.span.Reads as span-reads
 use Rattle.schema.proofs.stored.Reads as stored-reads
 use Rattle.validate.proofs.component.name_of.Reads as name-of-reads
