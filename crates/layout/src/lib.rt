@@ -198,6 +198,7 @@ pub fn check(bytes: &[u8], items: [Partition; 32], count: usize, chip: Chip) -> 
     )
 }
 
+// One test for both lookups, of an array here and of lent partitions in `lent`.
 fn bears(bytes: &[u8], p: Partition, name: &[u8]) -> bool
     ensures { λ r. ⌜ r ≡ same (now (name .entry)) (parts.partName (now (bytes .entry)) p) ⌝ }
 {
