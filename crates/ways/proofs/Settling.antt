@@ -16,7 +16,25 @@ use Rattle.document.specs.Rooms as rooms
 use Rattle.parse.specs.declared.Refusal.{Refusal}
 use Rattle.parse.specs.Verdict.{Told}
 use Rattle.ways.specs.declared.Outcome.{Outcome}
-use Rattle.ways.specs.Settled.{Kept, Settling, ReadBy, Parsed}
+use Rattle.parse.specs.Verdict.{reading}
+use Rattle.validate.specs.Validated.{validating}
+use Rattle.plan.specs.Planning.{planning}
+use Rattle.ways.specs.declared.Way.{Way}
+use Rattle.ways.specs.declared.Way.the-variants as ways
+use Rattle.ways.specs.Settled.{Kept, Settling, ReadBy, Parsed, judgeOf}
+
+-- ---- a way's judge
+module _ (way : Way) (name key tree store : Seq ℕ) (made : ℕ) (r : Refusal) where
+  pub read-judged : way ≡ ways.Read → Told (reading name tree store made) r → Told (judgeOf way name key tree store made) r
+  read-judged e t = rw e t
+
+  pub validate-judged : way ≡ ways.Validate → Told (validating name tree store made) r → Told (judgeOf way name key tree store made) r
+  validate-judged e t = rw e t
+
+  pub plan-judged : (app : ℕ) → way ≡ ways.Plan app → Told (planning name app key tree store made) r → Told (judgeOf way name key tree store made) r
+  plan-judged app e t = rw e t
+
+-- ---- what a judgement leaves
 
 module _ (store tree : Seq ℕ) (made : ℕ) (v : Refusal) (h : Settling v made) where
   pub kept-fine : v .number ≡ 0 → Kept v store tree made store tree (record { number = 0; section = 0; place = 0; made = made })

@@ -10,7 +10,18 @@ use Rattle.toml_lite.specs.Carries.{Carries}
 use Rattle.toml_lite.specs.Doc.{Doc}
 use Rattle.document.specs.Rooms as rooms
 use Rattle.parse.specs.declared.Refusal.{Refusal}
+use Rattle.parse.specs.Verdict.{reading}
+use Rattle.validate.specs.Validated.{validating}
+use Rattle.plan.specs.Planning.{planning}
 use Rattle.ways.specs.declared.Outcome.{Outcome}
+use Rattle.ways.specs.declared.Way.{Way}
+use Rattle.ways.specs.declared.Way.the-variants.{Read, Validate, Plan}
+
+-- the judge of each way
+abbrev pub judgeOf : Way → List ℕ → List ℕ → List ℕ → List ℕ → ℕ → Refusal
+judgeOf Read name key tree store made = reading name tree store made
+judgeOf Validate name key tree store made = validating name tree store made
+judgeOf (Plan app) name key tree store made = planning name app key tree store made
 
 abbrev pub outcomeOf : ℕ → Refusal → Outcome
 outcomeOf made v = pick (eqb (v .number) 0) (record { number = 0; section = 0; place = 0; made = made }) (record { number = v .number; section = v .section; place = v .place; made = 0 })

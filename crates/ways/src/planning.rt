@@ -1,7 +1,7 @@
 // From a text to a preset that a plan can be made of.
 
 use crate::Outcome;
-use document::Read;
+use crate::Way;
 ghost use Rattle.plan.specs.Planning.{planning};
 ghost use Rattle.ways.specs.Settled.{Parsed};
 
@@ -16,12 +16,5 @@ pub fn plan(
 ) -> Outcome
     ensures { λ r. ⌜ Parsed (planning (now (name .entry)) app (now (key .entry))) (now (text .entry)) (now (store .entry)) (now (tree .entry)) (now (store .exit)) (now (tree .exit)) r ⌝ }
 {
-    let r = document::read_tree(text, store, tree);
-    match r {
-        Read::Fine(st) => {
-            let v = plan::judge(tree, store, st.made, name, app, key);
-            crate::settle(v, store, tree, st.made)
-        }
-        Read::Fault { number, line } => crate::unread(number, line),
-    }
+    crate::go(Way::Plan(app), text, name, key, store, tree)
 }

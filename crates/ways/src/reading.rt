@@ -1,7 +1,7 @@
 // From a text to its records.
 
 use crate::Outcome;
-use document::Read;
+use crate::Way;
 ghost use Rattle.parse.specs.Verdict.{reading};
 ghost use Rattle.ways.specs.Settled.{Parsed};
 
@@ -9,12 +9,5 @@ ghost use Rattle.ways.specs.Settled.{Parsed};
 pub fn read(text: &[u8], name: &[u8], store: &mut [u8], tree: &mut [u8]) -> Outcome
     ensures { λ r. ⌜ Parsed (reading (now (name .entry))) (now (text .entry)) (now (store .entry)) (now (tree .entry)) (now (store .exit)) (now (tree .exit)) r ⌝ }
 {
-    let r = document::read_tree(text, store, tree);
-    match r {
-        Read::Fine(st) => {
-            let v = parse::judge(tree, store, st.made, name);
-            crate::settle(v, store, tree, st.made)
-        }
-        Read::Fault { number, line } => crate::unread(number, line),
-    }
+    crate::go(Way::Read, text, name, b"", store, tree)
 }
