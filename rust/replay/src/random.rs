@@ -1,5 +1,14 @@
 //! Random texts and bytes, the same for the same seed everywhere.
 
+/// How many random texts a test takes: all of them, or a fifth where programs are emulated, which takes ten
+/// times as long (`rust/cross` says so).
+pub fn turns(all: usize) -> usize {
+    match std::env::var_os("PRESET_EMULATED") {
+        None => all,
+        Some(_) => all / 5,
+    }
+}
+
 /// A counter through a mixing function (splitmix64).
 pub struct Rng(u64);
 

@@ -5,7 +5,7 @@ use port::value::{SLOT, STORE_MIN, TREE_MIN};
 use replay::ask::holds;
 use replay::document::ask::Host;
 use replay::document::{model, random};
-use replay::random::Rng;
+use replay::random::{Rng, turns};
 
 fn refused(number: u32, place: u32) -> Outcome {
     let (section, made) = (0, 0);
@@ -85,7 +85,7 @@ fn all_texts_up_to_four_characters() {
 #[test]
 fn random_presets() {
     let (mut r, mut host) = (Rng::new(4), Host::default());
-    for _ in 0..10_000 {
+    for _ in 0..turns(10_000) {
         judged(&mut host, &random::text(&mut r));
     }
 }

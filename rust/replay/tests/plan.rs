@@ -9,7 +9,7 @@ use replay::plan::ask::{PLAN, judge, look};
 use replay::plan::cases::CASES;
 use replay::plan::keys::undeclared;
 use replay::plan::{model, random};
-use replay::random::Rng;
+use replay::random::{Rng, turns};
 use replay::records::answer::{Refusal, outcome};
 use replay::records::any::{any_rooms, damaged, filled};
 use replay::records::ask::Host;
@@ -207,7 +207,7 @@ fn file_stems() {
 #[test]
 fn changes_break_no_rule() {
     let mut r = Rng::new(2);
-    for _ in 0..5_000 {
+    for _ in 0..turns(5_000) {
         let preset = random::preset(&mut r);
         assert_eq!(validate::refusal(&preset), None, "{preset:?}");
     }
@@ -222,7 +222,7 @@ fn around_every_boundary() {
 #[test]
 fn random_presets() {
     let (mut r, mut host) = (Rng::new(6), Host::new(PLAN));
-    for _ in 0..5_000 {
+    for _ in 0..turns(5_000) {
         let name = name(&mut r);
         judged(&mut host, &random::text(&mut r), &name);
     }
@@ -355,7 +355,7 @@ fn look_at_all(rooms: Rooms) -> Result<(), String> {
 #[test]
 fn views_of_refused_presets() {
     let mut r = Rng::new(11);
-    for i in 0..3_000 {
+    for i in 0..turns(3_000) {
         let text = match i % 3 {
             0 => records::random::text(&mut r),
             1 => rules::random::text(&mut r),
@@ -373,7 +373,7 @@ fn views_of_refused_presets() {
 #[test]
 fn views_of_damaged_rooms() {
     let mut r = Rng::new(12);
-    for i in 0..3_000 {
+    for i in 0..turns(3_000) {
         let text = EXAMPLES[i % EXAMPLES.len()].as_bytes();
         let (mut store, mut tree, made) = filled(text).expect("a tree");
         damaged(&mut r, &mut tree[..made * SLOT]);

@@ -4,7 +4,7 @@ use port::records::{self, FeatureList, FeatureView, Rooms, word};
 use port::value::{SLOT, STORE_MIN, TREE_MIN};
 use replay::ask::holds;
 use replay::document::rooms::Room;
-use replay::random::Rng;
+use replay::random::{Rng, turns};
 use replay::records::answer::{Refusal, outcome};
 use replay::records::any::{any_rooms, filled};
 use replay::records::ask::{Host, look};
@@ -103,7 +103,7 @@ fn faults_in_pairs() {
 #[test]
 fn random_presets() {
     let (mut r, mut host) = (Rng::new(5), Host::default());
-    for _ in 0..10_000 {
+    for _ in 0..turns(10_000) {
         let name = name(&mut r);
         judged(&mut host, &text(&mut r), &name);
     }

@@ -1,6 +1,6 @@
 //! Validation against the definitions alone; these tests need no original.
 use port::preset::{Chip, Media};
-use replay::random::Rng;
+use replay::random::{Rng, turns};
 use replay::records::answer::{Preset, Refusal};
 use replay::records::ask::{Host, VALIDATE};
 use replay::records::model::{self as records, UNLIMITED};
@@ -200,7 +200,7 @@ fn rules_of_validation() {
 #[test]
 fn sound_presets() {
     let mut r = Rng::new(2);
-    for i in 0..2_000 {
+    for i in 0..turns(2_000) {
         let preset = match i % 100 {
             0 => sound::wide(&mut r),
             _ => sound::preset(&mut r),
@@ -238,7 +238,7 @@ fn around_every_boundary() {
 #[test]
 fn random_presets() {
     let (mut r, mut host) = (Rng::new(6), Host::new(VALIDATE));
-    for _ in 0..10_000 {
+    for _ in 0..turns(10_000) {
         let name = name(&mut r);
         judged(&mut host, &random::text(&mut r), &name);
     }
@@ -248,7 +248,7 @@ fn random_presets() {
 #[test]
 fn spelled_presets() {
     let (mut r, mut host) = (Rng::new(4), Host::default());
-    for _ in 0..2_000 {
+    for _ in 0..turns(2_000) {
         let preset = random::preset(&mut r);
         let text = spelled::text(&mut r, &preset);
         let read = records::read_within(text.as_bytes(), b"board", &UNLIMITED);

@@ -1,7 +1,7 @@
 //! Integers, strings, keys and values against the definitions alone; these tests need no original.
 use port::text::TEXT_MAX;
 use port::value::{self, SLOT, STORE_MIN, Slot, TREE_MIN, VALUES_MAX};
-use replay::random::Rng;
+use replay::random::{Rng, turns};
 use replay::value::answer::{Answer, Bytes, Read, Value};
 use replay::value::{ask, model, random};
 
@@ -391,7 +391,7 @@ fn modelled(s: &[u8]) -> Answer {
 #[test]
 fn random_bytes() {
     let mut r = Rng::new(3);
-    for _ in 0..50_000 {
+    for _ in 0..turns(50_000) {
         let s = random::bytes(&mut r);
         let shown = s.escape_ascii();
         let got = ask::ask(&s).unwrap_or_else(|e| panic!("{shown}: {e}"));
