@@ -1,0 +1,138 @@
+//! docs/REFUSALS.md cut into its entries: what a refusal means, how it is shown, how it is mended.
+use std::fmt;
+
+const PAPER: &str = include_str!("../../../docs/REFUSALS.md");
+
+// Lines on a terminal end here; an example's lines stay as they are.
+const WIDTH: usize = 78;
+
+/// A preset that is refused, as the document writes it, and what is told of it.
+#[derive(Clone, Copy, Debug, PartialEq, Eq)]
+pub struct Example {
+    /// What stands behind `toml` in its fence: `made` where the notation for made texts is used.
+    pub tag: &'static str,
+    pub preset: &'static str,
+    pub told: &'static str,
+}
+
+/// What the document says of a number; `preset` and `told` are those of its first example.
+#[derive(Clone, Debug, PartialEq, Eq)]
+pub struct Entry {
+    pub number: u32,
+    pub words: &'static str,
+    pub meaning: &'static str,
+    pub preset: &'static str,
+    pub told: &'static str,
+    pub mending: &'static str,
+    pub examples: Vec<Example>,
+    pub mended: Option<&'static str>,
+}
+
+/// Every entry, in the document's order.
+pub fn entries() -> Vec<Entry> {
+    let chapters = PAPER.split("\n## ").skip(1);
+    chapters.filter_map(cut).collect()
+}
+
+/// The entry of a refusal number.
+pub fn entry(number: u32) -> Option<Entry> {
+    entries().into_iter().find(|e| e.number == number)
+}
+
+/// The few words that name a refusal in a message.
+pub fn words(number: u32) -> Option<&'static str> {
+    entry(number).map(|e| e.words)
+}
+
+// A chapter that is not laid out as the document promises is no entry; the tests count them.
+fn cut(chapter: &'static str) -> Option<Entry> {
+    let (head, body) = chapter.split_once("\n\n")?;
+    let (number, words) = head.split_once(": ")?;
+    let (body, end) = body.split_once("\n\nMend: ")?;
+    let (meaning, shown) = body.split_once("\n\n```toml")?;
+    let examples: Option<Vec<_>> = shown.split("\n\n```toml").map(example).collect();
+    let examples = examples?;
+    let first = *examples.first()?;
+    let (mending, mended) = match end.split_once("\n\nMended:\n\n```toml\n") {
+        Some((mending, block)) => (mending, Some(block.split_once("```")?.0)),
+        None => (end.trim_end(), None),
+    };
+    Some(Entry {
+        number: number.parse().ok()?,
+        words,
+        meaning,
+        preset: first.preset,
+        told: first.told,
+        mending,
+        examples,
+        mended,
+    })
+}
+
+// What follows a fence's `toml`, up to the next example.
+fn example(shown: &'static str) -> Option<Example> {
+    let (tag, rest) = shown.split_once('\n')?;
+    let (preset, told) = rest.split_once("```\n\nTold: ")?;
+    Some(Example {
+        tag: tag.trim_start(),
+        preset,
+        told,
+    })
+}
+
+impl fmt::Display for Entry {
+    fn fmt(&self, f: &mut fmt::Formatter) -> fmt::Result {
+        writeln!(f, "{}: {}\n", self.number, self.words)?;
+        paragraphs(f, self.meaning)?;
+        for example in &self.examples {
+            indented(f, example.preset)?;
+            paragraphs(f, &format!("Told: {}", example.told))?;
+        }
+        let mend = format!("Mend: {}", self.mending);
+        let Some(mended) = self.mended else {
+            return f.write_str(wrapped(&mend).trim_end());
+        };
+        paragraphs(f, &mend)?;
+        writeln!(f, "Mended:\n")?;
+        f.write_str(block(mended).trim_end())
+    }
+}
+
+fn paragraphs(f: &mut fmt::Formatter, text: &str) -> fmt::Result {
+    writeln!(f, "{}", wrapped(text))
+}
+
+fn indented(f: &mut fmt::Formatter, preset: &str) -> fmt::Result {
+    match preset.is_empty() {
+        true => Ok(()),
+        false => writeln!(f, "{}", block(preset)),
+    }
+}
+
+fn block(preset: &str) -> String {
+    preset.lines().map(|l| format!("    {l}\n")).collect()
+}
+
+// Each paragraph of a text in lines of the terminal, a blank line between two of them.
+fn wrapped(text: &str) -> String {
+    let each: Vec<_> = text.split("\n\n").map(filled).collect();
+    each.join("\n")
+}
+
+// The words of a paragraph, as many in a line as it takes; a longer word has a line of its own.
+fn filled(paragraph: &str) -> String {
+    let (mut out, mut column) = (String::new(), 0);
+    for word in paragraph.split_whitespace() {
+        let length = word.chars().count();
+        let fits = column > 0 && column + 1 + length <= WIDTH;
+        let between = match (fits, column) {
+            (true, _) => " ",
+            (false, 0) => "",
+            (false, _) => "\n",
+        };
+        column = if fits { column + 1 + length } else { length };
+        out.push_str(between);
+        out.push_str(word);
+    }
+    out + "\n"
+}

@@ -1,0 +1,488 @@
+//! Maps of drawings made by hand: what the terminal shows to the letter, and SVG that holds
+//! together whatever the names and numbers are.
+use preset::map::{Area, Drawing, Land, LandKind, size_words};
+use preset::svg::svg;
+use std::collections::BTreeMap;
+
+fn area(name: &str, offset: u64, size: u64) -> Area {
+    Area {
+        name: name.into(),
+        offset,
+        size,
+        ..Area::default()
+    }
+}
+
+fn landing(mut area: Area, kind: LandKind, names: &[&str]) -> Area {
+    let lands = names.iter().map(|&name| Land {
+        kind,
+        name: name.into(),
+    });
+    area.lands.extend(lands);
+    area
+}
+
+fn faulty(area: Area) -> Area {
+    Area {
+        faulty: true,
+        ..area
+    }
+}
+
+fn drawing(areas: Vec<Area>) -> Drawing {
+    Drawing {
+        title: "desk".into(),
+        subtitle: "d13x, spi-nor".into(),
+        areas,
+        refusal: None,
+    }
+}
+
+fn example() -> Drawing {
+    let boot = area("boot", 0, 0x40000);
+    let profiles = area("profiles", 0x40000, 0x100000);
+    drawing(vec![
+        landing(boot, LandKind::Component, &["first"]),
+        landing(profiles, LandKind::Chosen, &["desk"]),
+    ])
+}
+
+// Two that overlap, the second refused, one of size 0, and a gap before the last.
+fn refused() -> Drawing {
+    let mut all = drawing(vec![
+        area("boot", 0, 0x40000),
+        faulty(area("profiles", 0x30000, 0x20000)),
+        area("spare", 0x48000, 0),
+        area("logs", 0x60000, 0x20000),
+    ]);
+    all.refusal = Some("desk.toml:7: refused 47: partition starts before the previous end".into());
+    all
+}
+
+// Names as nobody should write them.
+const NASTY: [&str; 12] = [
+    "",
+    "<&\"'>",
+    "]]>--><script>",
+    "a\nb\tc\r",
+    "\u{1b}[31mred\u{7}",
+    "\u{202e}turned\u{200b}",
+    "e\u{301}\u{0}\u{ffff}",
+    "\u{4e16}\u{754c}\u{4e16}\u{754c}\u{4e16}\u{754c}\u{4e16}\u{754c}\u{4e16}\u{754c}\u{4e16}",
+    "\\n \\u{1b}",
+    "(unassigned)",
+    "WWWWWWWWWWWWWWWWWWWWWWWWWWWWWWWWWWWWWWWWWWWWWWWWWWWWWWWWWWWWWWWWWWWWWWWWWWWWWWWWWWWWWW",
+    "\u{1f3ad} stage",
+];
+
+// A row of numbers that is the same in every run.
+struct Dice(u64);
+
+impl Dice {
+    fn roll(&mut self, sides: u64) -> u64 {
+        let Dice(seed) = self;
+        *seed = seed
+            .wrapping_mul(6364136223846793005)
+            .wrapping_add(1442695040888963407);
+        (*seed >> 33) % sides
+    }
+
+    fn number(&mut self) -> u64 {
+        let bits = self.roll(33);
+        let near = (1 << bits) + self.roll(3);
+        [near, near.saturating_sub(2), 0, u64::from(u32::MAX)][self.roll(4) as usize]
+    }
+
+    fn name(&mut self) -> String {
+        let pick = self.roll(NASTY.len() as u64) as usize;
+        NASTY[pick].repeat(self.roll(3) as usize)
+    }
+
+    fn area(&mut self) -> Area {
+        let mut area = area(&self.name(), self.number(), self.number());
+        area.faulty = self.roll(8) == 0;
+        for _ in 0..self.roll(4) {
+            let kinds = [LandKind::Component, LandKind::Application, LandKind::Chosen];
+            let name = self.name();
+            area = landing(area, kinds[self.roll(3) as usize], &[&name]);
+        }
+        area
+    }
+
+    fn drawing(&mut self) -> Drawing {
+        let count = self.roll(33);
+        Drawing {
+            title: self.name(),
+            subtitle: self.name(),
+            areas: (0..count).map(|_| self.area()).collect(),
+            refusal: (self.roll(2) == 0).then(|| self.name()),
+        }
+    }
+}
+
+// All that is drawn below, and many more that dice made.
+fn drawings() -> Vec<Drawing> {
+    let mut dice = Dice(1);
+    let thrown = (0..30).map(|_| dice.drawing());
+    let nasty = NASTY.iter().map(|name| area(name, 0, 4096)).collect();
+    let most = [
+        area("a", u64::MAX, u64::MAX),
+        area("b", 0, u64::MAX),
+        area("c", u64::MAX, 0),
+    ];
+    let by_hand = [
+        example(),
+        refused(),
+        thirty_two(),
+        drawing(nasty),
+        drawing(most.into()),
+        Drawing::default(),
+    ];
+    by_hand.into_iter().chain(thrown).collect()
+}
+
+// Each twice as large as the one before: by a factor of 2^31 in all.
+fn thirty_two() -> Drawing {
+    let each = (0..32).map(|i| area(&format!("p{i}"), (1 << i) - 1, 1 << i));
+    drawing(each.collect())
+}
+
+#[test]
+fn the_example_in_a_terminal() {
+    let expected = "\
+desk
+d13x, spi-nor
+
+   name      start     end          size   0                           1280 KiB
+   boot      0x000000  0x040000  256 KiB  [#######                             ]
+             component: first
+   profiles  0x040000  0x140000    1 MiB  [       #############################]
+             chosen application: desk
+";
+    assert_eq!(example().terminal(), expected);
+}
+
+#[test]
+fn a_refused_layout_in_a_terminal() {
+    let expected = "\
+desk
+d13x, spi-nor
+
+   name          start     end          size   0                        512 KiB
+   boot          0x000000  0x040000  256 KiB  [################                ]
+!! profiles      0x030000  0x050000  128 KiB  [            XXXX!!!!            ]
+                 overlaps boot by 64 KiB
+   spare         0x048000  0x048000      0 B  [                  |             ]
+   (unassigned)  0x050000  0x060000   64 KiB  [                    ....        ]
+   logs          0x060000  0x080000  128 KiB  [                        ########]
+
+!! desk.toml:7: refused 47: partition starts before the previous end
+";
+    assert_eq!(refused().terminal(), expected);
+}
+
+#[test]
+fn nothing_to_draw_in_a_terminal() {
+    let mut empty = drawing(Vec::new());
+    empty.refusal = Some("desk.toml: refused 40: no partitions".into());
+    let expected = "\
+desk
+d13x, spi-nor
+
+   (no partitions)
+
+!! desk.toml: refused 40: no partitions
+";
+    assert_eq!(empty.terminal(), expected);
+    assert_eq!(Drawing::default().terminal(), "   (no partitions)\n");
+}
+
+#[test]
+fn what_lands_is_grouped_and_wrapped() {
+    let names = [
+        "washes",
+        "beams",
+        "LED bars",
+        "strobes",
+        "PAR cans",
+        "house lights",
+        "tests",
+    ];
+    let all = landing(area("profiles", 0, 0x500000), LandKind::Application, &names);
+    let all = landing(all, LandKind::Chosen, &["spots"]);
+    let all = landing(all, LandKind::Component, &["index", "fonts"]);
+    let got = drawing(vec![all]).terminal();
+    let notes: Vec<_> = got.lines().skip(5).collect();
+    let expected = [
+        "             components: index, fonts",
+        "             chosen application: spots",
+        "             applications: washes, beams, LED bars, strobes, PAR cans,",
+        "             house lights, tests",
+    ];
+    assert_eq!(notes, expected);
+}
+
+// The bar of every row of a map, as the cells between its brackets.
+fn bars(map: &str) -> Vec<&str> {
+    let each = map
+        .lines()
+        .filter_map(|l| Some(l.strip_suffix(']')?.rsplit_once('[')?.1));
+    each.collect()
+}
+
+#[test]
+fn bars_follow_the_sizes() {
+    let map = thirty_two().terminal();
+    let bars = bars(&map);
+    assert_eq!(bars.len(), 32);
+    let (mut before, total) = (0, (1u64 << 32) - 1);
+    for (i, bar) in bars.iter().enumerate() {
+        let (cells, filled) = (bar.len() as f64, bar.matches('#').count());
+        let exact = (1u64 << i) as f64 / total as f64 * cells;
+        assert!((filled as f64 - exact).abs() <= 1.0, "{bar}: {exact}");
+        assert!(
+            filled >= before.max(1),
+            "{bar} is shorter than the one above"
+        );
+        before = filled;
+    }
+}
+
+#[test]
+fn gaps_fill_what_is_left() {
+    let apart = drawing(vec![
+        area("late", 0x6000, 0x2000),
+        area("early", 0x2000, 0x1000),
+        area("inside", 0x2000, 0x800),
+    ]);
+    let map = apart.terminal();
+    let gap = |l: &&str| l.contains("(unassigned)");
+    let gaps: Vec<_> = map.lines().filter(gap).map(|l| &l[17..35]).collect();
+    assert_eq!(gaps, ["0x003000  0x006000", "0x000000  0x002000"]);
+    assert_eq!(svg(&apart).matches("(unassigned): ").count(), 4);
+    assert!(!example().terminal().contains("(unassigned)"));
+}
+
+#[test]
+fn sizes_are_exact() {
+    let words = [
+        (0, "0 B"),
+        (5000, "5000 B"),
+        (1024, "1 KiB"),
+        (0x140000, "1280 KiB"),
+        (0x500000, "5 MiB"),
+        (0xFFFF_F000, "4194300 KiB"),
+        (1 << 32, "4 GiB"),
+        (u64::MAX, "18446744073709551615 B"),
+    ];
+    for (size, expected) in words {
+        assert_eq!(size_words(size), expected);
+    }
+}
+
+#[test]
+fn lines_stay_narrow_and_plain() {
+    for drawing in drawings() {
+        let map = drawing.terminal();
+        assert!(map.ends_with('\n') && !map.contains("\n\n\n"), "{map}");
+        for c in map.chars().filter(|c| *c != '\n') {
+            assert!(
+                !c.is_control() && !"\u{202e}\u{200b}\u{ffff}".contains(c),
+                "{c:?}"
+            );
+        }
+        let large = drawing.areas.iter().any(|a| a.end() > 1 << 33);
+        let mut rows = map.lines().filter(|l| l.ends_with(']'));
+        assert!(large || rows.all(|l| l.chars().count() <= 80), "{map}");
+    }
+}
+
+#[test]
+fn nasty_names_are_shown_and_cut() {
+    let map = drawing(NASTY.iter().map(|n| area(n, 0, 4096)).collect()).terminal();
+    let shown = [
+        "\"\"",
+        "<&\"'>",
+        "a\\nb\\tc\\r",
+        "\\u{1b}[31mred\\u{7}",
+        "\\n \\u{1b}",
+    ];
+    for name in shown.into_iter().chain(["WWWWWWWWWWWWWWWWW...  0x"]) {
+        assert!(map.contains(&format!("\n   {name}")), "{name}:\n{map}");
+    }
+}
+
+// The tags of a document, each with its attributes; where it is not well-formed, why.
+fn tags(xml: &str) -> Result<Vec<(&str, BTreeMap<&str, &str>)>, String> {
+    let (mut open, mut out, mut rest) = (Vec::new(), Vec::new(), xml);
+    while let Some((words, tail)) = rest.split_once('<') {
+        plain(words)?;
+        let (tag, behind) = tail.split_once('>').ok_or("a tag that does not end")?;
+        rest = behind;
+        if let Some(name) = tag.strip_prefix('/') {
+            let closes = open.pop() == Some(name);
+            closes.then_some(()).ok_or_else(|| format!("</{name}>"))?;
+            continue;
+        }
+        let (tag, alone) = tag.strip_suffix('/').map_or((tag, false), |t| (t, true));
+        let (name, attributes) = tag.split_once(' ').unwrap_or((tag, ""));
+        let below = !open.is_empty() || out.is_empty();
+        below.then_some(()).ok_or("two roots")?;
+        out.push((name, pairs(attributes)?));
+        open.extend((!alone).then_some(name));
+    }
+    let done = open.is_empty() && rest == "\n";
+    done.then_some(out)
+        .ok_or_else(|| format!("open at the end: {open:?} {rest:?}"))
+}
+
+// Text between tags: every ampersand begins one of five names, and no character is forbidden.
+fn plain(words: &str) -> Result<(), String> {
+    let names = ["amp;", "lt;", "gt;", "quot;", "#39;"];
+    let known = |part: &str| names.iter().any(|n| part.starts_with(n));
+    let named = words.split('&').skip(1).all(known);
+    let forbidden = |c: char| c.is_control() && c != '\n' || "<>\u{fffe}\u{ffff}".contains(c);
+    let fine = named && !words.contains(forbidden);
+    fine.then_some(()).ok_or_else(|| format!("text {words:?}"))
+}
+
+fn pairs(mut rest: &str) -> Result<BTreeMap<&str, &str>, String> {
+    let mut out = BTreeMap::new();
+    while !rest.is_empty() {
+        let (name, value) = rest
+            .split_once("=\"")
+            .ok_or_else(|| format!("attributes {rest}"))?;
+        let (value, behind) = value
+            .split_once('"')
+            .ok_or_else(|| format!("value {value}"))?;
+        plain(value)?;
+        let once = out.insert(name.trim_start(), value).is_none();
+        once.then_some(()).ok_or_else(|| format!("{name} twice"))?;
+        rest = behind;
+    }
+    Ok(out)
+}
+
+fn number(attributes: &BTreeMap<&str, &str>, name: &str) -> f64 {
+    attributes[name].parse().expect("a number")
+}
+
+#[test]
+fn every_svg_is_well_formed() {
+    for drawing in drawings() {
+        let picture = svg(&drawing);
+        let tags = tags(&picture).unwrap_or_else(|e| panic!("{e}\n{picture}"));
+        let (name, root) = &tags[0];
+        assert_eq!(
+            (*name, root["xmlns"]),
+            ("svg", "http://www.w3.org/2000/svg")
+        );
+        assert_eq!(
+            root["viewBox"],
+            format!("0 0 {} {}", root["width"], root["height"])
+        );
+        assert_eq!((tags[1].0, tags[2].0), ("title", "desc"));
+        let known = [
+            "svg", "title", "desc", "defs", "pattern", "rect", "line", "path", "text",
+        ];
+        assert!(tags.iter().all(|(name, _)| known.contains(name)));
+        assert!(!picture.contains("NaN") && !picture.contains("inf\""));
+        let mut fills = tags.iter().filter_map(|(_, a)| a.get("fill"));
+        assert!(fills.all(|f| !f.contains("url") || *f == "url(#preset-gap)"));
+    }
+}
+
+#[test]
+fn svg_names_everything() {
+    let picture = svg(&example());
+    let words = [
+        "desk",
+        "d13x, spi-nor",
+        "boot",
+        "0x000000 to 0x040000",
+        "256 KiB",
+        "first",
+    ];
+    let more = [
+        "profiles",
+        "0x040000 to 0x140000",
+        "1 MiB",
+        "component",
+        "chosen application",
+    ];
+    for words in words.into_iter().chain(more) {
+        assert!(picture.contains(&format!(">{words}</text>")), "{words}");
+    }
+    assert!(!picture.contains("refused here") && !picture.contains("stroke-dasharray"));
+    let picture = svg(&refused());
+    for words in [
+        "refused here; overlaps boot by 64 KiB",
+        "(unassigned)",
+        "0 B",
+    ] {
+        assert!(picture.contains(&format!(">{words}</text>")), "{words}");
+    }
+    assert!(picture.contains(">desk.toml:7: refused 47: partition starts"));
+    assert!(svg(&Drawing::default()).contains(">No partitions.</text>"));
+}
+
+// The bar's part of an area, by its title.
+fn stretch(picture: &str, name: &str) -> BTreeMap<String, f64> {
+    let title = format!("><title>{name}: ");
+    let line = picture
+        .lines()
+        .find(|l| l.contains(&title))
+        .expect("a stretch");
+    let tag = line.split_once('>').expect("a tag").0;
+    let all = pairs(tag.strip_prefix("<rect ").expect("a rect")).expect("attributes");
+    let lengths = ["x", "y", "width", "height"];
+    lengths.map(|name| (name.into(), number(&all, name))).into()
+}
+
+#[test]
+fn the_bar_is_to_scale() {
+    let picture = svg(&example());
+    let (boot, profiles) = (stretch(&picture, "boot"), stretch(&picture, "profiles"));
+    assert_eq!(profiles["height"], 4.0 * boot["height"]);
+    assert_eq!(boot["y"] + boot["height"], profiles["y"]);
+    let picture = svg(&refused());
+    let (boot, profiles) = (stretch(&picture, "boot"), stretch(&picture, "profiles"));
+    assert_eq!(boot["x"] + boot["width"], profiles["x"], "side by side");
+    assert!(profiles["y"] < boot["y"] + boot["height"], "at one height");
+    assert!(
+        stretch(&picture, "spare")["height"] >= 2.0,
+        "a line at least"
+    );
+}
+
+// Names of cards stand below one another, and everything inside the picture.
+#[test]
+fn no_label_covers_another() {
+    for drawing in drawings() {
+        let picture = svg(&drawing);
+        let tags = tags(&picture).expect("well-formed");
+        let (wide, high) = (number(&tags[0].1, "width"), number(&tags[0].1, "height"));
+        let cards = tags.iter().filter(|(_, a)| a.get("rx") == Some(&"5"));
+        let mut least = 0.0;
+        for (_, card) in cards {
+            let y = number(card, "y");
+            assert!(y >= least, "a card at {y} covers one that ends at {least}");
+            least = y + number(card, "height") + 7.0;
+        }
+        for (_, shape) in tags
+            .iter()
+            .filter(|(name, _)| ["rect", "text"].contains(name))
+        {
+            let size = |name| {
+                shape
+                    .get(name)
+                    .map_or(0.0, |n| n.parse().expect("a number"))
+            };
+            let (right, foot) = (size("x") + size("width"), size("y") + size("height"));
+            assert!(
+                right <= wide && foot <= high,
+                "{shape:?} in {wide} x {high}"
+            );
+        }
+    }
+}

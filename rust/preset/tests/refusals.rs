@@ -1,0 +1,274 @@
+//! docs/REFUSALS.md: every example is answered as it says and is as small as it says, what is
+//! mended is accepted, and `explain` prints its words.
+use port::document::{self, Outcome};
+use port::plans::{self, Selection};
+use port::records;
+use port::value::{STORE_MIN, TREE_MIN};
+use preset::explain::{self, Entry, Example};
+use std::collections::BTreeSet;
+
+const PAPER: &str = include_str!("../../../docs/REFUSALS.md");
+const BOARD: &[u8] = b"board";
+
+// Fewer are a block that was skipped.
+const EXAMPLES: usize = 71;
+const MENDED: usize = 48;
+
+// 01's numbers.
+fn numbers() -> Vec<u32> {
+    let ranges = [1..=17, 20..=25, 30..=35, 40..=48, 50..=66, 70..=70, 80..=81];
+    ranges.into_iter().flatten().collect()
+}
+
+// Every example with its entry's number.
+fn examples() -> Vec<(u32, Example)> {
+    let each = |e: Entry| e.examples.into_iter().map(move |x| (e.number, x));
+    explain::entries().into_iter().flat_map(each).collect()
+}
+
+// What the document says is told, and what was asked.
+struct Told {
+    refusal: [u32; 3],
+    app: Option<&'static str>,
+    store: usize,
+}
+
+impl Told {
+    // `refused 81 5 0` in code, then perhaps a condition, then the place in words.
+    fn of(written: &'static str) -> Option<Told> {
+        let (code, rest) = written.strip_prefix("`refused ")?.split_once('`')?;
+        let numbers: Result<Vec<_>, _> = code.split(' ').map(str::parse).collect();
+        let (with, place) = rest.strip_suffix(')')?.split_once(" (")?;
+        let app = with.strip_prefix(" with --app ");
+        let store = with.strip_prefix(" with a store of ");
+        let known = with.is_empty() || app.is_some() || store.is_some();
+        (known && !place.is_empty()).then_some(())?;
+        let store = match store {
+            Some(size) => size.strip_suffix(" bytes")?.replace(',', "").parse().ok()?,
+            None => STORE_MIN,
+        };
+        Some(Told {
+            refusal: numbers.ok()?.try_into().ok()?,
+            app,
+            store,
+        })
+    }
+
+    fn asked(&self, text: &[u8]) -> Outcome {
+        let (mut store, mut tree) = (vec![0xAA; self.store], vec![0xAA; TREE_MIN]);
+        let selection = Selection::from(self.app.map(str::as_bytes));
+        match self.app {
+            Some(_) => plans::plan(text, BOARD, selection, &mut store, &mut tree),
+            None => records::validate(text, BOARD, &mut store, &mut tree),
+        }
+    }
+}
+
+fn told(number: u32, example: &Example) -> Told {
+    let told = Told::of(example.told);
+    told.unwrap_or_else(|| panic!("{number}: told in another form: {}", example.told))
+}
+
+// The lines that an example stands for.
+fn lines(example: &Example) -> Vec<Vec<u8>> {
+    let written = example.preset.lines();
+    match example.tag {
+        "" => written.map(|l| l.as_bytes().to_vec()).collect(),
+        "made" => written.flat_map(repeated).collect(),
+        other => panic!("a fence says {other}"),
+    }
+}
+
+fn repeated(line: &str) -> Vec<Vec<u8>> {
+    let noted = line
+        .strip_suffix(" times")
+        .and_then(|l| l.rsplit_once(" # "));
+    match noted {
+        Some((line, count)) => vec![decoded(line.trim_end()); count.parse().expect("a count")],
+        None => vec![decoded(line)],
+    }
+}
+
+// `\x` and two digits are a byte.
+fn decoded(line: &str) -> Vec<u8> {
+    let mut parts = line.split("\\x");
+    let mut out = parts.next().unwrap_or_default().as_bytes().to_vec();
+    for part in parts {
+        let (digits, behind) = part.split_at(2);
+        out.push(u8::from_str_radix(digits, 16).expect("two digits"));
+        out.extend(behind.as_bytes());
+    }
+    out
+}
+
+fn text(lines: &[Vec<u8>]) -> Vec<u8> {
+    lines
+        .iter()
+        .flat_map(|l| [l, &b"\n"[..]].concat())
+        .collect()
+}
+
+#[test]
+fn every_example_is_told_as_written() {
+    for (number, example) in examples() {
+        let told = told(number, &example);
+        let got = told.asked(&text(&lines(&example)));
+        let got = [got.number, got.section, got.place];
+        assert_eq!(got, told.refusal, "{number}:\n{}", example.preset);
+        assert_eq!(got[0], number, "\n{}", example.preset);
+    }
+}
+
+#[test]
+fn every_example_needs_all_its_lines() {
+    for (number, example) in examples() {
+        let (told, all) = (told(number, &example), lines(&example));
+        // Of lines that are alike and side by side, it is all one which is gone.
+        let differs = |i: &usize| *i == 0 || all[*i] != all[*i - 1];
+        for i in (0..all.len()).filter(differs) {
+            let fewer = [&all[..i], &all[i + 1..]].concat();
+            let got = told.asked(&text(&fewer)).number;
+            let line = String::from_utf8_lossy(&all[i]);
+            assert_ne!(got, number, "it is told without the line {line}");
+        }
+    }
+}
+
+// Which step refuses with a number; mended, the same step accepts.
+fn step(number: u32, told: &Told, text: &[u8]) -> Outcome {
+    let (mut store, mut tree) = (vec![0; STORE_MIN], vec![0; TREE_MIN]);
+    match number {
+        1..=17 => document::read(text, &mut store, &mut tree),
+        20..=25 => records::read(text, BOARD, &mut store, &mut tree),
+        _ => told.asked(text),
+    }
+}
+
+#[test]
+fn every_mended_example_is_accepted() {
+    for entry in explain::entries() {
+        let Some(mended) = entry.mended else { continue };
+        let told = told(entry.number, &entry.examples[0]);
+        let before = step(entry.number, &told, &text(&lines(&entry.examples[0])));
+        assert_eq!(before.number, entry.number, "another step refuses it");
+        let got = step(entry.number, &told, mended.as_bytes());
+        assert_eq!(got.number, 0, "{}:\n{mended}", entry.number);
+    }
+}
+
+#[test]
+fn every_number_has_its_entry() {
+    let entries = explain::entries();
+    let got: Vec<_> = entries.iter().map(|e| e.number).collect();
+    assert_eq!(got, numbers());
+    for (number, entry) in numbers().into_iter().zip(entries) {
+        assert_eq!(explain::words(number), Some(entry.words));
+        assert_eq!(explain::entry(number), Some(entry));
+    }
+    for number in [0, 18, 19, 26, 49, 67, 82, u32::MAX] {
+        assert_eq!(explain::entry(number), None);
+        assert_eq!(explain::words(number), None);
+    }
+}
+
+#[test]
+fn nothing_of_the_document_is_lost() {
+    let count = |begin: &str| PAPER.lines().filter(|l| l.starts_with(begin)).count();
+    let (entries, examples) = (explain::entries(), examples());
+    let mended = entries.iter().filter(|e| e.mended.is_some()).count();
+    assert_eq!(count("## "), entries.len());
+    assert_eq!(count("Told: "), examples.len());
+    assert_eq!(count("Mend: "), entries.len());
+    assert_eq!(count("Mended:"), mended);
+    assert_eq!(count("```toml"), examples.len() + mended);
+    assert_eq!(count("```"), 2 * count("```toml"));
+    assert!(examples.len() >= EXAMPLES, "{} examples", examples.len());
+    assert!(mended >= MENDED, "{mended} mended ones");
+}
+
+#[test]
+fn the_words_are_few() {
+    let entries = explain::entries();
+    for Entry { number, words, .. } in &entries {
+        assert!(
+            (4..=60).contains(&words.chars().count()),
+            "{number}: {words}"
+        );
+        assert!(
+            !words.contains(['.', '`', '\n']) || *number == 13,
+            "{number}: {words}"
+        );
+    }
+    let apart: BTreeSet<_> = entries.iter().map(|e| e.words).collect();
+    assert_eq!(
+        apart.len(),
+        entries.len(),
+        "two numbers have the same words"
+    );
+}
+
+// The document's chapter without its marks.
+fn chapter(number: u32) -> Vec<&'static str> {
+    let head = format!("\n## {number}: ");
+    let from = PAPER.find(&head).expect("a chapter") + 4;
+    let until = PAPER[from..]
+        .find("\n## ")
+        .map_or(PAPER.len(), |n| from + n);
+    let plain = PAPER[from..until].lines().filter(|l| !l.starts_with("```"));
+    plain.flat_map(str::split_whitespace).collect()
+}
+
+#[test]
+fn explain_prints_the_document_word_by_word() {
+    for entry in explain::entries() {
+        let printed = entry.to_string();
+        let words: Vec<_> = printed.split_whitespace().collect();
+        assert_eq!(words, chapter(entry.number), "{}", entry.number);
+        for part in [entry.meaning, entry.told, entry.mending, entry.words] {
+            assert!(!part.trim().is_empty(), "{}: {part:?}", entry.number);
+        }
+        assert!(!printed.contains("```") && !printed.ends_with('\n'));
+    }
+}
+
+#[test]
+fn explain_keeps_the_lines_of_presets() {
+    for entry in explain::entries() {
+        let printed = entry.to_string();
+        let presets = entry.examples.iter().map(|x| x.preset).chain(entry.mended);
+        for preset in presets {
+            let block: String = preset.lines().map(|l| format!("    {l}\n")).collect();
+            assert!(
+                printed.contains(block.trim_end()),
+                "{}:\n{block}",
+                entry.number
+            );
+        }
+        let long = |l: &&str| l.chars().count() > 80 && !l.starts_with("    ");
+        assert_eq!(printed.lines().find(long), None);
+    }
+}
+
+#[test]
+fn what_explain_prints_of_58() {
+    let first = explain::entry(58).expect("an entry").to_string();
+    let lines: Vec<_> = first.lines().take(16).collect();
+    let expected = "\
+58: unknown partition
+
+A component goes to a partition that the preset does not have. Of its
+reference the part before the first `;` counts, without blanks at its ends;
+capital letters count.
+
+    [[partition]]
+    name = \"boot\"
+    offset = 0
+    size = 0x1000
+    [[component]]
+    name = \"loader\"
+    package = \"loader\"
+    partition = \"bot\"
+
+Told: `refused 58 4 0` (the first component)";
+    assert_eq!(lines.join("\n"), expected);
+}
