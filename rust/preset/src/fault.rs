@@ -1,0 +1,148 @@
+//! Where in a text a refusal points: its line, its entry and what is wrong there.
+use crate::clash;
+use crate::detail;
+use crate::fields;
+use crate::lines;
+use crate::refusal::{Refusal, Section};
+use crate::shown;
+use crate::tree::{Kind, Tree};
+use std::fmt;
+
+/// A refusal with what the text has where it points.
+///
+/// Its `Display` is what stands behind the file's name and line in a message; texts of the preset
+/// are escaped in it.
+///
+/// ```
+/// use preset::{Fault, Preset};
+///
+/// let text = std::fs::read_to_string("../../presets/example.toml").unwrap();
+/// let text = text.replace("boot;mtd", "bot;mtd").into_bytes();
+/// let refusal = Preset::validate(&text, b"example").unwrap_err();
+/// let fault = Fault::find(&text, refusal, None);
+/// assert_eq!(fault.line, Some(15));
+/// assert_eq!(fault.text.as_deref(), Some("partition = \"bot;mtd\""));
+/// let said = "component 0 \"first\": refused 58: unknown partition \"bot\"";
+/// assert_eq!(fault.to_string(), said);
+/// ```
+#[derive(Clone, Debug, PartialEq, Eq)]
+pub struct Fault {
+    pub refusal: Refusal,
+    /// The line, from 1, of the field at fault, else of its entry; none where nothing in the text
+    /// is certain to be meant. Of a value over many lines it is the first.
+    pub line: Option<usize>,
+    /// What stands in that line, escaped and without white space before it.
+    pub text: Option<String>,
+    /// The section, the entry's number from 0 and its name, as far as there are any.
+    pub entry: Option<String>,
+    /// What the refusal's words leave open: a name, a number, what else is there.
+    pub detail: Option<String>,
+}
+
+impl Fault {
+    /// Finds it; `app` is the application that planning was asked for.
+    pub fn find(text: &[u8], refusal: Refusal, app: Option<&str>) -> Fault {
+        let mut fault = Fault {
+            refusal,
+            line: None,
+            text: None,
+            entry: None,
+            detail: None,
+        };
+        match (refusal.section, Tree::read(text)) {
+            (Section::Text, _) => fault.line = line_in_text(text, &refusal),
+            (_, Some(tree)) => {
+                let value = guilty(text, &tree, &refusal);
+                fault.line = value.and_then(|value| lines::making(text, value));
+                fault.entry = Some(entry(&tree, &refusal));
+                fault.detail = detail::of(text, &tree, &refusal, app);
+            }
+            // not met: what is refused behind the text has a tree
+            (_, None) => {}
+        }
+        fault.detail = fault.detail.or_else(|| detail::of_text(&refusal));
+        let standing = fault.line.and_then(|line| lines::standing(text, line));
+        fault.text = standing.map(|line| shown::bytes(line.trim_ascii_start()));
+        fault
+    }
+}
+
+fn line_in_text(text: &[u8], refusal: &Refusal) -> Option<usize> {
+    match refusal.number {
+        2 => lines::broken(text),
+        _ => Some(refusal.place as usize).filter(|line| *line > 0),
+    }
+}
+
+// The value that is at fault: the field where it is there, else its entry, else the whole list. Of what is missing from
+// the whole preset there is none.
+fn guilty(text: &[u8], tree: &Tree, refusal: &Refusal) -> Option<usize> {
+    let whole = tree.whole(refusal.section);
+    if matches!(refusal.number, 70 | 80) {
+        return None;
+    }
+    if of_whole(tree, refusal) {
+        return whole;
+    }
+    let entry = tree.entry(refusal.section, refusal.place as usize)?;
+    let key = match refusal.number {
+        60 => clash::key(text, refusal),
+        _ => fields::meant(tree, refusal, entry),
+    };
+    let field = key.and_then(|key| tree.field(entry, key));
+    Some(field.unwrap_or(entry))
+}
+
+/// Whether a refusal means all of its section: it says so by its number, or the section is not what it has to be.
+pub(crate) fn of_whole(tree: &Tree, refusal: &Refusal) -> bool {
+    let Some(whole) = tree.whole(refusal.section) else {
+        return true;
+    };
+    let needed = match refusal.section {
+        Section::Partition | Section::Component => Kind::Array,
+        _ => Kind::Table,
+    };
+    refusal.of_whole_list() || tree.kind(whole) != needed
+}
+
+// `component 3 "ddr"`, or `components` for all of them.
+fn entry(tree: &Tree, refusal: &Refusal) -> String {
+    let (section, place) = (refusal.section, refusal.place as usize);
+    let word = section.name();
+    match section {
+        Section::Board | Section::Image => word.into(),
+        _ if of_whole(tree, refusal) => format!("{word}s"),
+        _ => called(tree, section, place),
+    }
+}
+
+/// An entry by its section, number and name.
+pub(crate) fn called(tree: &Tree, section: Section, place: usize) -> String {
+    let entry = tree.entry(section, place);
+    let name = entry.and_then(|entry| tree.called(section, entry));
+    let name = name.map_or(String::new(), |name| format!(" {}", shown::quoted(&name)));
+    format!("{} {place}{name}", section.name())
+}
+
+impl fmt::Display for Fault {
+    fn fmt(&self, f: &mut fmt::Formatter) -> fmt::Result {
+        if let Some(entry) = &self.entry {
+            write!(f, "{entry}: ")?;
+        }
+        write!(
+            f,
+            "refused {}: {}",
+            self.refusal.number,
+            self.refusal.words()
+        )?;
+        // a name goes on with these words, as in `unknown partition "bot"`
+        let between = match self.refusal.number {
+            43 | 51 | 58 | 60 | 65 | 70 => " ",
+            _ => ": ",
+        };
+        match &self.detail {
+            Some(detail) => write!(f, "{between}{detail}"),
+            None => Ok(()),
+        }
+    }
+}

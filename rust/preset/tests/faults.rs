@@ -1,0 +1,334 @@
+//! Faults lead to the right line: each field of a preset is spoilt where it stands, and the answer must name that line.
+use preset::explain;
+use preset::{Fault, Preset, Section, Selection};
+
+const STAGE: &str = include_str!("../../../presets/stage-d13x.toml");
+const TOUR: &str = include_str!("../../../presets/tour-d21x.toml");
+
+fn fault(text: &[u8]) -> Fault {
+    let refusal = Preset::validate(text, b"board").expect_err("refused");
+    Fault::find(text, refusal, None)
+}
+
+// The lines `key = value`, from 1, that begin and end in one line; with the key and the value.
+fn assignments(text: &str) -> Vec<(usize, &str, &str)> {
+    let each = text.lines().enumerate().filter_map(|(at, line)| {
+        let line = line.split(" #").next()?.trim();
+        let (key, value) = line.split_once('=')?;
+        let value = value.trim();
+        let count = |bracket| value.matches(bracket).count();
+        let whole = !line.starts_with(['#', '[', '"']) && count('[') == count(']');
+        whole.then_some((at + 1, key.trim(), value))
+    });
+    each.collect()
+}
+
+// The text with that line replaced.
+fn spoilt(text: &str, line: usize, by: &str) -> String {
+    let lines = text
+        .lines()
+        .enumerate()
+        .map(|(at, own)| match at + 1 == line {
+            true => format!("{by}\n"),
+            false => format!("{own}\n"),
+        });
+    lines.collect()
+}
+
+// The header above a line.
+fn header(text: &str, line: usize) -> usize {
+    let above = text.lines().take(line).enumerate();
+    let found = above.filter(|(_, line)| line.starts_with('[')).last();
+    1 + found.expect("a header").0
+}
+
+#[test]
+fn every_field_of_the_wrong_kind() {
+    for text in [STAGE, TOUR] {
+        let all = assignments(text);
+        assert!(all.len() > 40, "{}", all.len());
+        for (line, key, _) in all {
+            // an array with a number in it is no text, no number, no boolean and no feature list
+            let fault = fault(spoilt(text, line, &format!("{key} = [7]")).as_bytes());
+            assert_eq!(
+                (fault.refusal.number, fault.line),
+                (20, Some(line)),
+                "{key}"
+            );
+            let detail = fault.detail.expect("a detail");
+            assert!(detail.starts_with(&format!("`{key}` ")), "{detail}");
+        }
+    }
+}
+
+#[test]
+fn every_number_out_of_range() {
+    for text in [STAGE, TOUR] {
+        for (line, key, value) in assignments(text) {
+            if !value.starts_with(|c: char| c.is_ascii_digit()) {
+                continue;
+            }
+            for wrong in ["-1", "0x1_0000_0000"] {
+                let fault = fault(spoilt(text, line, &format!("{key} = {wrong}")).as_bytes());
+                assert_eq!(
+                    (fault.refusal.number, fault.line),
+                    (21, Some(line)),
+                    "{key}"
+                );
+            }
+        }
+    }
+}
+
+#[test]
+fn every_list_that_is_too_long() {
+    let mut met = 0;
+    for (line, key, _) in assignments(STAGE) {
+        if !key.ends_with("features") {
+            continue;
+        }
+        for list in ["x,".repeat(33), "x y ".repeat(17)] {
+            let fault = fault(spoilt(STAGE, line, &format!("{key} = \"{list}\"")).as_bytes());
+            assert_eq!(
+                (fault.refusal.number, fault.line),
+                (25, Some(line)),
+                "{key}"
+            );
+            met += 1;
+        }
+    }
+    assert!(met > 10, "{met}");
+}
+
+// What is missing is told at its entry's header.
+#[test]
+fn every_field_that_is_needed() {
+    let mut met = 0;
+    for text in [STAGE, TOUR] {
+        for (line, key, _) in assignments(text) {
+            let Err(refusal) = Preset::read(spoilt(text, line, "").as_bytes(), b"") else {
+                continue;
+            };
+            assert_eq!(refusal.number, 24);
+            let fault = fault(spoilt(text, line, "").as_bytes());
+            assert_eq!(fault.line, Some(header(text, line)), "{key}");
+            assert_eq!(fault.detail, Some(format!("no `{key}`")));
+            met += 1;
+        }
+    }
+    assert!(met > 30, "{met}");
+}
+
+#[test]
+fn words_that_nobody_knows() {
+    for (line, key, _) in assignments(STAGE) {
+        if !["chip", "media", "kind"].contains(&key) {
+            continue;
+        }
+        let fault = fault(spoilt(STAGE, line, &format!("{key} = \"z\"")).as_bytes());
+        assert_eq!(
+            (fault.refusal.number, fault.line),
+            (22, Some(line)),
+            "{key}"
+        );
+        assert!(
+            fault
+                .detail
+                .expect("words")
+                .starts_with(&format!("`{key}` is \"z\"; "))
+        );
+    }
+    let at = |text: &str| {
+        (
+            fault(text.as_bytes()).refusal.number,
+            fault(text.as_bytes()).line,
+        )
+    };
+    assert_eq!(
+        at("[image]\nmedia = \"y\"\nplatform = \"z\"\n"),
+        (22, Some(3))
+    );
+    assert_eq!(
+        at("[image]\nmedia = \"y\"\nplatform = \"d13x\"\n"),
+        (22, Some(2))
+    );
+    assert_eq!(
+        at("[image]\nmedia = \"y\"\nplatform = \"z\"\n[board]\nchip = \"d13x\""),
+        (22, Some(2))
+    );
+}
+
+// Every example of docs/REFUSALS.md: what is told of it names a line wherever the text has one that is meant.
+#[test]
+fn every_example_has_its_line() {
+    let mut met = 0;
+    for entry in explain::entries() {
+        for example in entry.examples.iter().filter(|e| e.tag.is_empty()) {
+            let text = example.preset.as_bytes();
+            let app = example.told.split_once("with --app ").map(|(_, rest)| rest);
+            let app = app.and_then(|rest| rest.split(' ').next());
+            let selection = app.map_or(Selection::Bootloader, |key| Selection::App(key.into()));
+            let Err(refusal) = Preset::plan(text, b"board", &selection) else {
+                // 17 is a matter of rooms, and these are large enough
+                assert_eq!(entry.number, 17);
+                continue;
+            };
+            let fault = Fault::find(text, refusal, app);
+            if entry.number == 17 {
+                continue;
+            }
+            assert_eq!(refusal.number, entry.number);
+            let none = fault.line.is_none();
+            assert_eq!(none, matches!(entry.number, 40 | 50 | 70 | 80), "{fault:?}");
+            met += 1;
+        }
+    }
+    assert!(met > 50, "{met}");
+}
+
+// Rules, spoilt in the presets: an edit, the number, and what the line that is told has in it.
+const RULES: [(&str, &str, u32, &str); 20] = [
+    (
+        "\"spi-nor\"\nmedia_dev",
+        "\"spi-nand\"\nmedia_dev",
+        30,
+        "media        = \"spi-nand\"",
+    ),
+    (
+        "platform     = \"d13x\"",
+        "platform     = \"d21x\"",
+        31,
+        "platform     = \"d21x\"",
+    ),
+    ("\"release\"", "\"\"", 32, "profile = \"\""),
+    (
+        "\"spots\"  ",
+        "\"a name of more than thirty-two bytes\"",
+        33,
+        "app          =",
+    ),
+    ("riscv32imafc", "x86_64", 34, "target  ="),
+    ("riscv32imafc", "riscv64gc", 35, "target  ="),
+    (
+        "offset = 0x000000",
+        "offset = 0x001000",
+        41,
+        "offset = 0x001000",
+    ),
+    ("name   = \"gobos\"", "name   = \"\"", 42, "name   = \"\""),
+    ("size   = 0x010000", "size   = 0", 44, "size   = 0"),
+    (
+        "offset = 0x042000",
+        "offset = 0x042001",
+        45,
+        "offset = 0x042001",
+    ),
+    (
+        "size   = 0x010000",
+        "size   = 0xFFFFF000",
+        48,
+        "size   = 0xFFFFF000",
+    ),
+    ("\"loader\"", "\"psram\"", 51, "name            = \"psram\""),
+    (
+        "\"loader\"",
+        "\"a name of more than thirty-two bytes\"",
+        52,
+        "name            = \"a name",
+    ),
+    (
+        "\"blobs/env.bin\"",
+        "\"e\"\npackage = \"e\"",
+        53,
+        "file      = \"e\"",
+    ),
+    (
+        "\"pbp-common\"",
+        "\"pbp-common\"\npbp = \"p\"",
+        55,
+        "pbp_package     = \"pbp-common\"",
+    ),
+    ("partition = \"env\"", "", 57, "[[component]]"),
+    ("0x4000\n", "0x4001\n", 59, "ext_reserve     = 0x4001"),
+    (
+        "\"pbp-common\"",
+        "\"pbp-psram\"",
+        60,
+        "pbp_package     = \"pbp-psram\"",
+    ),
+    ("\"LED bars\"", "\"\"", 61, "name      = \"\""),
+    (
+        "0x40700000\n\n[apps.profile-beam]",
+        "0x40700002\n\n[apps.profile-beam]",
+        66,
+        "load_address = 0x40700002",
+    ),
+];
+
+#[test]
+fn rules_are_told_at_their_fields() {
+    for (from, to, number, meant) in RULES {
+        let text = STAGE.replacen(from, to, 1);
+        assert_ne!(text, STAGE, "{from}");
+        let fault = fault(text.as_bytes());
+        assert_eq!(fault.refusal.number, number, "{fault:?}");
+        let line = fault.line.expect("a line");
+        let told = text.lines().nth(line - 1).expect("it is there");
+        assert!(told.starts_with(meant), "{number}: {told}");
+        assert_eq!(fault.text.as_deref(), Some(told), "{number}");
+    }
+}
+
+// Lists that are written otherwise than by headers, and entries that are no tables.
+#[test]
+fn odd_lists() {
+    let at = |text: &str| {
+        let fault = fault(text.as_bytes());
+        let entry = fault.entry.expect("an entry");
+        (fault.refusal.number, fault.line, entry)
+    };
+    let partitions = "partitions".to_string();
+    assert_eq!(
+        at("\npartition = [\n1]\n"),
+        (23, Some(2), "partition 0".into())
+    );
+    assert_eq!(
+        at("[[partition]]\nname=\"a\"\noffset=0\nsize=1\n[partition.x]\n"),
+        (20, Some(5), partitions.clone())
+    );
+    assert_eq!(at("partition = \"x\""), (20, Some(1), partitions.clone()));
+    assert_eq!(at("\n\npartition = []"), (40, Some(3), partitions));
+    assert_eq!(
+        at("[apps]\na = 1\n"),
+        (23, Some(2), "application 0 \"a\"".into())
+    );
+    assert_eq!(
+        at("\n[apps]\nb.name = 1\na.features = 2\n"),
+        (20, Some(4), "application 0 \"a\"".into())
+    );
+    assert_eq!(at("apps = 1"), (20, Some(1), "applications".into()));
+    assert_eq!(at("board = 1"), (20, Some(1), "board".into()));
+    // the newest value of a key counts
+    assert_eq!(
+        at("[[partition]]\nname = 1\nname = \"x\"\noffset = 0\noffset = \"0\""),
+        (20, Some(5), "partition 0 \"x\"".into())
+    );
+    // plural where there is no singular
+    assert_eq!(
+        at("[[partitions]]\nname = 1\n"),
+        (20, Some(2), "partition 0".into())
+    );
+    let many = "[[component]]\nname = \"x\"\n".repeat(65);
+    assert_eq!(at(&many), (25, Some(129), "component 64 \"x\"".into()));
+}
+
+// A value over many lines is told at its first, and comments, blank lines and CRLF count as lines.
+#[test]
+fn lines_as_editors_count() {
+    let text = "# one\r\n\r\n[[partition]] # three\r\nname = \"a\"\r\noffset = 0\r\nsize = 0x1000\r\n\
+                [[component]]\r\nname = \"x\"\r\nfeatures = [ # nine\r\n  \"f\",\r\n\r\n  7,\r\n]\r\n";
+    let fault = fault(text.as_bytes());
+    assert_eq!((fault.refusal.number, fault.line), (20, Some(9)));
+    assert_eq!(fault.text.as_deref(), Some("features = [ # nine"));
+    assert_eq!(fault.refusal.section, Section::Component);
+}
