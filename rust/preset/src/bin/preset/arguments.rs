@@ -1,0 +1,190 @@
+//! The words behind `preset`.
+use preset::shown;
+use std::ffi::{OsStr, OsString};
+
+#[derive(Debug, PartialEq, Eq)]
+pub enum Command {
+    Help,
+    Version,
+    Check {
+        files: Vec<OsString>,
+    },
+    Plan {
+        file: OsString,
+        app: Option<String>,
+    },
+    Listing {
+        file: OsString,
+    },
+    Map {
+        file: OsString,
+        app: Option<String>,
+        svg: Option<OsString>,
+    },
+    Explain {
+        number: OsString,
+    },
+}
+
+/// What is asked for, or what is wrong with the words.
+pub fn parse(words: impl Iterator<Item = OsString>) -> Result<Command, String> {
+    let mut words = words.peekable();
+    let Some(first) = words.next() else {
+        return Err("no command".into());
+    };
+    let options: &[&str] = match first.to_str() {
+        Some("-h" | "--help" | "help") => return Ok(Command::Help),
+        Some("-V" | "--version") => return Ok(Command::Version),
+        Some("check" | "listing" | "explain") => &[],
+        Some("plan") => &["--app"],
+        Some("map") => &["--app", "--svg"],
+        _ => return Err(format!("no command {}", name(&first))),
+    };
+    let Some(mut sorted) = sort(words, options)? else {
+        return Ok(Command::Help);
+    };
+    let command = first.to_str().unwrap_or_default();
+    let app = sorted.app.take().map(key).transpose()?;
+    match command {
+        "check" if sorted.files.is_empty() => Err("check: no file is named".into()),
+        "check" => Ok(Command::Check {
+            files: once_from_input(sorted.files)?,
+        }),
+        "explain" => Ok(Command::Explain {
+            number: sorted.one(command, "number")?,
+        }),
+        "listing" => Ok(Command::Listing {
+            file: sorted.one(command, "file")?,
+        }),
+        "plan" => Ok(Command::Plan {
+            file: sorted.one(command, "file")?,
+            app,
+        }),
+        _ => Ok(Command::Map {
+            file: sorted.one(command, "file")?,
+            app,
+            svg: sorted.svg,
+        }),
+    }
+}
+
+fn name(word: &OsStr) -> String {
+    shown::quoted(&word.to_string_lossy())
+}
+
+#[derive(Default)]
+struct Sorted {
+    files: Vec<OsString>,
+    app: Option<OsString>,
+    svg: Option<OsString>,
+}
+
+impl Sorted {
+    fn one(&mut self, command: &str, what: &str) -> Result<OsString, String> {
+        match (self.files.pop(), self.files.is_empty()) {
+            (Some(only), true) => Ok(only),
+            (None, _) => Err(format!("{command}: no {what} is named")),
+            _ => Err(format!("{command}: more than one {what} is named")),
+        }
+    }
+
+    fn option(&mut self, option: &str) -> &mut Option<OsString> {
+        match option {
+            "--app" => &mut self.app,
+            _ => &mut self.svg,
+        }
+    }
+}
+
+// Options from the rest; none where help is asked for. Behind `--` there are no options.
+fn sort(
+    mut words: impl Iterator<Item = OsString>,
+    options: &[&str],
+) -> Result<Option<Sorted>, String> {
+    let mut sorted = Sorted::default();
+    while let Some(word) = words.next() {
+        let spelled = word.to_str().unwrap_or_default();
+        let (option, own) = match spelled.split_once('=') {
+            Some((option, value)) => (option, Some(OsString::from(value))),
+            None => (spelled, None),
+        };
+        match option {
+            "-h" | "--help" => return Ok(None),
+            "--" => sorted.files.extend(words.by_ref()),
+            _ if options.contains(&option) => {
+                let value = own.or_else(|| words.next());
+                let value = value.ok_or(format!("{option}: nothing stands behind it"))?;
+                if sorted.option(option).replace(value).is_some() {
+                    return Err(format!("{option} stands there twice"));
+                }
+            }
+            _ if spelled.starts_with('-') && spelled != "-" => {
+                return Err(format!("no option {}", name(&word)));
+            }
+            _ => sorted.files.push(word),
+        }
+    }
+    Ok(Some(sorted))
+}
+
+// Keys of a preset are UTF-8, so no other word is one.
+fn key(word: OsString) -> Result<String, String> {
+    word.into_string()
+        .map_err(|word| format!("--app: {} is not UTF-8", name(&word)))
+}
+
+// Standard input has one text.
+fn once_from_input(files: Vec<OsString>) -> Result<Vec<OsString>, String> {
+    match files.iter().filter(|file| *file == "-").count() {
+        0 | 1 => Ok(files),
+        _ => Err("check: `-` stands there twice".into()),
+    }
+}
+
+#[cfg(test)]
+mod tests {
+    use super::{Command, parse};
+    use std::ffi::OsString;
+
+    fn parsed(line: &str) -> Result<Command, String> {
+        parse(line.split_whitespace().map(OsString::from))
+    }
+
+    #[test]
+    fn options_may_stand_anywhere() {
+        let want = Ok(Command::Map {
+            file: "a.toml".into(),
+            app: Some("k".into()),
+            svg: Some("-".into()),
+        });
+        assert_eq!(parsed("map a.toml --app k --svg -"), want);
+        assert_eq!(parsed("map --app=k a.toml --svg=-"), want);
+        assert_eq!(parsed("map --svg - --app k -- a.toml"), want);
+        let odd = Ok(Command::Check {
+            files: vec!["--app".into(), "-".into()],
+        });
+        assert_eq!(parsed("check -- --app -"), odd);
+        assert_eq!(parsed("plan a --app k --help"), Ok(Command::Help));
+    }
+
+    #[test]
+    fn bad_words_are_told() {
+        let wrong = [
+            ("", "no command"),
+            ("x", "no command \"x\""),
+            ("check", "check: no file is named"),
+            ("check --app k f", "no option \"--app\""),
+            ("check - -", "check: `-` stands there twice"),
+            ("plan", "plan: no file is named"),
+            ("plan a b", "plan: more than one file is named"),
+            ("plan a --app", "--app: nothing stands behind it"),
+            ("plan a --app k --app=l", "--app stands there twice"),
+            ("plan a --svg o", "no option \"--svg\""),
+            ("listing -x", "no option \"-x\""),
+            ("explain", "explain: no number is named"),
+        ];
+        for (line, want) in wrong {
+            assert_eq!(parsed(line), Err(want.into()), "{line}");
+        }
+    }
+}

@@ -1,0 +1,51 @@
+//! `preset map`: the flash on the terminal, or as a file.
+use crate::answer::Answer;
+use crate::check::refused;
+use crate::input::{self, Input};
+use preset::map::Drawing;
+use preset::{Fault, Preset, Refusal, Selection, picture, shown, svg};
+use std::ffi::{OsStr, OsString};
+
+pub fn map(file: &OsStr, app: Option<String>, out: Option<OsString>) -> Answer {
+    let input = match input::read(file) {
+        Ok(input) => input,
+        Err(why) => return Answer::failed(why),
+    };
+    match judged(&input, app.as_deref()) {
+        Ok(preset) => drawn(&picture::accepted(&preset, app.as_deref()), out),
+        Err(refusal) => {
+            let mut answer = refused(&input, refusal, app.as_deref());
+            let fault = Fault::find(&input.text, refusal, app.as_deref());
+            let board = input.board.as_bytes();
+            if let Some(drawing) = picture::refused(&input.text, board, &fault, app.as_deref()) {
+                answer.and(drawn(&drawing, out));
+            }
+            answer
+        }
+    }
+}
+
+// A chosen application is planned, so that 80 and 81 are told too.
+fn judged(input: &Input, app: Option<&str>) -> Result<Preset, Refusal> {
+    let board = input.board.as_bytes();
+    if let Some(key) = app {
+        Preset::plan(&input.text, board, &Selection::App(key.into()))?;
+    }
+    Preset::validate(&input.text, board)
+}
+
+fn drawn(drawing: &Drawing, out: Option<OsString>) -> Answer {
+    let Some(file) = out else {
+        return Answer::result(drawing.terminal());
+    };
+    if file == "-" {
+        return Answer::result(svg::svg(drawing));
+    }
+    match std::fs::write(&file, svg::svg(drawing)) {
+        Ok(()) => Answer::default(),
+        Err(why) => {
+            let file = shown::plain(&file.to_string_lossy());
+            Answer::failed(format!("{file}: cannot be written: {why}"))
+        }
+    }
+}

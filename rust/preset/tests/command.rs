@@ -1,0 +1,513 @@
+//! The built command through all of its answers: what it prints where, and its exit status.
+use std::fs;
+use std::io::Write;
+use std::path::{Path, PathBuf};
+use std::process::{Command, Stdio};
+
+const EXAMPLE: &str = include_str!("../../../presets/example.toml");
+const STAGE: &str = include_str!("../../../presets/stage-d13x.toml");
+
+#[derive(Debug, PartialEq, Eq)]
+struct Said {
+    status: i32,
+    out: String,
+    err: String,
+}
+
+// The command where the repository's root is the folder; elsewhere than on x86-64 `rust/cross` names an emulator.
+fn command(words: &[&str]) -> Command {
+    let program = env!("CARGO_BIN_EXE_preset");
+    let mut command = match std::env::var("CARGO_TARGET_X86_64_UNKNOWN_LINUX_GNU_RUNNER") {
+        Ok(runner) => {
+            let mut command = Command::new(runner);
+            command.arg(program);
+            command
+        }
+        Err(_) => Command::new(program),
+    };
+    let root = Path::new(env!("CARGO_MANIFEST_DIR")).join("../..");
+    command.args(words).current_dir(root).stdin(Stdio::null());
+    command
+}
+
+fn said(mut command: Command, input: &[u8]) -> Said {
+    command.stdin(Stdio::piped());
+    command.stdout(Stdio::piped()).stderr(Stdio::piped());
+    let mut child = command.spawn().expect("it starts");
+    // who does not read its input may be gone by now
+    let _ = child.stdin.take().expect("an input").write_all(input);
+    let told = child.wait_with_output().expect("it ends");
+    Said {
+        status: told.status.code().expect("a status"),
+        out: String::from_utf8(told.stdout).expect("UTF-8"),
+        err: String::from_utf8(told.stderr).expect("UTF-8"),
+    }
+}
+
+fn preset(words: &[&str]) -> Said {
+    said(command(words), b"")
+}
+
+fn accepted(out: impl Into<String>) -> Said {
+    Said {
+        status: 0,
+        out: out.into(),
+        err: String::new(),
+    }
+}
+
+fn advice(number: u32) -> String {
+    format!("what it means and how it is mended: preset explain {number}\n")
+}
+
+// A file below target/, in a folder of the test that writes it.
+fn written(test: &str, name: &str, text: impl AsRef<[u8]>) -> PathBuf {
+    let folder = Path::new(env!("CARGO_TARGET_TMPDIR")).join(test);
+    fs::create_dir_all(&folder).expect("target/ can be written");
+    let file = folder.join(name);
+    fs::write(&file, text).expect("target/ can be written");
+    file
+}
+
+fn word(file: &Path) -> &str {
+    file.to_str().expect("a plain path")
+}
+
+// The first line of a text that has this in it, from 1, as editors count.
+fn line(text: &str, part: &str) -> usize {
+    let found = text.lines().position(|line| line.contains(part));
+    1 + found.unwrap_or_else(|| panic!("{part} is nowhere"))
+}
+
+#[test]
+fn check_accepts() {
+    let words = ["check", "presets/example.toml", "presets/stage-d13x.toml"];
+    let lines = "presets/example.toml: ok: d13x, spi-nor, 2 partitions, 1 component, 1 application\n\
+                 presets/stage-d13x.toml: ok: d13x, spi-nor, 6 partitions, 4 components, 7 applications\n";
+    assert_eq!(preset(&words), accepted(lines));
+}
+
+#[test]
+fn check_takes_standard_input() {
+    let got = said(command(&["check", "-"]), EXAMPLE.as_bytes());
+    let line = "-: ok: d13x, spi-nor, 2 partitions, 1 component, 1 application\n";
+    assert_eq!(got, accepted(line));
+    let got = said(command(&["check", "-"]), b"[board]\nchip = d13x\n");
+    assert_eq!(got.status, 1);
+    assert_eq!(
+        got.out,
+        "-:2: refused 12: not an integer\n    chip = d13x\n"
+    );
+    assert_eq!(got.err, advice(12));
+}
+
+// A preset's edit, the line that is to be named, and what is said of it.
+const FAULTS: [(&str, &str, &str, &str); 12] = [
+    (
+        "size   = 0x040000",
+        "size   = 256K",
+        "size   = 256K",
+        "refused 12: not an integer",
+    ),
+    (
+        "chip    = \"d13x\"",
+        "chip    = 13",
+        "chip    = 13",
+        "board: refused 20: wrong kind of value: `chip` is an integer, not a string",
+    ),
+    (
+        "media        = \"spi-nor\"",
+        "media        = \"nor\"",
+        "media        = \"nor\"",
+        "image: refused 22: unknown chip, media or kind: `media` is \"nor\"; there are spi-nor, spi-nand",
+    ),
+    (
+        "offset = 0x042000",
+        "",
+        "[[partition]]",
+        "partition 2 \"calibration\": refused 24: missing name, offset or size: no `offset`",
+    ),
+    (
+        "name   = \"env\"",
+        "name   = \"boot\"",
+        "name   = \"boot\"",
+        "partition 1 \"boot\": refused 43: duplicate partition name \"boot\", the name of partition 0",
+    ),
+    (
+        "size   = 0x00E000",
+        "size   = 0x00E010",
+        "size   = 0x00E010",
+        "partition 2 \"calibration\": refused 46: size off the erase block: \
+         `size` is 0xe010; the erase block of spi-nor is 0x1000",
+    ),
+    (
+        "offset = 0x550000",
+        "offset = 0x54F000",
+        "offset = 0x54F000",
+        "partition 4 \"gobos\": refused 47: partition starts before the previous end: \
+         it starts at 0x54f000, partition 3 \"profiles\" ends at 0x550000",
+    ),
+    (
+        "partition = \" gobos ;mtd\"",
+        "partition = \" gobo ;mtd\"",
+        "partition = \" gobo ;mtd\"",
+        "component 3 \"gobo wheels\": refused 58: unknown partition \"gobo\"",
+    ),
+    (
+        "ram          = 0x3004_3000",
+        "",
+        "updater      = true",
+        "component 0 \"psram\": refused 56: updater without ram",
+    ),
+    (
+        "file      = \"blobs/env.bin\"",
+        "",
+        "[[component]]",
+        "component 2 \"env\": refused 54: neither package nor file",
+    ),
+    (
+        "name         = \"washes\"",
+        "name         = \"spots\"",
+        "name         = \"spots\"",
+        "application 6 \"profile-wash\": refused 65: duplicate application name \"spots\", \
+         the name of application 4 \"profile-spot\"",
+    ),
+    (
+        "partition = \"logs\"",
+        "partition = \"log\"",
+        "partition = \"log\"",
+        "application 0 \"lamp-log\": refused 64: unknown partition of an application: \"log\"",
+    ),
+];
+
+// The line that an edit's fault is told at: the edited one, or where it took something away, the nearest above that is
+// meant.
+fn line_told(text: &str, edited: usize, meant: &str) -> usize {
+    let above = text.lines().take(edited).enumerate();
+    let found = above.filter(|(_, line)| line.contains(meant)).last();
+    1 + found.expect("a line that is meant").0
+}
+
+#[test]
+fn check_leads_to_the_fault() {
+    let mut words = vec!["check".to_string()];
+    let mut want = String::new();
+    for (i, (from, to, meant, what)) in FAULTS.into_iter().enumerate() {
+        let text = STAGE.replacen(from, to, 1);
+        assert_ne!(text, STAGE, "{from}");
+        let file = written("faults", &format!("stage-{i}.toml"), &text);
+        let at = line_told(&text, line(STAGE, from), meant);
+        let shown = text.lines().nth(at - 1).expect("a line").trim_start();
+        want += &format!("{}:{at}: {what}\n    {shown}\n", word(&file));
+        words.push(word(&file).into());
+    }
+    let words: Vec<&str> = words.iter().map(String::as_str).collect();
+    let got = preset(&words);
+    assert_eq!(got.out, want);
+    assert_eq!(got.status, 1);
+    let explained = [12, 20, 22, 24, 43, 46, 47, 54, 56, 58, 64, 65];
+    let explained = explained.map(|n| format!("preset explain {n}")).join(", ");
+    let advice = format!("what it means and how it is mended: {explained}\n");
+    assert_eq!(got.err, advice);
+}
+
+// The worst counts, each file has its line, and only what cannot be read is told beside them.
+#[test]
+fn check_goes_on() {
+    let bad = written("mixed", "bad.toml", "x\n");
+    let (good, gone) = ("presets/example.toml", "presets/none.toml");
+    let refused = format!(
+        "{0}:1: refused 5: neither a header nor an assignment\n    x\n",
+        word(&bad)
+    );
+    let ok = preset(&["check", good]).out;
+    let got = preset(&["check", word(&bad), gone, good]);
+    assert_eq!((got.status, got.out), (2, format!("{refused}{ok}")));
+    let missing = "preset: presets/none.toml: cannot be read: No such file or directory";
+    assert!(got.err.starts_with(missing), "{}", got.err);
+    assert!(got.err.ends_with(&advice(5)), "{}", got.err);
+    let got = preset(&["check", good, word(&bad)]);
+    assert_eq!((got.status, got.out), (1, format!("{ok}{refused}")));
+}
+
+// Faults of the whole text have no line but for bytes that are no text.
+#[test]
+fn texts_that_are_none() {
+    let long = written("none", "long.toml", "#".repeat(32_769));
+    let got = preset(&["check", word(&long), "/dev/zero"]);
+    let too_long = "refused 1: text too long: more than 32768 bytes\n";
+    let lines = format!("{}: {too_long}/dev/zero: {too_long}", word(&long));
+    assert_eq!((got.status, got.out), (1, lines));
+    let full = written("none", "full.toml", "#".repeat(32_768));
+    let latin = written("none", "latin.toml", b"[board]\nname = \"caf\xe9\"\n");
+    let got = preset(&["check", word(&full), word(&latin)]);
+    let lines = format!(
+        "{}: partitions: refused 40: no partitions\n\
+         {}:2: refused 2: not UTF-8\n    name = \"caf\\xe9\"\n",
+        word(&full),
+        word(&latin)
+    );
+    assert_eq!((got.status, got.out), (1, lines));
+}
+
+#[test]
+fn what_cannot_be_read() {
+    let whys = [
+        ("presets", "cannot be read: it is a directory\n"),
+        (
+            "presets/none.toml",
+            "cannot be read: No such file or directory",
+        ),
+        ("presets/example.toml/x", "cannot be read: Not a directory"),
+    ];
+    for (file, why) in whys {
+        for order in ["check", "plan", "listing", "map"] {
+            let got = preset(&[order, file]);
+            assert_eq!((got.status, got.out.as_str()), (2, ""), "{order} {file}");
+            let want = format!("preset: {file}: {why}");
+            assert!(got.err.starts_with(&want), "{}", got.err);
+        }
+    }
+}
+
+#[test]
+fn bad_usage() {
+    let calls: [&[&str]; 9] = [
+        &[],
+        &["chek", "x"],
+        &["check"],
+        &["check", "--app", "desk", "presets/example.toml"],
+        &["plan", "presets/example.toml", "presets/tour-d21x.toml"],
+        &["plan", "presets/example.toml", "--app"],
+        &["listing"],
+        &["map", "--svg", "out.svg"],
+        &["explain"],
+    ];
+    for words in calls {
+        let got = preset(words);
+        assert_eq!((got.status, got.out.as_str()), (2, ""), "{words:?}");
+        assert!(got.err.starts_with("preset: "), "{words:?}: {}", got.err);
+        assert!(got.err.ends_with("preset --help says how it is called\n"));
+    }
+}
+
+#[test]
+fn help_and_version() {
+    let help = preset(&["--help"]);
+    assert_eq!((help.status, help.err.as_str()), (0, ""));
+    for order in ["check", "plan", "listing", "map", "explain"] {
+        assert!(help.out.contains(&format!("preset {order} ")), "{order}");
+    }
+    assert_eq!(preset(&["map", "--help"]), help);
+    assert_eq!(preset(&["--version"]), accepted("preset 0.1.0\n"));
+}
+
+const BOARD: &str =
+    "board \"example\": d13x, spi-nor, target riscv32imafc-unknown-none-elf, profile release\n";
+const FIRST: &str =
+    "\"first\": app, into \"boot\" at 0x0 (size 0x40000), from package \"loader\"\n";
+
+#[test]
+fn plans() {
+    let got = preset(&["plan", "presets/example.toml"]);
+    let chain = format!("{BOARD}component 0 {FIRST}build \"loader\"\nstem \"loader\"\n");
+    assert_eq!(got, accepted(chain));
+    let got = preset(&["plan", "presets/example.toml", "--app", "desk"]);
+    let desk = format!(
+        "{BOARD}component 0 \"desk\": app, into \"profiles\" at 0x40000 (size 0x100000), from package \"desk\"\n\
+         component 1 {FIRST}build \"loader\"\nbuild \"desk\", features pan tilt\nstem \"desk\"\n"
+    );
+    assert_eq!(got, accepted(desk));
+    let got = preset(&["plan", "presets/stage-d13x.toml"]);
+    let psram = "component 0 \"psram\": pbp, updater at 0x30043000, from package \"pbp-psram\"\n";
+    assert!(got.out.contains(psram), "{}", got.out);
+    assert!(
+        got.out.contains("from file \"blobs/env.bin\"\n"),
+        "{}",
+        got.out
+    );
+    assert!(
+        got.out.contains(", pbp from package \"pbp-common\"\n"),
+        "{}",
+        got.out
+    );
+}
+
+// Plans that are refused: nothing goes to standard output.
+#[test]
+fn plans_refused() {
+    let refused = |words: &[&str], told: String, number| {
+        let got = preset(words);
+        let err = told + &advice(number);
+        let want = Said {
+            status: 1,
+            out: String::new(),
+            err,
+        };
+        assert_eq!(got, want);
+    };
+    let words = ["plan", "presets/example.toml", "--app", "lamp"];
+    let what = "applications: refused 80: application not declared: \"lamp\"; declared: desk";
+    refused(&words, format!("presets/example.toml: {what}\n"), 80);
+    let text = EXAMPLE.replace("[apps.desk]", "[apps.desk]\nname = \"first\"");
+    let file = written("plans", "twice.toml", &text);
+    let at = 1 + line(&text, "[apps.desk]");
+    let what = "application 0 \"desk\": refused 81: application named like a component: \
+                \"first\", the name of component 0";
+    let told = format!("{}:{at}: {what}\n    name = \"first\"\n", word(&file));
+    refused(&["plan", word(&file), "--app=desk"], told, 81);
+    assert_eq!(preset(&["plan", word(&file)]).status, 0);
+    let file = written("plans", "open.toml", "a = [1,\n");
+    let told = format!(
+        "{}:1: refused 4: bracket or quote never closed\n    a = [1,\n",
+        word(&file)
+    );
+    refused(&["plan", word(&file)], told.clone(), 4);
+    refused(&["listing", word(&file)], told.clone(), 4);
+    refused(&["map", word(&file)], told, 4);
+}
+
+// The board's name is the file's stem where the text has none.
+#[test]
+fn boards_are_named_by_their_files() {
+    let file = written("named", "my.desk.toml", EXAMPLE);
+    let got = preset(&["plan", word(&file)]);
+    assert!(
+        got.out.starts_with("board \"my.desk\": d13x"),
+        "{}",
+        got.out
+    );
+    let got = said(command(&["plan", "-"]), EXAMPLE.as_bytes());
+    assert!(got.out.starts_with("board \"board\": d13x"), "{}", got.out);
+}
+
+// What the program `listing` prints of 01's example.
+#[test]
+fn listings() {
+    let (input, lines) = (
+        include_str!("../../../crates/listing/stdin"),
+        include_str!("../../../crates/listing/stdout"),
+    );
+    let got = said(command(&["listing", "-"]), input.as_bytes());
+    assert_eq!(got, accepted(lines));
+    assert_eq!(
+        preset(&["listing", "presets/example.toml"]),
+        accepted(lines)
+    );
+}
+
+#[test]
+fn explanations() {
+    let got = preset(&["explain", "58"]);
+    assert_eq!((got.status, got.err.as_str()), (0, ""));
+    assert!(
+        got.out.starts_with("58: unknown partition\n"),
+        "{}",
+        got.out
+    );
+    assert!(got.out.contains("\nMend: "), "{}", got.out);
+    for number in ["99", "0", "x", "-1", "58 "] {
+        let got = preset(&["explain", "--", number]);
+        assert_eq!((got.status, got.out.as_str()), (2, ""), "{number}");
+        let why = format!("preset: no refusal has the number \"{number}\"; there are 1 2 3 ");
+        assert!(got.err.starts_with(&why), "{}", got.err);
+    }
+}
+
+#[test]
+fn maps() {
+    let got = preset(&["map", "presets/stage-d13x.toml", "--app", "profile-spot"]);
+    assert_eq!((got.status, got.err.as_str()), (0, ""));
+    for part in [
+        "stage-d13x",
+        "calibration",
+        "gobo wheels",
+        "profile-spot",
+        "profile-wash",
+    ] {
+        assert!(got.out.contains(part), "{part} in {}", got.out);
+    }
+    let drawn = preset(&["map", "presets/stage-d13x.toml", "--svg", "-"]);
+    assert_eq!((drawn.status, drawn.err.as_str()), (0, ""));
+    assert!(drawn.out.starts_with("<svg") || drawn.out.starts_with("<?xml"));
+    let file = written("maps", "stage.svg", "");
+    let got = preset(&["map", "presets/stage-d13x.toml", "--svg", word(&file)]);
+    assert_eq!(got, accepted(""));
+    assert_eq!(fs::read_to_string(&file).expect("a drawing"), drawn.out);
+    let got = preset(&["map", "presets/stage-d13x.toml", "--svg", "presets"]);
+    assert_eq!((got.status, got.out.as_str()), (2, ""));
+    assert!(
+        got.err.starts_with("preset: presets: cannot be written: "),
+        "{}",
+        got.err
+    );
+}
+
+// The refusal beside the map, and the map wherever partitions can be read.
+#[test]
+fn maps_of_refused_presets() {
+    let overlap = STAGE.replace("offset = 0x550000", "offset = 0x54F000");
+    let wrong_kind = STAGE.replace("kind         = \"pbp\"", "kind         = \"bpb\"");
+    for (i, (text, number)) in [(overlap, 47), (wrong_kind, 22)].into_iter().enumerate() {
+        let file = written("marked", &format!("{i}.toml"), text);
+        let got = preset(&["map", word(&file)]);
+        assert_eq!(got.status, 1);
+        assert!(
+            got.err.contains(&format!("refused {number}: ")),
+            "{}",
+            got.err
+        );
+        assert!(got.out.contains("calibration"), "{}", got.out);
+        assert!(
+            got.out.contains(&format!("refused {number}: ")),
+            "{}",
+            got.out
+        );
+    }
+    let none = written("marked", "none.toml", "[board]\nchip = 1\n");
+    let got = preset(&["map", word(&none)]);
+    assert_eq!((got.status, got.out.as_str()), (1, ""));
+    let got = preset(&["map", "presets/example.toml", "--app", "lamp"]);
+    assert_eq!(got.status, 1);
+    assert!(got.err.contains("refused 80: "), "{}", got.err);
+}
+
+// Names and lines of a preset cannot play with the terminal.
+#[test]
+fn what_is_printed_is_escaped() {
+    let text = EXAMPLE.replace("boot;mtd", "\u{1b}[2J\u{202e}");
+    let got = said(command(&["check", "-"]), text.as_bytes());
+    let plain = "\\u{1b}[2J\\u{202e}";
+    let want = format!(
+        "-:15: component 0 \"first\": refused 58: unknown partition \"{plain}\"\n    partition = \"{plain}\"\n"
+    );
+    assert_eq!((got.status, got.out), (1, want));
+    for order in ["plan", "map", "check"] {
+        let text = EXAMPLE
+            .replace("\"boot", "\"\u{7}boot")
+            .replace("desk", "\"de\u{8}sk\"");
+        let got = said(command(&[order, "-"]), text.as_bytes());
+        assert_eq!(got.status, 0, "{}", got.err);
+        let played = |c: char| c.is_control() && c != '\n';
+        assert!(!got.out.contains(played), "{order}: {:?}", got.out);
+    }
+}
+
+// Who reads the results may stop; who cannot take them is told.
+#[test]
+fn where_results_go() {
+    let mut command = command(&["listing", "presets/example.toml"]);
+    command.stdout(Stdio::piped()).stderr(Stdio::piped());
+    let mut child = command.spawn().expect("it starts");
+    drop(child.stdout.take());
+    let told = child.wait_with_output().expect("it ends");
+    assert_eq!((told.status.code(), told.stderr), (Some(0), Vec::new()));
+    let full = fs::OpenOptions::new().write(true).open("/dev/full");
+    let mut command = self::command(&["listing", "presets/example.toml"]);
+    command
+        .stdout(full.expect("a full device"))
+        .stderr(Stdio::piped());
+    let told = command.output().expect("it ends");
+    assert_eq!(told.status.code(), Some(2));
+    assert!(told.stderr.starts_with(b"preset: standard output: "));
+}
