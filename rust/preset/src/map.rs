@@ -313,14 +313,15 @@ fn scaled(at: u64, end: u64, cells: usize) -> usize {
     usize::try_from((at * cells + end / 2) / end).unwrap_or(usize::MAX)
 }
 
-/// A size as people write it, exactly: in the largest unit that divides it.
+/// A size as people write it, exactly: in the largest unit of which it is whole quarters.
 pub fn size_words(size: u64) -> String {
     let units = [(30, "GiB"), (20, "MiB"), (10, "KiB")];
-    let whole = |(shift, _): &(u32, _)| size != 0 && size.trailing_zeros() >= *shift;
-    match units.into_iter().find(whole) {
-        Some((shift, unit)) => format!("{} {unit}", size >> shift),
-        None => format!("{size} B"),
-    }
+    let fits = |(shift, _): &(u32, _)| size >> shift > 0 && size.trailing_zeros() + 2 >= *shift;
+    let Some((shift, unit)) = units.into_iter().find(fits) else {
+        return format!("{size} B");
+    };
+    let quarters = ["", ".25", ".5", ".75"][(size >> (shift - 2)) as usize % 4];
+    format!("{}{quarters} {unit}", size >> shift)
 }
 
 // A name from a preset, fit to be shown: nothing that moves the cursor or turns text around is

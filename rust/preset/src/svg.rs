@@ -1,7 +1,8 @@
 //! The drawing as a self-contained SVG: the flash to scale on the left, and on the right a card
 //! for each stretch of it, tied to its place by a band.
 use crate::map::{Area, Drawing, LandKind, Row, bounds, clean, filled, name_of, size_words, width};
-use std::fmt::Write;
+use std::collections::BTreeMap;
+use std::iter::once;
 
 // Lengths are in pixels of the drawing's own scale.
 const WIDTH: f64 = 860.0;
@@ -13,7 +14,7 @@ const BETWEEN: f64 = 8.0;
 const INSET: f64 = 16.0;
 // The bar is never lower, and no stretch of it thinner.
 const BAR_LEAST: f64 = 260.0;
-const THIN: f64 = 2.0;
+const THIN: f64 = 3.0;
 const CHIP: f64 = 20.0;
 const LINE: f64 = 26.0;
 // A column of the even font that chips and places are set in, at 12 pixels.
@@ -28,21 +29,50 @@ const HUES: [&str; 6] = [
 const SANS: &str = "system-ui, -apple-system, Segoe UI, Roboto, Helvetica, Arial, sans-serif";
 const EVEN: &str = "ui-monospace, SFMono-Regular, Menlo, Consolas, DejaVu Sans Mono, monospace";
 
+// The look of what is unassigned.
+const HATCHED: &str = r##"<defs>
+<pattern id="preset-gap" width="8" height="8" patternUnits="userSpaceOnUse" patternTransform="rotate(45)">
+<rect width="8" height="8" fill="#f1f3f6"/>
+<line x1="0" y1="0" x2="0" y2="8" stroke="#b4bcc7" stroke-width="3"/>
+</pattern>
+</defs>"##;
+
 // The chips in the order in which they stand on a card.
 const KINDS: [LandKind; 3] = [LandKind::Component, LandKind::Chosen, LandKind::Application];
 
 /// The map as an SVG document.
 pub fn svg(drawing: &Drawing) -> String {
     let page = Page::of(drawing);
-    let mut out = String::new();
-    page.open(&mut out);
-    page.heading(&mut out);
-    page.cards.iter().for_each(|c| page.band(&mut out, c));
-    page.frame(&mut out);
-    page.cards.iter().for_each(|c| page.stretch(&mut out, c));
-    page.cards.iter().for_each(|c| page.card(&mut out, c));
-    page.foot(&mut out);
-    out + "</svg>\n"
+    let mut sheet = Sheet(String::new());
+    page.open(&mut sheet);
+    page.heading(&mut sheet);
+    page.cards.iter().for_each(|c| page.band(&mut sheet, c));
+    page.frame(&mut sheet);
+    page.cards.iter().for_each(|c| page.stretch(&mut sheet, c));
+    page.cards.iter().for_each(|c| page.card(&mut sheet, c));
+    page.foot(&mut sheet);
+    sheet.line("</svg>");
+    sheet.0
+}
+
+// What is written so far.
+struct Sheet(String);
+
+impl Sheet {
+    fn line(&mut self, line: &str) {
+        self.0.push_str(line);
+        self.0.push('\n');
+    }
+
+    fn rect(&mut self, [x, y, width, height]: [f64; 4], look: &str) {
+        let place = format!(r#"x="{x:.1}" y="{y:.1}" width="{width:.1}" height="{height:.1}""#);
+        self.line(&format!("<rect {place} {look}/>"));
+    }
+
+    fn text(&mut self, (x, y): (f64, f64), look: &str, words: &str) {
+        let (place, words) = (format!(r#"x="{x:.1}" y="{y:.1}""#), escaped(words));
+        self.line(&format!("<text {place} {look}>{words}</text>"));
+    }
 }
 
 // A stretch of the flash with the place of its card.
@@ -79,6 +109,7 @@ struct Page<'a> {
     drawing: &'a Drawing,
     told: Vec<String>,
     cards: Vec<Card>,
+    scale: Scale,
     top: f64,
     bar: f64,
 }
@@ -94,12 +125,14 @@ impl Page<'_> {
         let told = filled(words.map(|w| clean(w, 96)), 96);
         let needed: f64 = cards.iter().map(|c| c.height + BETWEEN).sum();
         let bar = (needed - BETWEEN).max(BAR_LEAST);
-        place(&mut cards, bar, drawing.end());
+        let scale = Scale::of(drawing, bar);
+        place(&mut cards, bar, &scale);
         let top = 92.0 + told.len() as f64 * 20.0;
         Page {
             drawing,
             told,
             cards,
+            scale,
             top,
             bar,
         }
@@ -112,82 +145,60 @@ impl Page<'_> {
         }
     }
 
-    fn open(&self, out: &mut String) {
+    fn open(&self, sheet: &mut Sheet) {
         let (high, title) = (self.top + self.bar + 50.0, escaped(&self.title()));
-        let each = self.cards.iter().map(Card::words);
-        let words = escaped(&each.collect::<Vec<_>>().join("; "));
-        put(
-            out,
-            format_args!(
-                r##"<svg xmlns="http://www.w3.org/2000/svg" viewBox="0 0 {WIDTH} {high}" width="{WIDTH}" height="{high}" role="img" font-family="{SANS}">
-<title>{title}</title>
-<desc>{words}</desc>
-<defs>
-<pattern id="preset-gap" width="8" height="8" patternUnits="userSpaceOnUse" patternTransform="rotate(45)">
-<rect width="8" height="8" fill="#f1f3f6"/>
-<line x1="0" y1="0" x2="0" y2="8" stroke="#b4bcc7" stroke-width="3"/>
-</pattern>
-</defs>
-<rect x="0.5" y="0.5" width="{}" height="{}" rx="10" fill="#ffffff" stroke="#d0d6de"/>"##,
-                WIDTH - 1.0,
-                high - 1.0
-            ),
-        );
+        let each: Vec<_> = self.cards.iter().map(Card::words).collect();
+        let size = format!(r#"viewBox="0 0 {WIDTH} {high}" width="{WIDTH}" height="{high}""#);
+        let name = r#"<svg xmlns="http://www.w3.org/2000/svg""#;
+        sheet.line(&format!(
+            r#"{name} {size} role="img" font-family="{SANS}">"#
+        ));
+        sheet.line(&format!("<title>{title}</title>"));
+        sheet.line(&format!("<desc>{}</desc>", escaped(&each.join("; "))));
+        sheet.line(HATCHED);
+        let look = r##"rx="10" fill="#ffffff" stroke="#d0d6de""##;
+        sheet.rect([0.5, 0.5, WIDTH - 1.0, high - 1.0], look);
     }
 
-    fn heading(&self, out: &mut String) {
+    fn heading(&self, sheet: &mut Sheet) {
         let bold = format!(r#"font-size="20" font-weight="700" fill="{INK}""#);
-        text(out, MARGIN, 44.0, &bold, &self.title());
+        sheet.text((MARGIN, 44.0), &bold, &self.title());
         let pale = format!(r#"font-size="13" fill="{PALE}""#);
         if !self.drawing.subtitle.is_empty() {
-            text(
-                out,
-                MARGIN,
-                66.0,
-                &pale,
-                &clean(&self.drawing.subtitle, 110),
-            );
+            let words = clean(&self.drawing.subtitle, 110);
+            sheet.text((MARGIN, 66.0), &pale, &words);
         }
         let red = format!(r#"font-size="13" font-weight="600" fill="{RED}""#);
         for (n, line) in self.told.iter().enumerate() {
-            text(out, MARGIN, 90.0 + n as f64 * 20.0, &red, line);
+            sheet.text((MARGIN, 90.0 + n as f64 * 20.0), &red, line);
         }
     }
 
     // Where a stretch lies in the bar: its upper edge and its height.
     fn extent(&self, card: &Card) -> (f64, f64) {
-        let end = self.drawing.end();
-        let (from, to) = (along(card.from, end), along(card.to, end));
-        let upper = (from * self.bar).min(self.bar - THIN);
-        let height = (to * self.bar - upper).max(THIN);
-        (self.top + upper, height)
+        let (from, to) = (self.scale.at(card.from), self.scale.at(card.to));
+        let upper = from.min(self.bar - THIN);
+        (self.top + upper, (to - upper).max(THIN))
     }
 
     // From the stretch of the bar to its card.
-    fn band(&self, out: &mut String, card: &Card) {
+    fn band(&self, sheet: &mut Sheet, card: &Card) {
         let ((y, height), hue) = (self.extent(card), card.hue);
         let (bar, upper) = (MARGIN + BAR, self.top + card.y);
         let (lower, foot) = (upper + card.height, y + height);
-        put(
-            out,
-            format_args!(
-                r#"<path d="M{bar} {y:.1} L{CARD} {upper:.1} L{CARD} {lower:.1} L{bar} {foot:.1} Z" fill="{hue}" fill-opacity="0.13"/>"#
-            ),
-        );
+        let left = format!("M{bar} {foot:.1} L{bar} {y:.1}");
+        let right = format!("L{CARD} {upper:.1} L{CARD} {lower:.1} Z");
+        let look = format!(r#"fill="{hue}" fill-opacity="0.13""#);
+        sheet.line(&format!(r#"<path d="{left} {right}" {look}/>"#));
     }
 
-    fn frame(&self, out: &mut String) {
+    fn frame(&self, sheet: &mut Sheet) {
         let (y, height) = (self.top - 1.0, self.bar + 2.0);
-        let (x, wide) = (MARGIN - 1.0, BAR + 2.0);
-        put(
-            out,
-            format_args!(
-                r##"<rect x="{x}" y="{y:.1}" width="{wide}" height="{height:.1}" fill="#f1f3f6" stroke="#8a95a3"/>"##
-            ),
-        );
+        let look = r##"fill="#f1f3f6" stroke="#8a95a3""##;
+        sheet.rect([MARGIN - 1.0, y, BAR + 2.0, height], look);
     }
 
-    fn stretch(&self, out: &mut String, card: &Card) {
+    fn stretch(&self, sheet: &mut Sheet, card: &Card) {
         let (y, height) = self.extent(card);
         let wide = BAR / card.lane.of as f64;
         let x = MARGIN + wide * card.lane.number as f64;
@@ -198,61 +209,48 @@ impl Page<'_> {
             _ if height > 6.0 && wide > 8.0 => format!(r##"fill="{}" stroke="#ffffff""##, card.hue),
             _ => format!(r#"fill="{}""#, card.hue),
         };
-        let words = escaped(&card.words());
-        put(
-            out,
-            format_args!(
-                r#"<rect x="{x:.1}" y="{y:.1}" width="{wide:.1}" height="{height:.1}" {look}><title>{words}</title></rect>"#
-            ),
-        );
+        sheet.line(&format!("<g><title>{}</title>", escaped(&card.words())));
+        sheet.rect([x, y, wide, height], &look);
+        sheet.line("</g>");
     }
 
-    fn card(&self, out: &mut String, card: &Card) {
-        let (y, height, hue) = (self.top + card.y, card.height, card.hue);
+    fn card(&self, sheet: &mut Sheet, card: &Card) {
+        let (y, height) = (self.top + card.y, card.height);
         let gap = matches!(card.row, Row::Gap(..));
         let look = match (gap, card.faulty) {
             (true, _) => r##"fill="#ffffff" stroke="#c3cad3" stroke-dasharray="2 3""##.into(),
             (_, true) => dashed(),
             _ => r##"fill="#f7f9fb" stroke="#d0d6de""##.to_string(),
         };
-        put(
-            out,
-            format_args!(
-                r#"<rect x="{CARD}" y="{y:.1}" width="{CARD_WIDTH}" height="{height:.1}" rx="5" {look}/>"#
-            ),
-        );
+        let look = format!(r#"rx="5" {look}"#);
+        sheet.rect([CARD, y, CARD_WIDTH, height], &look);
         if !gap {
-            put(
-                out,
-                format_args!(
-                    r#"<rect x="{CARD}" y="{y:.1}" width="5" height="{height:.1}" rx="2" fill="{hue}"/>"#
-                ),
-            );
+            let edge = format!(r#"rx="2" fill="{}""#, card.hue);
+            sheet.rect([CARD, y, 5.0, height], &edge);
         }
-        card.headline(out, y, self.drawing.end());
+        card.headline(sheet, y, self.drawing.end());
         if let Some(note) = &card.note {
             let red = format!(r#"font-size="12" font-weight="600" fill="{RED}""#);
-            text(out, CARD + INSET, y + 43.0, &red, note);
+            sheet.text((CARD + INSET, y + 43.0), &red, note);
         }
-        card.chips.iter().for_each(|c| c.draw(out, y));
+        card.chips.iter().for_each(|c| c.draw(sheet, y));
     }
 
     // What the bar is a scale of, and what the chips are, as far as there are any.
-    fn foot(&self, out: &mut String) {
+    fn foot(&self, sheet: &mut Sheet) {
         let (y, end) = (self.top + self.bar, self.drawing.end());
         let pale = format!(r#"font-size="12" fill="{PALE}""#);
-        let thin = |c: &Card| along(c.to - c.from, end) * self.bar < THIN;
-        let scale = match (self.cards.is_empty(), self.cards.iter().any(thin)) {
+        let scale = match (self.cards.is_empty(), self.scale.lifted) {
             (true, _) => "No partitions.".into(),
             (_, false) => format!("0 to 0x{end:X}, to scale."),
             (_, true) => format!("0 to 0x{end:X}, to scale; what is too thin to see is thicker."),
         };
-        text(out, MARGIN, y + 28.0, &pale, &scale);
+        sheet.text((MARGIN, y + 28.0), &pale, &scale);
         let mut right = CARD_WIDTH - INSET;
         for kind in KINDS.into_iter().rev().filter(|k| self.has(*k)) {
             let mut chip = Chip::of(kind, word(kind).into(), 0.0, 0.0);
             chip.x = right - chip.width;
-            chip.draw(out, y + 14.0);
+            chip.draw(sheet, y + 14.0);
             right = chip.x - BETWEEN;
         }
     }
@@ -302,19 +300,19 @@ impl Card {
     }
 
     // Its name, from where up to where it goes, and its size.
-    fn headline(&self, out: &mut String, y: f64, end: u64) {
+    fn headline(&self, sheet: &mut Sheet, y: f64, end: u64) {
         let (from, to, digits) = (self.from, self.to, format!("{end:X}").len().max(6));
+        let (y, right) = (y + 22.0, WIDTH - MARGIN - INSET);
         let name = match self.row {
             Row::Area(_) => format!(r#"font-size="15" font-weight="600" fill="{INK}""#),
             Row::Gap(..) => format!(r#"font-size="13" font-style="italic" fill="{PALE}""#),
         };
-        text(out, CARD + INSET, y + 22.0, &name, &self.name);
+        sheet.text((CARD + INSET, y), &name, &self.name);
         let even = format!(r#"font-size="12" font-family="{EVEN}" fill="{PALE}""#);
         let place = format!("0x{from:0digits$X} to 0x{to:0digits$X}");
-        text(out, CARD + 310.0, y + 22.0, &even, &place);
-        let size = format!(r#"font-size="13" font-weight="600" text-anchor="end" fill="{INK}""#);
-        let right = WIDTH - MARGIN - INSET;
-        text(out, right, y + 22.0, &size, &size_words(to - from));
+        sheet.text((CARD + 310.0, y), &even, &place);
+        let bold = format!(r#"font-size="13" font-weight="600" text-anchor="end" fill="{INK}""#);
+        sheet.text((right, y), &bold, &size_words(to - from));
     }
 }
 
@@ -330,21 +328,17 @@ impl Chip {
         }
     }
 
-    fn draw(&self, out: &mut String, y: f64) {
-        let (x, y, width) = (CARD + INSET + self.x, y + self.y, self.width);
+    fn draw(&self, sheet: &mut Sheet, y: f64) {
+        let (x, y) = (CARD + INSET + self.x, y + self.y);
         let (look, ink) = match self.kind {
             LandKind::Component => (r##"fill="#dfe7f0" stroke="#8fa0b3""##, INK),
             LandKind::Application => (r##"fill="#ffffff" stroke="#8fa0b3""##, INK),
             LandKind::Chosen => (r##"fill="#1f6f54" stroke="#1f6f54""##, "#ffffff"),
         };
-        put(
-            out,
-            format_args!(
-                r#"<rect x="{x:.1}" y="{y:.1}" width="{width:.1}" height="{CHIP}" rx="10" {look}/>"#
-            ),
-        );
+        let look = format!(r#"rx="10" {look}"#);
+        sheet.rect([x, y, self.width, CHIP], &look);
         let even = format!(r#"font-size="12" font-family="{EVEN}" fill="{ink}""#);
-        text(out, x + 9.0, y + 14.0, &even, &self.text);
+        sheet.text((x + 9.0, y + 14.0), &even, &self.text);
     }
 }
 
@@ -403,10 +397,10 @@ fn lanes(drawing: &Drawing, order: &[usize]) -> Vec<Lane> {
 }
 
 // Cards stand as near to the middle of their stretch as their neighbours let them.
-fn place(cards: &mut [Card], bar: f64, end: u64) {
+fn place(cards: &mut [Card], bar: f64, scale: &Scale) {
     let mut least = 0.0;
     for card in cards.iter_mut() {
-        let middle = (along(card.from, end) + along(card.to, end)) / 2.0 * bar;
+        let middle = (scale.at(card.from) + scale.at(card.to)) / 2.0;
         card.y = (middle - card.height / 2.0).max(least);
         least = card.y + card.height + BETWEEN;
     }
@@ -417,26 +411,46 @@ fn place(cards: &mut [Card], bar: f64, end: u64) {
     }
 }
 
-// A place of the flash as a part of the whole.
-fn along(at: u64, end: u64) -> f64 {
-    at as f64 / end.max(1) as f64
+// Where each edge of an area is in the bar, and whether anything is thicker there than it should be.
+struct Scale {
+    places: BTreeMap<u64, f64>,
+    lifted: bool,
+}
+
+impl Scale {
+    // What would be too thin to see is lifted, and all else shares the rest by its size.
+    fn of(drawing: &Drawing, bar: f64) -> Scale {
+        let each = drawing.areas.iter().flat_map(|a| [a.offset, a.end()]);
+        let mut edges: Vec<_> = once(0).chain(each).collect();
+        edges.sort_unstable();
+        edges.dedup();
+        let whole = drawing.end().max(1) as f64;
+        let share = |pair: &[u64]| (pair[1] - pair[0]) as f64 / whole;
+        let shares: Vec<_> = edges.windows(2).map(share).collect();
+        let thin = |share: &f64| share * bar < THIN;
+        let lifted = shares.iter().filter(|s| thin(s)).count();
+        let others: f64 = shares.iter().filter(|s| !thin(s)).sum();
+        let left = (bar - lifted as f64 * THIN).max(0.0) / others.max(f64::MIN_POSITIVE);
+        let mut y = 0.0;
+        let below = shares.iter().map(|s| {
+            y += if thin(s) { THIN } else { s * left };
+            y
+        });
+        let empty = drawing.areas.iter().any(|a| a.size == 0);
+        Scale {
+            places: edges.iter().copied().zip(once(0.0).chain(below)).collect(),
+            lifted: lifted > 0 || empty,
+        }
+    }
+
+    // Every edge has its place.
+    fn at(&self, edge: u64) -> f64 {
+        self.places.get(&edge).copied().unwrap_or(0.0)
+    }
 }
 
 fn dashed() -> String {
     format!(r##"fill="#fbe4e2" stroke="{RED}" stroke-width="1.5" stroke-dasharray="5 3""##)
-}
-
-fn put(out: &mut String, line: std::fmt::Arguments) {
-    // Writing to a string does not fail.
-    let _ = writeln!(out, "{line}");
-}
-
-fn text(out: &mut String, x: f64, y: f64, look: &str, words: &str) {
-    let words = escaped(words);
-    put(
-        out,
-        format_args!(r#"<text x="{x:.1}" y="{y:.1}" {look}>{words}</text>"#),
-    );
 }
 
 // Control characters are gone by now: XML could not write them.

@@ -153,7 +153,7 @@ fn the_example_in_a_terminal() {
 desk
 d13x, spi-nor
 
-   name      start     end          size   0                           1280 KiB
+   name      start     end          size   0                           1.25 MiB
    boot      0x000000  0x040000  256 KiB  [#######                             ]
              component: first
    profiles  0x040000  0x140000    1 MiB  [       #############################]
@@ -268,8 +268,13 @@ fn sizes_are_exact() {
     let words = [
         (0, "0 B"),
         (5000, "5000 B"),
+        (1023, "1023 B"),
         (1024, "1 KiB"),
-        (0x140000, "1280 KiB"),
+        (0x1200, "4.5 KiB"),
+        (0x1280, "4736 B"),
+        (0x42000, "264 KiB"),
+        (0x140000, "1.25 MiB"),
+        (0x1C0000, "1.75 MiB"),
         (0x500000, "5 MiB"),
         (0xFFFF_F000, "4194300 KiB"),
         (1 << 32, "4 GiB"),
@@ -383,7 +388,7 @@ fn every_svg_is_well_formed() {
         );
         assert_eq!((tags[1].0, tags[2].0), ("title", "desc"));
         let known = [
-            "svg", "title", "desc", "defs", "pattern", "rect", "line", "path", "text",
+            "svg", "title", "desc", "defs", "pattern", "rect", "line", "path", "g", "text",
         ];
         assert!(tags.iter().all(|(name, _)| known.contains(name)));
         assert!(!picture.contains("NaN") && !picture.contains("inf\""));
@@ -426,17 +431,15 @@ fn svg_names_everything() {
     assert!(svg(&Drawing::default()).contains(">No partitions.</text>"));
 }
 
-// The bar's part of an area, by its title.
+// The bar's part of an area: the line behind its title.
 fn stretch(picture: &str, name: &str) -> BTreeMap<String, f64> {
-    let title = format!("><title>{name}: ");
-    let line = picture
-        .lines()
-        .find(|l| l.contains(&title))
-        .expect("a stretch");
-    let tag = line.split_once('>').expect("a tag").0;
-    let all = pairs(tag.strip_prefix("<rect ").expect("a rect")).expect("attributes");
+    let title = format!("<g><title>{name}: ");
+    let mut lines = picture.lines().skip_while(|l| !l.starts_with(&title));
+    let tag = lines.nth(1).and_then(|l| l.strip_prefix("<rect "));
+    let tag = tag.and_then(|l| l.strip_suffix("/>")).expect("a rect");
+    let all = pairs(tag).expect("attributes");
     let lengths = ["x", "y", "width", "height"];
-    lengths.map(|name| (name.into(), number(&all, name))).into()
+    lengths.map(|n| (n.into(), number(&all, n))).into()
 }
 
 #[test]
@@ -449,10 +452,24 @@ fn the_bar_is_to_scale() {
     let (boot, profiles) = (stretch(&picture, "boot"), stretch(&picture, "profiles"));
     assert_eq!(boot["x"] + boot["width"], profiles["x"], "side by side");
     assert!(profiles["y"] < boot["y"] + boot["height"], "at one height");
-    assert!(
-        stretch(&picture, "spare")["height"] >= 2.0,
-        "a line at least"
-    );
+    let spare = stretch(&picture, "spare");
+    assert!(spare["height"] >= 3.0, "a line at least");
+}
+
+#[test]
+fn nothing_thin_is_hidden() {
+    let picture = svg(&thirty_two());
+    assert!(picture.contains("what is too thin to see is thicker"));
+    assert!(!svg(&example()).contains("thicker"));
+    let each = (0..32).map(|i| stretch(&picture, &format!("p{i}")));
+    let all: Vec<_> = each.collect();
+    for pair in all.windows(2) {
+        let seen = pair[1]["y"] - pair[0]["y"];
+        assert!(seen >= 2.9, "{pair:?}");
+        assert!((seen - pair[0]["height"]).abs() < 0.2, "{pair:?}");
+    }
+    let (large, half) = (all[31]["height"], all[30]["height"]);
+    assert!((large / half - 2.0).abs() < 0.01, "{large} and {half}");
 }
 
 // Names of cards stand below one another, and everything inside the picture.

@@ -12,7 +12,7 @@ const BOARD: &[u8] = b"board";
 
 // Fewer are a block that was skipped.
 const EXAMPLES: usize = 71;
-const MENDED: usize = 48;
+const MENDED: usize = 54;
 
 // 01's numbers.
 fn numbers() -> Vec<u32> {
@@ -156,6 +156,91 @@ fn every_mended_example_is_accepted() {
     }
 }
 
+// These have nothing to show: a text that is shorter, and memory that is lent.
+const NOT_MENDED: [u32; 4] = [1, 16, 17, 25];
+
+#[test]
+fn what_can_be_mended_is_shown() {
+    for entry in explain::entries() {
+        let shown = entry.mended.is_some();
+        assert_ne!(
+            shown,
+            NOT_MENDED.contains(&entry.number),
+            "{}",
+            entry.number
+        );
+    }
+}
+
+// What entries say besides their examples: lines behind a sound preset, `/` between two of them,
+// and the answer.
+const BESIDES: [(&str, u32); 23] = [
+    ("", 0),
+    (r##"features = ["pan" # ]"##, 4),
+    ("\u{feff}[board]", 5),
+    (r#"name = """boot""""#, 10),
+    ("name = 'boot'", 12),
+    ("ram = {}", 12),
+    ("ext_reserve = 1_024", 0),
+    ("[component.spare] / [[component]]", 13),
+    (r#"[[partition]] / name = "late" / ofset = 0x1000"#, 24),
+    (
+        r#"features = "a a a a a a a a a a a a a a a a a a a a a a a a a a a a a a a a a""#,
+        25,
+    ),
+    (
+        r#"[board] / chip = "d13x" / [image] / platform = "desk""#,
+        31,
+    ),
+    (r#"[image] / app = "ééééééééééééééééé""#, 33),
+    (r#"[board] / target = "riscv32-riscv64""#, 0),
+    (r#"file = """#, 53),
+    (r#"partition = " boot ;mtd""#, 0),
+    (r#"partition = "Boot""#, 58),
+    (
+        r#"pbp_package = "p" / [[component]] / name = "b" / package = "p" / partition = "boot""#,
+        0,
+    ),
+    (
+        r#"features = "f" / pbp_package = "p" / [apps.p] / partition = "boot""#,
+        60,
+    ),
+    (
+        r#"features = "f g f" / [apps.loader] / partition = "boot" / features = ["g", "f"]"#,
+        0,
+    ),
+    (
+        r#"features = "f" / pbp_features = "g" / pbp_package = "loader" / [[component]] / name = "b" / package = "loader" / partition = "boot" / features = "g""#,
+        0,
+    ),
+    (r#"[apps.desk] / name = "loader" / partition = "boot""#, 0),
+    (r#"[apps.desk] / partition = " boot""#, 64),
+    (
+        r#"updater = true / ram = 0 / partition = "" / [apps.desk] / partition = "boot""#,
+        70,
+    ),
+];
+
+#[test]
+fn what_entries_say_besides_is_so() {
+    let sound = explain::entry(58).and_then(|e| e.mended).expect("a preset");
+    let (mut store, mut tree) = (vec![0; STORE_MIN], vec![0; TREE_MIN]);
+    for (lines, number) in BESIDES {
+        let text = format!("{sound}{}\n", lines.replace(" / ", "\n"));
+        let got = records::validate(text.as_bytes(), BOARD, &mut store, &mut tree);
+        assert_eq!(got.number, number, "{lines}");
+    }
+}
+
+// 16's entry counts the values of two lists.
+#[test]
+fn a_list_in_one_string_is_one_value() {
+    let (mut store, mut tree) = (vec![0; STORE_MIN], vec![0; TREE_MIN]);
+    let mut made = |text: &str| document::read(text.as_bytes(), &mut store, &mut tree).made;
+    assert_eq!(made("features = \"pan tilt zoom\""), 1);
+    assert_eq!(made("features = [\"pan\", \"tilt\", \"zoom\"]"), 4);
+}
+
 #[test]
 fn every_number_has_its_entry() {
     let entries = explain::entries();
@@ -190,14 +275,9 @@ fn nothing_of_the_document_is_lost() {
 fn the_words_are_few() {
     let entries = explain::entries();
     for Entry { number, words, .. } in &entries {
-        assert!(
-            (4..=60).contains(&words.chars().count()),
-            "{number}: {words}"
-        );
-        assert!(
-            !words.contains(['.', '`', '\n']) || *number == 13,
-            "{number}: {words}"
-        );
+        let long = words.chars().count();
+        let marks = words.ends_with('.') || words.contains(['`', '\n']);
+        assert!((4..=60).contains(&long) && !marks, "{number}: {words}");
     }
     let apart: BTreeSet<_> = entries.iter().map(|e| e.words).collect();
     assert_eq!(
@@ -205,6 +285,29 @@ fn the_words_are_few() {
         entries.len(),
         "two numbers have the same words"
     );
+}
+
+// The place in words is the one in numbers.
+#[test]
+fn places_are_named() {
+    for (number, example) in examples() {
+        let [_, section, place] = told(number, &example).refusal;
+        let words = example.told.split_once(" (").expect("words").1;
+        let named = match (section, place) {
+            (0, 0) => "no line".into(),
+            (0, line) => format!("line {line}"),
+            (1, _) => "the board".into(),
+            (2, _) => "the image".into(),
+            (3, _) => "partition".into(),
+            (4, _) => "component".into(),
+            _ => "application".into(),
+        };
+        assert!(words.contains(&named), "{number}: {words} has no {named}");
+        for (n, ordinal) in ["the first", "the second", "the third"].iter().enumerate() {
+            let right = !words.contains(ordinal) || place == n as u32;
+            assert!(right, "{number}: {words} and {place}");
+        }
+    }
 }
 
 // The document's chapter without its marks.
