@@ -1,4 +1,11 @@
 //! docs/REFUSALS.md cut into its entries: what a refusal means, how it is shown, how it is mended.
+//!
+//! ```
+//! let entry = preset::explain::entry(58).unwrap();
+//! assert_eq!(entry.words, "unknown partition");
+//! assert!(entry.preset.contains("partition = \"bot\""));
+//! assert!(entry.to_string().contains("Told: `refused 58 4 0`"));
+//! ```
 use std::fmt;
 
 const PAPER: &str = include_str!("../../../docs/REFUSALS.md");
@@ -15,16 +22,20 @@ pub struct Example {
     pub told: &'static str,
 }
 
-/// What the document says of a number; `preset` and `told` are those of its first example.
+/// What the document says of a number; it shows itself as `preset explain` prints it.
 #[derive(Clone, Debug, PartialEq, Eq)]
 pub struct Entry {
     pub number: u32,
+    /// What messages call it.
     pub words: &'static str,
     pub meaning: &'static str,
+    /// The first example's.
     pub preset: &'static str,
+    /// The first example's.
     pub told: &'static str,
     pub mending: &'static str,
     pub examples: Vec<Example>,
+    /// The first example put right.
     pub mended: Option<&'static str>,
 }
 

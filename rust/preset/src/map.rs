@@ -1,4 +1,21 @@
 //! The flash as a drawing, and the drawing as plain text for a terminal.
+//!
+//! ```
+//! use preset::map::{Area, Drawing};
+//!
+//! let boot = Area { name: "boot".into(), size: 0x1000, ..Area::default() };
+//! let spare = Area { name: "spare".into(), offset: 0x3000, size: 0x1000, ..Area::default() };
+//! let areas = vec![boot, spare];
+//! let drawing = Drawing { title: "desk".into(), areas, ..Drawing::default() };
+//! assert_eq!(drawing.terminal(), "\
+//! desk
+//!
+//!    name          start     end        size   0                           16 KiB
+//!    boot          0x000000  0x001000  4 KiB  [#########                         ]
+//!    (unassigned)  0x001000  0x003000  8 KiB  [         .................        ]
+//!    spare         0x003000  0x004000  4 KiB  [                          ########]
+//! ");
+//! ```
 use std::iter::once;
 
 /// What a map shows: the areas in the order of the preset's partitions.

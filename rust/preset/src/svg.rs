@@ -40,7 +40,7 @@ const HATCHED: &str = r##"<defs>
 // The chips in the order in which they stand on a card.
 const KINDS: [LandKind; 3] = [LandKind::Component, LandKind::Chosen, LandKind::Application];
 
-/// The map as an SVG document.
+/// The map as an SVG document; it needs no other file and runs nothing.
 pub fn svg(drawing: &Drawing) -> String {
     let page = Page::of(drawing);
     let mut sheet = Sheet(String::new());

@@ -317,8 +317,10 @@ fn nasty_names_are_shown_and_cut() {
     }
 }
 
+type Tag<'a> = (&'a str, BTreeMap<&'a str, &'a str>);
+
 // The tags of a document, each with its attributes; where it is not well-formed, why.
-fn tags(xml: &str) -> Result<Vec<(&str, BTreeMap<&str, &str>)>, String> {
+fn tags(xml: &str) -> Result<Vec<Tag<'_>>, String> {
     let (mut open, mut out, mut rest) = (Vec::new(), Vec::new(), xml);
     while let Some((words, tail)) = rest.split_once('<') {
         plain(words)?;
