@@ -165,9 +165,9 @@ fn word(tree: &Tree, section: Section) -> &'static str {
     match section {
         Section::Board => "chip",
         Section::Image => {
-            let chosen = of(Section::Board, "chip").is_none();
+            let chipless = of(Section::Board, "chip").is_none();
             let platform = of(Section::Image, "platform").filter(unknown);
-            match chosen && platform.is_some() {
+            match chipless && platform.is_some() {
                 true => "platform",
                 false => "media",
             }

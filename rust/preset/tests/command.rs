@@ -441,6 +441,12 @@ fn maps() {
         "{}",
         got.err
     );
+    let file = written("maps", "own.toml", EXAMPLE);
+    let got = preset(&["map", word(&file), "--svg", word(&file)]);
+    assert_eq!((got.status, got.out.as_str()), (2, ""));
+    let why = ": is the preset itself, and is not overwritten\n";
+    assert!(got.err.ends_with(why), "{}", got.err);
+    assert_eq!(fs::read_to_string(&file).expect("it"), EXAMPLE);
 }
 
 // The refusal beside the map, and the map wherever partitions can be read.
@@ -510,4 +516,38 @@ fn where_results_go() {
     let told = command.output().expect("it ends");
     assert_eq!(told.status.code(), Some(2));
     assert!(told.stderr.starts_with(b"preset: standard output: "));
+}
+
+// The README's terminal: its commands in a shell print what it shows.
+#[test]
+fn the_readme_is_true() {
+    let readme = include_str!("../../../README.md");
+    let from = readme
+        .lines()
+        .skip_while(|line| !line.starts_with("    $ "));
+    let shown = from.map_while(|line| line.strip_prefix("    "));
+    let shown: Vec<&str> = shown.collect();
+    let folder = written("readme", "none", "").with_file_name("presets");
+    fs::create_dir_all(&folder).expect("target/ can be written");
+    fs::write(folder.join("stage-d13x.toml"), STAGE).expect("target/ can be written");
+    let runner = std::env::var("CARGO_TARGET_X86_64_UNKNOWN_LINUX_GNU_RUNNER");
+    let program = format!(
+        "{} {}",
+        runner.unwrap_or_default(),
+        env!("CARGO_BIN_EXE_preset")
+    );
+    let mut got = Vec::new();
+    for line in shown.iter().filter_map(|line| line.strip_prefix("$ ")) {
+        let mut shell = Command::new("sh");
+        let own = line.replace("./preset", "$PROGRAM");
+        shell.args(["-c", &format!("exec 2>&1; {own}")]);
+        shell
+            .env("PROGRAM", &program)
+            .current_dir(folder.with_file_name(""));
+        let told = said(shell, b"").out;
+        got.push(format!("$ {line}"));
+        got.extend(told.lines().map(String::from));
+    }
+    assert_eq!(shown.len(), 10);
+    assert_eq!(got, shown);
 }

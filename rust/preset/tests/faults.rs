@@ -313,6 +313,15 @@ fn odd_lists() {
         at("[[partition]]\nname = 1\nname = \"x\"\noffset = 0\noffset = \"0\""),
         (20, Some(5), "partition 0 \"x\"".into())
     );
+}
+
+#[test]
+fn long_and_plural_lists() {
+    let at = |text: &str| {
+        let fault = fault(text.as_bytes());
+        let entry = fault.entry.expect("an entry");
+        (fault.refusal.number, fault.line, entry)
+    };
     // plural where there is no singular
     assert_eq!(
         at("[[partitions]]\nname = 1\n"),

@@ -317,3 +317,25 @@ fn lent_names() {
     let listing = Preset::listing(PRESETS[0].as_bytes(), &[b'x'; 70_000]);
     assert!(listing.expect("lines").ends_with(b"stem loader\n"));
 }
+
+// All that is unsafe is in the port, where each block has its reason right above it.
+#[test]
+fn unsafe_blocks_say_why() {
+    let here = std::path::Path::new(env!("CARGO_MANIFEST_DIR"));
+    let mut met = 0;
+    for file in std::fs::read_dir(here.join("../port/src")).expect("the port") {
+        let path = file.expect("a file").path();
+        let text = std::fs::read_to_string(&path).expect("a text");
+        let lines: Vec<&str> = text.lines().map(str::trim).collect();
+        for at in (0..lines.len()).filter(|at| lines[*at].contains("unsafe {")) {
+            let above = lines[..at].iter().rev();
+            let reason: Vec<_> = above.take_while(|line| line.starts_with("//")).collect();
+            let said = reason
+                .last()
+                .is_some_and(|line| line.starts_with("// SAFETY: "));
+            assert!(said, "{}:{}", path.display(), at + 1);
+            met += 1;
+        }
+    }
+    assert!(met > 30, "{met}");
+}

@@ -27,11 +27,8 @@ pub enum Command {
 }
 
 /// What is asked for, or what is wrong with the words.
-pub fn parse(words: impl Iterator<Item = OsString>) -> Result<Command, String> {
-    let mut words = words.peekable();
-    let Some(first) = words.next() else {
-        return Err("no command".into());
-    };
+pub fn parse(mut words: impl Iterator<Item = OsString>) -> Result<Command, String> {
+    let first = words.next().ok_or("no command")?;
     let options: &[&str] = match first.to_str() {
         Some("-h" | "--help" | "help") => return Ok(Command::Help),
         Some("-V" | "--version") => return Ok(Command::Version),
@@ -40,15 +37,17 @@ pub fn parse(words: impl Iterator<Item = OsString>) -> Result<Command, String> {
         Some("map") => &["--app", "--svg"],
         _ => return Err(format!("no command {}", name(&first))),
     };
-    let Some(mut sorted) = sort(words, options)? else {
-        return Ok(Command::Help);
-    };
-    let command = first.to_str().unwrap_or_default();
+    match sort(words, options)? {
+        Some(sorted) => asked(first.to_str().unwrap_or_default(), sorted),
+        None => Ok(Command::Help),
+    }
+}
+
+fn asked(command: &str, mut sorted: Sorted) -> Result<Command, String> {
     let app = sorted.app.take().map(key).transpose()?;
     match command {
-        "check" if sorted.files.is_empty() => Err("check: no file is named".into()),
         "check" => Ok(Command::Check {
-            files: once_from_input(sorted.files)?,
+            files: several(sorted.files)?,
         }),
         "explain" => Ok(Command::Explain {
             number: sorted.one(command, "number")?,
@@ -133,9 +132,10 @@ fn key(word: OsString) -> Result<String, String> {
         .map_err(|word| format!("--app: {} is not UTF-8", name(&word)))
 }
 
-// Standard input has one text.
-fn once_from_input(files: Vec<OsString>) -> Result<Vec<OsString>, String> {
+// At least one; standard input has one text.
+fn several(files: Vec<OsString>) -> Result<Vec<OsString>, String> {
     match files.iter().filter(|file| *file == "-").count() {
+        _ if files.is_empty() => Err("check: no file is named".into()),
         0 | 1 => Ok(files),
         _ => Err("check: `-` stands there twice".into()),
     }

@@ -7,6 +7,12 @@ use preset::{Fault, Preset, Refusal, Selection, picture, shown, svg};
 use std::ffi::{OsStr, OsString};
 
 pub fn map(file: &OsStr, app: Option<String>, out: Option<OsString>) -> Answer {
+    if let Some(out) = out.as_ref().filter(|out| same(file, out)) {
+        let out = shown::plain(&out.to_string_lossy());
+        return Answer::failed(format!(
+            "{out}: is the preset itself, and is not overwritten"
+        ));
+    }
     let input = match input::read(file) {
         Ok(input) => input,
         Err(why) => return Answer::failed(why),
@@ -23,6 +29,12 @@ pub fn map(file: &OsStr, app: Option<String>, out: Option<OsString>) -> Answer {
             answer
         }
     }
+}
+
+// Whether both name one file that is there; `-` is none.
+fn same(file: &OsStr, out: &OsStr) -> bool {
+    let (from, to) = (std::fs::canonicalize(file), std::fs::canonicalize(out));
+    file != "-" && out != "-" && from.is_ok() && from.ok() == to.ok()
 }
 
 // A chosen application is planned, so that 80 and 81 are told too.
