@@ -25,7 +25,7 @@ fn printable(text: &str) -> bool {
 }
 
 // Without the lines from the one that is told on, this fault is not there: it is told with other words, or is another;
-// unless the same line stands there twice.
+// unless a key is written twice, where the newest value is told and an older one is as wrong.
 fn matters(text: &[u8], fault: &Fault) -> bool {
     // an empty list or reference is told as none is
     let Some(line) = fault
@@ -35,13 +35,16 @@ fn matters(text: &[u8], fault: &Fault) -> bool {
         return true;
     };
     let text = before(text, line);
-    let other = asked(text).map(|refusal| Fault::find(text, refusal, Some(KEY)));
+    let Some(refusal) = asked(text) else {
+        return true;
+    };
+    let other = Fault::find(text, refusal, Some(KEY));
     let said = |f: &Fault| (f.refusal, f.entry.clone(), f.detail.clone());
-    let gone = other.is_none_or(|other| said(&other) != said(fault));
-    let twice = text.split(|b| *b == b'\n').map(String::from_utf8_lossy);
-    gone || twice
-        .into_iter()
-        .any(|line| Some(line.trim()) == fault.text.as_deref().map(str::trim))
+    said(&other) != said(fault) || key(&other).is_some_and(|own| Some(own) == key(fault))
+}
+
+fn key(fault: &Fault) -> Option<&str> {
+    Some(fault.text.as_deref()?.split_once('=')?.0.trim())
 }
 
 #[test]
