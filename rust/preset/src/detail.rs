@@ -128,10 +128,10 @@ fn of_partition(preset: &Preset, tree: &Tree, number: u32, place: usize) -> Opti
             preset.board.chip.erase_size(),
         );
         let media = media.name();
-        format!("`{what}` is {n:#x}; the erase block of {media} is {block:#x}")
+        format!("`{what}` is {n:#X}; the erase block of {media} is {block:#X}")
     };
     match number {
-        41 => Some(format!("`offset` is {offset:#x}")),
+        41 => Some(format!("`offset` is {offset:#X}")),
         43 => {
             let earlier = partitions.iter().position(|p| p.name == own.name)?;
             Some(twin(tree, Section::Partition, &own.name, earlier))
@@ -143,10 +143,10 @@ fn of_partition(preset: &Preset, tree: &Tree, number: u32, place: usize) -> Opti
             let end = end(partitions.get(before)?);
             let before = called(tree, Section::Partition, before);
             Some(format!(
-                "it starts at {offset:#x}, {before} ends at {end:#x}"
+                "it starts at {offset:#X}, {before} ends at {end:#X}"
             ))
         }
-        48 => Some(format!("it ends at {:#x}", end(own))),
+        48 => Some(format!("it ends at {:#X}", end(own))),
         _ => None,
     }
 }
@@ -178,7 +178,7 @@ fn of_component(preset: &Preset, tree: &Tree, refusal: &Refusal, place: usize) -
         }
         52 => Some(long(&own.name)),
         58 => Some(quoted(PartitionSpec::name_of(&own.partition))),
-        59 => Some(format!("`ext_reserve` is {:#x}", own.ext_reserve)),
+        59 => Some(format!("`ext_reserve` is {:#X}", own.ext_reserve)),
         60 => clash::of(preset, refusal).map(|clash| clash.said(tree)),
         _ => None,
     }
@@ -202,7 +202,7 @@ fn of_application(
             let earlier = preset.apps.values().position(|a| a.name == own.name)?;
             Some(twin(tree, Section::Application, &own.name, earlier))
         }
-        66 => Some(format!("`load_address` is {:#x}", own.load_address?)),
+        66 => Some(format!("`load_address` is {:#X}", own.load_address?)),
         81 => {
             let component = preset.components.iter().position(|c| c.name == own.name)?;
             Some(twin(tree, Section::Component, &own.name, component))

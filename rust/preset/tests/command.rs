@@ -138,14 +138,14 @@ const FAULTS: [(&str, &str, &str, &str); 12] = [
         "size   = 0x00E010",
         "size   = 0x00E010",
         "partition 2 \"calibration\": refused 46: size off the erase block: \
-         `size` is 0xe010; the erase block of spi-nor is 0x1000",
+         `size` is 0xE010; the erase block of spi-nor is 0x1000",
     ),
     (
         "offset = 0x550000",
         "offset = 0x54F000",
         "offset = 0x54F000",
         "partition 4 \"gobos\": refused 47: partition starts before the previous end: \
-         it starts at 0x54f000, partition 3 \"profiles\" ends at 0x550000",
+         it starts at 0x54F000, partition 3 \"profiles\" ends at 0x550000",
     ),
     (
         "partition = \" gobos ;mtd\"",

@@ -54,12 +54,12 @@ fn component(i: usize, planned: &PlannedComponent) -> String {
     if let Some(partition) = &planned.partition {
         let (offset, size) = (partition.offset, partition.size);
         let name = quoted(&partition.name);
-        out += &format!(", into {name} at {offset:#x} (size {size:#x})");
+        out += &format!(", into {name} at {offset:#X} (size {size:#X})");
     }
     if spec.updater {
         let at = spec
             .ram
-            .map_or(String::new(), |ram| format!(" at {ram:#x}"));
+            .map_or(String::new(), |ram| format!(" at {ram:#X}"));
         out += &format!(", updater{at}");
     }
     out += &format!(", from {}", source(&planned.source));
