@@ -56,6 +56,11 @@ pub use schema::*;
 use rooms::{Held, promised};
 use std::path::Path;
 
+// What the document on migration shows is compiled.
+#[cfg(doctest)]
+#[doc = include_str!("../../../docs/MIGRATION.md")]
+struct Migration;
+
 /// The board's name where the text has none: the stem of the preset's file, as in the original.
 ///
 /// ```

@@ -223,7 +223,7 @@ fn check_goes_on() {
     let ok = preset(&["check", good]).out;
     let got = preset(&["check", word(&bad), gone, good]);
     assert_eq!((got.status, got.out), (2, format!("{refused}{ok}")));
-    let missing = "preset: presets/none.toml: cannot be read: No such file or directory";
+    let missing = "preset: presets/none.toml: cannot be read: there is no such file";
     assert!(got.err.starts_with(missing), "{}", got.err);
     assert!(got.err.ends_with(&advice(5)), "{}", got.err);
     let got = preset(&["check", good, word(&bad)]);
@@ -254,10 +254,7 @@ fn texts_that_are_none() {
 fn what_cannot_be_read() {
     let whys = [
         ("presets", "cannot be read: it is a directory\n"),
-        (
-            "presets/none.toml",
-            "cannot be read: No such file or directory",
-        ),
+        ("presets/none.toml", "cannot be read: there is no such file"),
         ("presets/example.toml/x", "cannot be read: Not a directory"),
     ];
     for (file, why) in whys {

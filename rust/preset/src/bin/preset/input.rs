@@ -2,7 +2,7 @@
 use preset::{TEXT_MAX, board_name, shown};
 use std::ffi::OsStr;
 use std::fs::File;
-use std::io::{Read, stdin};
+use std::io::{Error, ErrorKind, Read, stdin};
 use std::path::Path;
 
 pub struct Input {
@@ -34,10 +34,18 @@ pub fn read(file: &OsStr) -> Result<Input, String> {
 }
 
 fn opened(path: &Path) -> Result<Vec<u8>, String> {
-    let file = File::open(path).map_err(|why| why.to_string())?;
+    let file = File::open(path).map_err(|why| said(&why))?;
     match file.metadata() {
         Ok(what) if what.is_dir() => Err("it is a directory".into()),
         _ => limited(file),
+    }
+}
+
+fn said(why: &Error) -> String {
+    match why.kind() {
+        ErrorKind::NotFound => "there is no such file".into(),
+        ErrorKind::PermissionDenied => "permission is denied".into(),
+        _ => why.to_string(),
     }
 }
 
@@ -45,6 +53,6 @@ fn opened(path: &Path) -> Result<Vec<u8>, String> {
 fn limited(from: impl Read) -> Result<Vec<u8>, String> {
     let mut text = Vec::new();
     let read = from.take(TEXT_MAX as u64 + 1).read_to_end(&mut text);
-    read.map_err(|why| why.to_string())?;
+    read.map_err(|why| said(&why))?;
     Ok(text)
 }
