@@ -1,8 +1,8 @@
 //! Which field of an entry a refusal means: fields are read in 01's order and the first fault is told, so it is the
 //! first field in that order with that fault.
 use crate::refusal::{Refusal, Section};
+use crate::schema::{Chip, ComponentKind, Media};
 use crate::tree::{Kind, Tree};
-use crate::{Chip, schema};
 
 /// What a field has to be.
 #[derive(Clone, Copy, Debug, PartialEq, Eq)]
@@ -161,7 +161,7 @@ fn in_range(tree: &Tree, value: usize) -> bool {
 // Which of the words 22 means. Without a chip the platform is asked for one, before the media.
 fn word(tree: &Tree, section: Section) -> &'static str {
     let of = |section, key| tree.text(tree.field(tree.whole(section)?, key)?);
-    let unknown = |word: &String| Chip::ALL.iter().all(|chip| chip.name() != word);
+    let unknown = |word: &String| Chip::parse(word).is_none();
     match section {
         Section::Board => "chip",
         Section::Image => {
@@ -179,8 +179,8 @@ fn word(tree: &Tree, section: Section) -> &'static str {
 /// The words that a field of 22 may have.
 pub(crate) fn choices(key: &str) -> String {
     let words: Vec<&str> = match key {
-        "media" => vec![schema::Media::SpiNor.name(), schema::Media::SpiNand.name()],
-        "kind" => vec!["app", "pbp", "raw"],
+        "media" => Media::ALL.map(Media::name).into(),
+        "kind" => ComponentKind::ALL.map(ComponentKind::name).into(),
         _ => Chip::ALL.map(Chip::name).into(),
     };
     words.join(", ")

@@ -22,6 +22,11 @@ impl Chip {
     /// Every chip.
     pub const ALL: [Self; 2] = [Self::D13x, Self::D21x];
 
+    /// The chip that a word stands for.
+    pub fn parse(value: &str) -> Option<Self> {
+        Self::ALL.into_iter().find(|chip| chip.name() == value)
+    }
+
     /// The word that presets have for it.
     pub fn name(self) -> &'static str {
         match self {
@@ -60,6 +65,14 @@ pub enum Media {
 }
 
 impl Media {
+    /// Every media.
+    pub const ALL: [Self; 2] = [Self::SpiNor, Self::SpiNand];
+
+    /// The media that a word stands for.
+    pub fn parse(value: &str) -> Option<Self> {
+        Self::ALL.into_iter().find(|media| media.name() == value)
+    }
+
     /// The word that presets have for it.
     pub fn name(self) -> &'static str {
         match self {
@@ -86,6 +99,14 @@ pub enum ComponentKind {
 }
 
 impl ComponentKind {
+    /// Every kind.
+    pub const ALL: [Self; 3] = [Self::App, Self::Pbp, Self::Raw];
+
+    /// The kind that a word stands for.
+    pub fn parse(value: &str) -> Option<Self> {
+        Self::ALL.into_iter().find(|kind| kind.name() == value)
+    }
+
     /// The word that presets have for it.
     pub fn name(self) -> &'static str {
         match self {

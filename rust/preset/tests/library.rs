@@ -229,7 +229,10 @@ fn words_are_the_librarys() {
         assert_eq!(preset.image.media, chip.default_media());
         blocks(chip);
     }
-    for kind in [ComponentKind::App, ComponentKind::Pbp, ComponentKind::Raw] {
+    assert_eq!(Chip::parse("d13x"), Some(Chip::D13x));
+    assert_eq!(Media::parse("spi-nand"), Some(Media::SpiNand));
+    assert_eq!(ComponentKind::parse("App"), None);
+    for kind in ComponentKind::ALL {
         let text = format!("[[component]]\nname = \"x\"\nkind = \"{}\"\n", kind.name());
         let preset = Preset::read(text.as_bytes(), b"").expect("records");
         assert_eq!(preset.components[0].kind, kind);
