@@ -548,3 +548,11 @@ fn the_readme_is_true() {
     assert_eq!(shown.len(), 10);
     assert_eq!(got, shown);
 }
+
+// And its picture is what the command draws.
+#[test]
+fn the_readmes_picture_is_true() {
+    let from = "presets/stage-d13x.toml";
+    let got = preset(&["map", from, "--app", "profile-spot", "--svg", "-"]);
+    assert_eq!(got, accepted(include_str!("../../../docs/map.svg")));
+}
