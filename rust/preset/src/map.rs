@@ -195,8 +195,9 @@ impl Columns {
             let (from, to) = bounds(drawing, row);
             size_words(to - from).len()
         });
-        let name = names.max().unwrap_or(0);
-        let size = sizes.max().unwrap_or(0);
+        // What stands above a column has four letters, and names may have fewer.
+        let name = names.max().unwrap_or(0).max(4);
+        let size = sizes.max().unwrap_or(0).max(4);
         let digits = format!("{:X}", drawing.end()).len().max(6);
         let used = 3 + name + 2 * (4 + digits) + 2 + size + 4;
         Columns {

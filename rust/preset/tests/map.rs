@@ -197,6 +197,19 @@ d13x, spi-nor
     assert_eq!(Drawing::default().terminal(), "   (no partitions)\n");
 }
 
+// What stands above the columns stays above them, however short names and sizes are.
+#[test]
+fn short_names_in_a_terminal() {
+    let expected = "\
+desk
+d13x, spi-nor
+
+   name  start     end       size   0                                       8 B
+   a     0x000000  0x000008   8 B  [###########################################]
+";
+    assert_eq!(drawing(vec![area("a", 0, 8)]).terminal(), expected);
+}
+
 #[test]
 fn what_lands_is_grouped_and_wrapped() {
     let names = [
