@@ -1,4 +1,5 @@
 //! Text that others wrote, made fit for a terminal: what would move its cursor, hide or turn round letters is escaped.
+use std::ffi::OsStr;
 
 // Names and lines are cut behind so many characters.
 const LONGEST: usize = 160;
@@ -14,13 +15,30 @@ pub fn plain(text: &str) -> String {
 
 /// The same of bytes, in which those that are not UTF-8 are `\xff`.
 pub fn bytes(text: &[u8]) -> String {
+    cut(raw(text))
+}
+
+/// A file's name, never cut: editors are to find the file by it.
+///
+/// ```
+/// assert_eq!(preset::shown::file("a\nb.toml".as_ref()), "a\\nb.toml");
+/// assert_eq!(preset::shown::file("".as_ref()), "\"\"");
+/// ```
+pub fn file(name: &OsStr) -> String {
+    match name.is_empty() {
+        true => "\"\"".into(),
+        false => raw(name.as_encoded_bytes()),
+    }
+}
+
+fn raw(text: &[u8]) -> String {
     let mut out = String::new();
     for chunk in text.utf8_chunks() {
         out += &escaped(chunk.valid());
         let raw = chunk.invalid().iter();
         out.extend(raw.map(|byte| format!("\\x{byte:02x}")));
     }
-    cut(out)
+    out
 }
 
 /// A name in quotes, in which quotes, backslashes and tabs are escaped too.
@@ -56,7 +74,9 @@ fn cut(text: String) -> String {
 
 #[cfg(test)]
 mod tests {
-    use super::{LONGEST, bytes, plain, quoted};
+    use super::{LONGEST, bytes, file, plain, quoted};
+    use std::ffi::OsStr;
+    use std::os::unix::ffi::OsStrExt;
 
     #[test]
     fn what_a_terminal_obeys_is_escaped() {
@@ -75,6 +95,16 @@ mod tests {
         assert_eq!(
             quoted(&"x".repeat(LONGEST + 9)).chars().count(),
             LONGEST + 3
+        );
+    }
+
+    #[test]
+    fn names_of_files_are_whole() {
+        let long = "d/".repeat(LONGEST) + "x.toml";
+        assert_eq!(file(long.as_ref()), long);
+        assert_eq!(
+            file(OsStr::from_bytes(b"\xe9t\x1b.toml")),
+            "\\xe9t\\u{1b}.toml"
         );
     }
 }

@@ -267,6 +267,22 @@ fn what_cannot_be_read() {
     }
 }
 
+// An editor finds the file by what is told, however long its path is; one without letters is seen.
+#[test]
+fn files_are_named_whole() {
+    let deep = ["a-folder-with-a-long-name"; 9].join("/");
+    let folder = written("named", "none", "").with_file_name(deep);
+    fs::create_dir_all(&folder).expect("target/ can be written");
+    let file = folder.join("bad.toml");
+    fs::write(&file, "x\n").expect("target/ can be written");
+    let got = preset(&["check", word(&file)]);
+    let place = format!("{}:1: refused 5: ", word(&file));
+    assert!(got.out.starts_with(&place), "{}", got.out);
+    let got = preset(&["check", ""]);
+    let why = "preset: \"\": cannot be read: there is no such file\n";
+    assert_eq!((got.status, got.err.as_str()), (2, why));
+}
+
 #[test]
 fn bad_usage() {
     let calls: [&[&str]; 9] = [
@@ -438,12 +454,29 @@ fn maps() {
         "{}",
         got.err
     );
-    let file = written("maps", "own.toml", EXAMPLE);
-    let got = preset(&["map", word(&file), "--svg", word(&file)]);
-    assert_eq!((got.status, got.out.as_str()), (2, ""));
+}
+
+// Neither by its own path nor by a link, and not where standard input is the file.
+#[test]
+fn maps_do_not_overwrite_presets() {
+    let file = written("own", "own.toml", EXAMPLE);
+    let [hard, soft] = ["hard.toml", "soft.toml"].map(|name| file.with_file_name(name));
+    // those of an earlier run, if any
+    let _ = (fs::remove_file(&hard), fs::remove_file(&soft));
+    fs::hard_link(&file, &hard).expect("target/ takes links");
+    std::os::unix::fs::symlink(&file, &soft).expect("target/ takes links");
     let why = ": is the preset itself, and is not overwritten\n";
-    assert!(got.err.ends_with(why), "{}", got.err);
-    assert_eq!(fs::read_to_string(&file).expect("it"), EXAMPLE);
+    for out in [&file, &hard, &soft] {
+        for from in [word(&file), "-"] {
+            let mut command = command(&["map", from, "--svg", word(out)]);
+            command.stdin(fs::File::open(&file).expect("it"));
+            let told = command.output().expect("it ends");
+            assert_eq!(told.status.code(), Some(2));
+            let err = String::from_utf8(told.stderr).expect("UTF-8");
+            assert!(err.ends_with(why), "{err}");
+            assert_eq!(fs::read_to_string(&file).expect("it"), EXAMPLE);
+        }
+    }
 }
 
 // The refusal beside the map, and the map wherever partitions can be read.

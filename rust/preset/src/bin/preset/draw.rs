@@ -5,10 +5,12 @@ use crate::input::{self, Input};
 use preset::map::Drawing;
 use preset::{Fault, Preset, Refusal, Selection, picture, shown, svg};
 use std::ffi::{OsStr, OsString};
+use std::fs::Metadata;
+use std::os::unix::fs::MetadataExt;
 
 pub fn map(file: &OsStr, app: Option<String>, out: Option<OsString>) -> Answer {
     if let Some(out) = out.as_ref().filter(|out| same(file, out)) {
-        let out = shown::plain(&out.to_string_lossy());
+        let out = shown::file(out);
         return Answer::failed(format!(
             "{out}: is the preset itself, and is not overwritten"
         ));
@@ -31,10 +33,17 @@ pub fn map(file: &OsStr, app: Option<String>, out: Option<OsString>) -> Answer {
     }
 }
 
-// Whether both name one file that is there; `-` is none.
+// Whether both name one file that is there, by whatever path or link: the file's own number tells.
 fn same(file: &OsStr, out: &OsStr) -> bool {
-    let (from, to) = (std::fs::canonicalize(file), std::fs::canonicalize(out));
-    file != "-" && out != "-" && from.is_ok() && from.ok() == to.ok()
+    let own = |path: &OsStr| {
+        let found = std::fs::metadata(path).ok().filter(Metadata::is_file)?;
+        Some((found.dev(), found.ino()))
+    };
+    let from = match file == "-" {
+        true => own("/dev/stdin".as_ref()),
+        false => own(file),
+    };
+    out != "-" && from.is_some() && from == own(out)
 }
 
 // A chosen application is planned, so that 80 and 81 are told too.
@@ -56,7 +65,7 @@ fn drawn(drawing: &Drawing, out: Option<OsString>) -> Answer {
     match std::fs::write(&file, svg::svg(drawing)) {
         Ok(()) => Answer::default(),
         Err(why) => {
-            let file = shown::plain(&file.to_string_lossy());
+            let file = shown::file(&file);
             Answer::failed(format!("{file}: cannot be written: {why}"))
         }
     }

@@ -15,7 +15,7 @@ pub struct Input {
 
 /// Reads a file, or standard input for `-`; or says why it cannot.
 pub fn read(file: &OsStr) -> Result<Input, String> {
-    let shown = shown::plain(&file.to_string_lossy());
+    let shown = shown::file(file);
     let text = match file.to_str() {
         Some("-") => limited(stdin()),
         _ => opened(Path::new(file)),
