@@ -12,6 +12,8 @@ use port::text::TEXT_MAX;
 pub(crate) fn of_text(refusal: &Refusal) -> Option<String> {
     match refusal.number {
         1 => Some(format!("more than {TEXT_MAX} bytes")),
+        // mostly it is text without its quotes, and was never meant to be a number
+        12 => Some("nor a string in double quotes, a list, true or false".into()),
         _ => None,
     }
 }
@@ -197,7 +199,7 @@ fn of_application(
     match refusal.number {
         60 => clash::of(preset, refusal).map(|clash| clash.said(tree)),
         62 => Some(long(&own.name)),
-        64 => Some(quoted(&own.partition)),
+        64 => Some(absent(tree, refusal, &own.partition)),
         65 => {
             let earlier = preset.apps.values().position(|a| a.name == own.name)?;
             Some(twin(tree, Section::Application, &own.name, earlier))
@@ -209,6 +211,17 @@ fn of_application(
         }
         _ => None,
     }
+}
+
+// A partition that is not there; the default's name stands nowhere in the text, so it is told to be one.
+fn absent(tree: &Tree, refusal: &Refusal, partition: &str) -> String {
+    let entry = tree.entry(refusal.section, refusal.place as usize);
+    let written = entry.and_then(|entry| tree.field(entry, "partition"));
+    let taken = match written {
+        Some(_) => "",
+        None => ", which is taken where no `partition` is written",
+    };
+    format!("{}{taken}", quoted(partition))
 }
 
 fn undeclared(preset: &Preset, key: &str) -> String {

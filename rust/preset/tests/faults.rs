@@ -315,6 +315,23 @@ fn odd_lists() {
     );
 }
 
+// What the text does not have is not told as if it were written there.
+#[test]
+fn a_default_is_told_to_be_one() {
+    let preset = "[[partition]]\nname = \"a\"\noffset = 0\nsize = 0x1000\n[[component]]\n\
+                  name = \"x\"\npackage = \"p\"\npartition = \"a\"\n[apps.k]\n";
+    let detail = |rest: &str| {
+        let fault = fault((preset.to_owned() + rest).as_bytes());
+        (fault.refusal.number, fault.line, fault.detail.expect("one"))
+    };
+    let taken = "\"app\", which is taken where no `partition` is written".to_string();
+    assert_eq!(detail("partiton = \"a\"\n"), (64, Some(9), taken));
+    assert_eq!(
+        detail("partition = \"app\"\n"),
+        (64, Some(10), "\"app\"".into())
+    );
+}
+
 #[test]
 fn long_and_plural_lists() {
     let at = |text: &str| {
