@@ -12,8 +12,6 @@ use port::text::TEXT_MAX;
 pub(crate) fn of_text(refusal: &Refusal) -> Option<String> {
     match refusal.number {
         1 => Some(format!("more than {TEXT_MAX} bytes")),
-        // mostly it is text without its quotes, and was never meant to be a number
-        12 => Some("nor a string in double quotes, a list, true or false".into()),
         _ => None,
     }
 }

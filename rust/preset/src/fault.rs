@@ -138,7 +138,6 @@ impl fmt::Display for Fault {
         // a name goes on with these words, as in `unknown partition "bot"`
         let between = match self.refusal.number {
             43 | 51 | 58 | 60 | 65 | 70 => " ",
-            12 => ", ",
             _ => ": ",
         };
         match &self.detail {
