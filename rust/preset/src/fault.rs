@@ -118,7 +118,11 @@ fn entry(tree: &Tree, refusal: &Refusal) -> String {
 
 /// An entry by its section, number and name.
 pub(crate) fn called(tree: &Tree, section: Section, place: usize) -> String {
-    let entry = tree.entry(section, place);
+    named(tree, section, place, tree.entry(section, place))
+}
+
+/// The same where the entry's value is at hand.
+pub(crate) fn named(tree: &Tree, section: Section, place: usize, entry: Option<usize>) -> String {
     let name = entry.and_then(|entry| tree.called(section, entry));
     let name = name.map_or(String::new(), |name| format!(" {}", shown::quoted(&name)));
     format!("{} {place}{name}", section.name())

@@ -30,6 +30,8 @@
 //! assert_eq!(fault.line, Some(4));
 //! assert_eq!(fault.entry.as_deref(), Some("partition 0 \"boot\""));
 //! ```
+//!
+//! Keys that the rules do not know are accepted; [`unknown`] finds them.
 #![forbid(unsafe_code)]
 
 mod clash;
@@ -39,6 +41,7 @@ mod fault;
 mod fields;
 mod lines;
 pub mod map;
+mod near;
 mod owned;
 pub mod picture;
 mod refusal;
@@ -47,6 +50,7 @@ mod schema;
 pub mod shown;
 pub mod svg;
 mod tree;
+pub mod unknown;
 
 pub use fault::Fault;
 pub use port::text::TEXT_MAX;

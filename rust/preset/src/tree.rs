@@ -68,9 +68,18 @@ impl Tree {
 
     /// A table's values in byte order of key.
     pub fn entries(&self, table: usize) -> Vec<usize> {
-        let Held { store, tree, made } = &self.0;
         let own = under(table).filter(|_| self.kind(table) == Kind::Table);
-        let after = |n| document::next(tree, store, *made, own?, n);
+        own.map_or(Vec::new(), |own| self.sorted(own))
+    }
+
+    /// The root's values in byte order of key.
+    pub fn top(&self) -> Vec<usize> {
+        self.sorted(ROOT)
+    }
+
+    fn sorted(&self, parent: u16) -> Vec<usize> {
+        let Held { store, tree, made } = &self.0;
+        let after = |n| document::next(tree, store, *made, parent, n);
         std::iter::successors(after(None), |&n| after(Some(n))).collect()
     }
 
@@ -111,14 +120,7 @@ impl Tree {
 
     /// What a section's entries stand in, or its one table.
     pub fn whole(&self, section: Section) -> Option<usize> {
-        match section {
-            Section::Text => None,
-            Section::Board => self.root("board"),
-            Section::Image => self.root("image"),
-            Section::Partition => self.root("partition").or_else(|| self.root("partitions")),
-            Section::Component => self.root("component").or_else(|| self.root("components")),
-            Section::Application => self.root("apps"),
-        }
+        roots(section).iter().find_map(|key| self.root(key))
     }
 
     /// The key that the whole section has at the root.
@@ -152,6 +154,18 @@ impl Tree {
             Section::Application => self.key(entry),
             _ => self.text(self.field(entry, "name")?),
         }
+    }
+}
+
+/// The keys of the root that a section is read from; of two the first, where both are there.
+pub(crate) fn roots(section: Section) -> &'static [&'static str] {
+    match section {
+        Section::Text => &[],
+        Section::Board => &["board"],
+        Section::Image => &["image"],
+        Section::Partition => &["partition", "partitions"],
+        Section::Component => &["component", "components"],
+        Section::Application => &["apps"],
     }
 }
 

@@ -230,6 +230,101 @@ fn check_goes_on() {
     assert_eq!((got.status, got.out), (1, format!("{ok}{refused}")));
 }
 
+// Unknown keys are noted beside the results, which stay as they are, and so does the status.
+#[test]
+fn check_notes_unknown_keys() {
+    let text = EXAMPLE
+        .replace("package =", "pakage = \"x\"\npackage =")
+        .replace("[apps", "[[componet]]\n[apps");
+    assert_eq!(preset(&["check", "presets/example.toml"]).err, "");
+    let file = written("notes", "slips.toml", &text);
+    let (pakage, componet) = (line(&text, "pakage"), line(&text, "componet"));
+    let got = preset(&["check", word(&file)]);
+    let file = word(&file);
+    let ok = "ok: d13x, spi-nor, 2 partitions, 1 component, 1 application";
+    let notes = format!(
+        "{file}:{pakage}: note: component 0 \"first\": unknown key \"pakage\" is passed over (package?)\n\
+         {file}:{componet}: note: unknown key \"componet\" is passed over (component?)\n"
+    );
+    let want = Said {
+        status: 0,
+        out: format!("{file}: {ok}\n"),
+        err: notes,
+    };
+    assert_eq!(got, want);
+    for order in ["plan", "listing", "map"] {
+        assert_eq!(preset(&[order, file]).err, "", "{order}");
+    }
+}
+
+#[test]
+fn check_notes_what_refused_presets_have() {
+    let text = EXAMPLE.replace("partition = \"boot;mtd\"", "partiton = \"boot;mtd\"");
+    let got = said(command(&["check", "-"]), text.as_bytes());
+    let refused =
+        "-:11: component 0 \"first\": refused 57: no partition and no updater\n    [[component]]\n";
+    let note =
+        "-:15: note: component 0 \"first\": unknown key \"partiton\" is passed over (partition?)\n";
+    assert_eq!((got.status, got.out.as_str()), (1, refused));
+    assert_eq!(got.err, format!("{note}{}", advice(57)));
+    let got = said(command(&["check", "-"]), b"x = 1\ny\n");
+    assert_eq!((got.status, got.err), (1, advice(5)));
+}
+
+// Ten of a file, and how many more; what is printed of them is escaped.
+#[test]
+fn check_notes_no_more_than_ten() {
+    let noted = |keys: usize| {
+        let own: String = (0..keys).map(|n| format!("\"\u{1b}{n}\" = 1\n")).collect();
+        let got = said(command(&["check", "-"]), (own + EXAMPLE).as_bytes());
+        assert_eq!(got.status, 0);
+        got.err.lines().map(String::from).collect::<Vec<_>>()
+    };
+    let note = |n| {
+        format!(
+            "-:{}: note: unknown key \"\\u{{1b}}{n}\" is passed over",
+            n + 1
+        )
+    };
+    let ten: Vec<String> = (0..10).map(note).collect();
+    assert_eq!(noted(10), ten);
+    let more = |last: &str| [ten.clone(), vec![last.to_string()]].concat();
+    assert_eq!(noted(11), more("-: note: 1 more key is passed over"));
+    assert_eq!(
+        noted(1_900),
+        more("-: note: 1890 more keys are passed over")
+    );
+}
+
+// Whoever sees both outputs sees the notes of a file behind its line and before the next file's.
+#[test]
+fn check_notes_behind_each_file() {
+    let slip = |name| written("behind", name, format!("nmae = 1\n{EXAMPLE}"));
+    let (one, two) = (slip("one.toml"), slip("two.toml"));
+    let bad = written("behind", "bad.toml", "x\n");
+    let runner = std::env::var("CARGO_TARGET_X86_64_UNKNOWN_LINUX_GNU_RUNNER");
+    let program = env!("CARGO_BIN_EXE_preset");
+    let files = [&one, &bad, &two].map(|file| word(file)).join(" ");
+    let mut shell = Command::new("sh");
+    let call = format!(
+        "{} {program} check {files} 2>&1",
+        runner.unwrap_or_default()
+    );
+    shell.args(["-c", &call]);
+    let got = said(shell, b"");
+    let ok = "ok: d13x, spi-nor, 2 partitions, 1 component, 1 application";
+    let noted =
+        |file: &str| format!("{file}: {ok}\n{file}:1: note: unknown key \"nmae\" is passed over\n");
+    let want = format!(
+        "{}{}:1: refused 5: neither a header nor an assignment\n    x\n{}{}",
+        noted(word(&one)),
+        word(&bad),
+        noted(word(&two)),
+        advice(5)
+    );
+    assert_eq!((got.status, got.out), (1, want));
+}
+
 // Faults of the whole text have no line but for bytes that are no text.
 #[test]
 fn texts_that_are_none() {

@@ -1,5 +1,6 @@
 //! What the command answers: results, what is said beside them, and the exit status.
-use std::io::{ErrorKind, Write, stderr, stdout};
+use std::io::{Error, ErrorKind, Write, stderr, stdout};
+use std::mem::take;
 use std::process::ExitCode;
 
 pub const ACCEPTED: u8 = 0;
@@ -13,6 +14,8 @@ pub struct Answer {
     /// For standard error.
     pub err: String,
     pub status: u8,
+    /// What both had before, in turn.
+    pub earlier: Vec<(Vec<u8>, String)>,
 }
 
 impl Answer {
@@ -33,27 +36,45 @@ impl Answer {
     }
 
     /// Puts another answer behind this one; the worse status counts.
-    pub fn and(&mut self, other: Answer) {
-        self.out.extend(other.out);
-        self.err += &other.err;
+    pub fn and(&mut self, mut other: Answer) {
+        other.earlier.push((other.out, other.err));
+        for (out, err) in other.earlier {
+            self.out.extend(out);
+            self.err += &err;
+        }
         self.status = self.status.max(other.status);
     }
 
-    /// Writes it. Who reads standard output may stop before its end; other faults of writing are told.
-    pub fn given(self) -> ExitCode {
-        let mut status = self.status;
-        let written = stdout()
-            .write_all(&self.out)
-            .and_then(|()| stdout().flush());
-        let mut err = self.err;
-        if let Err(why) = written
-            && why.kind() != ErrorKind::BrokenPipe
-        {
-            err += &format!("preset: standard output: {why}\n");
-            status = FAILED;
-        }
-        // Where standard error cannot be written there is nobody to tell.
-        let _ = stderr().write_all(err.as_bytes());
-        ExitCode::from(status)
+    /// The same, but whoever sees both outputs sees all of this one first.
+    pub fn then(&mut self, other: Answer) {
+        let said = (take(&mut self.out), take(&mut self.err));
+        self.earlier.push(said);
+        self.and(other);
     }
+
+    /// Writes it. Who reads standard output may stop before its end; other faults of writing are told.
+    pub fn given(mut self) -> ExitCode {
+        let mut written = Ok(());
+        self.earlier.push((self.out, self.err));
+        for (out, err) in self.earlier {
+            written = written.and_then(|()| put(&out));
+            tell(&err);
+        }
+        match written {
+            Err(why) if why.kind() != ErrorKind::BrokenPipe => {
+                tell(&format!("preset: standard output: {why}\n"));
+                ExitCode::from(FAILED)
+            }
+            _ => ExitCode::from(self.status),
+        }
+    }
+}
+
+fn put(out: &[u8]) -> Result<(), Error> {
+    stdout().write_all(out).and_then(|()| stdout().flush())
+}
+
+// Where standard error cannot be written there is nobody to tell.
+fn tell(err: &str) {
+    let _ = stderr().write_all(err.as_bytes());
 }

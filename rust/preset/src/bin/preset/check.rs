@@ -1,16 +1,20 @@
 //! `preset check`: what each preset is, or why it is refused.
 use crate::answer::{ACCEPTED, Answer, REFUSED};
 use crate::input::{self, Input};
+use preset::unknown::unknown;
 use preset::{Fault, Preset, Refusal};
 use std::ffi::OsString;
+
+// A file with more unknown keys than these is mostly of another sort.
+const NOTES: usize = 10;
 
 pub fn check(files: &[OsString]) -> Answer {
     let mut all = Answer::default();
     let mut numbers = Vec::new();
     for file in files {
         match input::read(file) {
-            Ok(input) => all.and(checked(&input, &mut numbers)),
-            Err(why) => all.and(Answer::failed(why)),
+            Ok(input) => all.then(checked(&input, &mut numbers)),
+            Err(why) => all.then(Answer::failed(why)),
         }
     }
     all.err += &advice(numbers);
@@ -34,9 +38,30 @@ fn checked(input: &Input, numbers: &mut Vec<u32>) -> Answer {
     };
     Answer {
         out: line.into(),
+        err: notes(input),
         status,
         ..Answer::default()
     }
+}
+
+// Keys that the rules do not know; they change neither the result nor the status.
+fn notes(input: &Input) -> String {
+    let mut found = unknown(&input.text);
+    let first = found.by_ref().take(NOTES);
+    let told = first.map(|key| format!("{}: note: {key}\n", place(input, key.line)));
+    let told: String = told.collect();
+    let more = match found.len() {
+        0 => return told,
+        1 => "1 more key is".into(),
+        n => format!("{n} more keys are"),
+    };
+    format!("{told}{}: note: {more} passed over\n", input.file)
+}
+
+// The file, and the line where there is one.
+fn place(input: &Input, line: Option<usize>) -> String {
+    let line = line.map_or(String::new(), |line| format!(":{line}"));
+    format!("{}{line}", input.file)
 }
 
 fn counted(preset: &Preset) -> String {
@@ -53,11 +78,10 @@ fn counted(preset: &Preset) -> String {
 
 /// A fault in the form that editors jump to, and below it the line's text.
 pub fn told(input: &Input, fault: &Fault) -> String {
-    let file = &input.file;
-    let place = fault.line.map_or(String::new(), |line| format!(":{line}"));
+    let place = place(input, fault.line);
     let text = fault.text.as_ref().filter(|text| !text.is_empty());
     let text = text.map_or(String::new(), |text| format!("    {text}\n"));
-    format!("{file}{place}: {fault}\n{text}")
+    format!("{place}: {fault}\n{text}")
 }
 
 /// How to go on from a refusal.

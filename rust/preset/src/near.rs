@@ -1,0 +1,91 @@
+//! Which known word another is most likely meant to be.
+
+// Words with more slips between them than these are two words.
+const SLIPS: usize = 2;
+
+/// The first of the known words with the fewest slips, where they are few and less than half of the word's length.
+pub(crate) fn near(word: &str, known: &[&'static str]) -> Option<&'static str> {
+    let word: Vec<char> = word.chars().collect();
+    let few = |slips: &usize| *slips <= SLIPS && 2 * slips < word.len();
+    let each = known.iter().filter_map(|&own| {
+        let letters: Vec<char> = own.chars().collect();
+        // each letter more is a slip, so that long words need no counting
+        let long = word.len().abs_diff(letters.len()) > SLIPS;
+        let slips = (!long).then(|| slips(&word, &letters)).filter(few)?;
+        Some((slips, own))
+    });
+    let best = each.min_by_key(|(slips, _)| *slips)?;
+    Some(best.1)
+}
+
+// How many letters are left out, put in, mistaken or swapped with the next: the edit distance of Damerau, in which no
+// letter is touched twice.
+fn slips(a: &[char], b: &[char]) -> usize {
+    let mut rows: Vec<Vec<usize>> = vec![(0..=b.len()).collect()];
+    for i in 1..=a.len() {
+        let mut row = vec![i];
+        for j in 1..=b.len() {
+            let mistaken = rows[i - 1][j - 1] + usize::from(a[i - 1] != b[j - 1]);
+            let least = mistaken.min(rows[i - 1][j] + 1).min(row[j - 1] + 1);
+            let swapped = i > 1 && j > 1 && a[i - 1] == b[j - 2] && a[i - 2] == b[j - 1];
+            row.push(match swapped {
+                true => least.min(rows[i - 2][j - 2] + 1),
+                false => least,
+            });
+        }
+        rows.push(row);
+    }
+    rows[a.len()][b.len()]
+}
+
+#[cfg(test)]
+mod tests {
+    use super::{near, slips};
+
+    #[test]
+    fn slips_are_counted() {
+        let count = |a: &str, b: &str| {
+            let [a, b] = [a, b].map(|word| word.chars().collect::<Vec<_>>());
+            assert_eq!(slips(&a, &b), slips(&b, &a));
+            slips(&a, &b)
+        };
+        assert_eq!(count("", ""), 0);
+        assert_eq!(count("", "name"), 4);
+        assert_eq!(count("size", "size"), 0);
+        assert_eq!(count("nme", "name"), 1);
+        assert_eq!(count("naame", "name"), 1);
+        assert_eq!(count("nome", "name"), 1);
+        assert_eq!(count("nmae", "name"), 1);
+        assert_eq!(count("anem", "name"), 2);
+        assert_eq!(count("größe", "grosse"), 3);
+        assert_eq!(count("kitten", "sitting"), 3);
+    }
+
+    #[test]
+    fn the_nearest_word_counts() {
+        let known = ["file", "filename", "pbp", "name"];
+        assert_eq!(near("flie", &known), Some("file"));
+        assert_eq!(near("filenmae", &known), Some("filename"));
+        assert_eq!(near("nam", &known), Some("name"));
+        assert_eq!(near("filenames_", &known), Some("filename"));
+        assert_eq!(near("filenames__", &known), None);
+        // of two the first
+        assert_eq!(near("cat", &["rat", "hat"]), Some("rat"));
+        assert_eq!(near("cat", &["dog", "at"]), Some("at"));
+        assert_eq!(near("cat", &[]), None);
+    }
+
+    // In a short word one letter more or less makes another word.
+    #[test]
+    fn short_words_are_near_to_nothing() {
+        assert_eq!(near("pb", &["pbp"]), None);
+        assert_eq!(near("x", &["ax"]), None);
+        assert_eq!(near("", &["a"]), None);
+        assert_eq!(near("zzze", &["size"]), None);
+        assert_eq!(near("siez", &["size"]), Some("size"));
+        assert_eq!(near("xxame", &["name"]), Some("name"));
+        assert_eq!(near("xaxme", &["name"]), Some("name"));
+        assert_eq!(near("xame", &["name"]), Some("name"));
+        assert_eq!(near(&"x".repeat(30_000), &["name"]), None);
+    }
+}

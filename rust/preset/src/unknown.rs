@@ -1,0 +1,143 @@
+//! Keys that the rules do not know. They are no fault: a preset is accepted as if they were not there, and so nothing
+//! else tells that one is misspelled.
+use crate::fault::named;
+use crate::fields::fields;
+use crate::lines;
+use crate::near::near;
+use crate::refusal::Section;
+use crate::shown::quoted;
+use crate::tree::{Tree, roots};
+use std::fmt;
+
+const SECTIONS: [Section; 5] = [
+    Section::Board,
+    Section::Image,
+    Section::Partition,
+    Section::Component,
+    Section::Application,
+];
+
+/// A key that is passed over, with the table that it stands in.
+///
+/// Its `Display` is what stands behind the file's name and line in a note; texts of the preset are
+/// escaped in it.
+#[derive(Clone, Debug, PartialEq, Eq)]
+pub struct Unknown {
+    /// The line, from 1, that the key has its value from; of a value over many lines the first.
+    pub line: Option<usize>,
+    /// The section, the entry's number from 0 and its name, as of a fault; none at the root.
+    pub entry: Option<String>,
+    pub key: String,
+    /// The key of that table that it is most likely meant to be.
+    pub near: Option<&'static str>,
+}
+
+/// Every key that the rules do not know, in the order of the lines: at the root and in each table that
+/// fields are read from. A text without a tree (1 to 16) has none, any other may, accepted or not.
+///
+/// A list's plural (`partitions`) is unknown where its singular is there and read in its place. What
+/// stands below an unknown key is not looked into. Lines are found as they are asked for, which takes
+/// far longer than counting.
+///
+/// ```
+/// use preset::unknown::unknown;
+///
+/// let text = b"[board]\nchip = \"d13x\"\n[[componet]]\nname = \"x\"\n[[component]]\nnmae = \"y\"\n";
+/// let mut found = unknown(text);
+/// assert_eq!(found.len(), 2);
+///
+/// let first = found.next().unwrap();
+/// assert_eq!((first.line, first.entry.as_deref()), (Some(3), None));
+/// assert_eq!((first.key.as_str(), first.near), ("componet", Some("component")));
+///
+/// let said = "component 0: unknown key \"nmae\" is passed over (name?)";
+/// assert_eq!(found.next().unwrap().to_string(), said);
+/// ```
+pub fn unknown(text: &[u8]) -> impl ExactSizeIterator<Item = Unknown> {
+    let mut found = Tree::read(text).map_or(Vec::new(), |tree| all(&tree));
+    // values are numbered as they are made, line by line
+    found.sort_by_key(|(value, _)| *value);
+    found.into_iter().map(|(value, key)| Unknown {
+        line: lines::making(text, value),
+        ..key
+    })
+}
+
+// Each with the number of its value, and still without its line.
+type Found = Vec<(usize, Unknown)>;
+
+fn all(tree: &Tree) -> Found {
+    let known = SECTIONS.map(|section| read(tree, section)).concat();
+    let mut out = strange(tree, tree.top(), known, None);
+    for section in SECTIONS {
+        for (place, table) in tables(tree, section).into_iter().enumerate() {
+            let known = fields(section).iter().map(|(key, _)| *key).collect();
+            let entry = match section {
+                Section::Board | Section::Image => section.name().into(),
+                _ => named(tree, section, place, Some(table)),
+            };
+            out.extend(strange(tree, tree.entries(table), known, Some(entry)));
+        }
+    }
+    out
+}
+
+// The keys of the root that a section is read from in this text: behind one that is there no other counts.
+fn read(tree: &Tree, section: Section) -> &'static [&'static str] {
+    let keys = roots(section);
+    let there = keys.iter().position(|key| tree.root(key).is_some());
+    there.map_or(keys, |at| &keys[..=at])
+}
+
+// What a section's fields are read from, if it is a table.
+fn tables(tree: &Tree, section: Section) -> Vec<usize> {
+    match section {
+        Section::Board | Section::Image => tree.whole(section).into_iter().collect(),
+        _ => tree.list(section),
+    }
+}
+
+// Those of a table's values whose keys are not among the known.
+fn strange(
+    tree: &Tree,
+    values: Vec<usize>,
+    known: Vec<&'static str>,
+    entry: Option<String>,
+) -> Found {
+    let each = values.into_iter().filter_map(|value| {
+        let key = tree.key(value)?;
+        let strange = !known.contains(&key.as_str());
+        let unknown = || Unknown {
+            line: None,
+            entry: entry.clone(),
+            near: near(&key, &known),
+            key,
+        };
+        strange.then(unknown).map(|unknown| (value, unknown))
+    });
+    each.collect()
+}
+
+impl Unknown {
+    // A key of the root that the rules know is passed over beside another one only.
+    fn doubles(&self) -> bool {
+        let known = |section: Section| roots(section).contains(&self.key.as_str());
+        self.entry.is_none() && SECTIONS.into_iter().any(known)
+    }
+}
+
+impl fmt::Display for Unknown {
+    fn fmt(&self, f: &mut fmt::Formatter) -> fmt::Result {
+        if let Some(entry) = &self.entry {
+            write!(f, "{entry}: ")?;
+        }
+        let key = quoted(&self.key);
+        match self.near {
+            Some(other) if self.doubles() => {
+                write!(f, "key {key} is passed over, since there is {other:?}")
+            }
+            Some(near) => write!(f, "unknown key {key} is passed over ({near}?)"),
+            None => write!(f, "unknown key {key} is passed over"),
+        }
+    }
+}
