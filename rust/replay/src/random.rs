@@ -3,10 +3,21 @@
 /// How many random texts a test takes: all of them, or a fifth where programs are emulated, which takes ten
 /// times as long (`rust/cross` says so).
 pub fn turns(all: usize) -> usize {
-    match std::env::var_os("PRESET_EMULATED") {
-        None => all,
-        Some(_) => all / 5,
-    }
+    all / stride()
+}
+
+/// Of listed cases each is taken, or each fifth there.
+pub fn stride() -> usize {
+    if emulated() { 5 } else { 1 }
+}
+
+/// How often a number is to be met in them: as it says, or a tenth of it there.
+pub fn least(often: usize) -> usize {
+    often / if emulated() { 10 } else { 1 }
+}
+
+fn emulated() -> bool {
+    std::env::var_os("PRESET_EMULATED").is_some()
 }
 
 /// A counter through a mixing function (splitmix64).

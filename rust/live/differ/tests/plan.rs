@@ -7,7 +7,7 @@ use replay::met::Met;
 use replay::plan::cases::CASES;
 use replay::plan::model::NUMBERS;
 use replay::plan::random;
-use replay::random::Rng;
+use replay::random::{Rng, least, stride, turns};
 use replay::records::random::{NAMES, name};
 use replay::records::spelling::paths;
 use replay::validate::spelled;
@@ -29,13 +29,13 @@ fn around_every_boundary() {
     let (mut r, mut all) = (Rng::new(SEED), Met::default());
     for (name, presets) in CASES {
         let mut judge = judge();
-        for preset in presets() {
+        for preset in presets().into_iter().step_by(stride()) {
             judge.check(spelled::text(&mut r, &preset).as_bytes());
         }
         println!("{name}: {}", judge.met.summary());
         all.add(&judge.met);
     }
-    assert_eq!(all.seldom(NUMBERS, 100), None, "{}", all.summary());
+    assert_eq!(all.seldom(NUMBERS, least(100)), None, "{}", all.summary());
 }
 
 const SEED: u64 = 20_241_118;
@@ -50,7 +50,7 @@ fn random_presets() {
 #[test]
 fn definitions_against_the_original() {
     let (mut r, mut met) = (Rng::new(SEED + 10), Met::default());
-    for _ in 0..COUNT {
+    for _ in 0..turns(COUNT) {
         let (name, text) = (name(&mut r), random::text(&mut r));
         let told = answers(&ASKED, &text, &name);
         let (_, told) = told.unwrap_or_else(|e| panic!("{}: {e}", text.escape_ascii()));
@@ -58,7 +58,7 @@ fn definitions_against_the_original() {
         numbers.for_each(|number| met.count(number));
     }
     println!("{}", met.summary());
-    assert_eq!(met.seldom(NUMBERS, 100), None, "{}", met.summary());
+    assert_eq!(met.seldom(NUMBERS, least(100)), None, "{}", met.summary());
 }
 
 // Every path up to seven characters of the one component, which leads.

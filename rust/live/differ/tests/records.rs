@@ -2,7 +2,7 @@
 use differ::record::RECORDS;
 use differ::records::compare::{Judge, RECORDS as ASKED, answer, check_random};
 use replay::document::vector;
-use replay::random::Rng;
+use replay::random::{Rng, turns};
 use replay::records::draft::Draft;
 use replay::records::edits::{edited, edits, faults, paired};
 use replay::records::random::{NAMES, name, text};
@@ -89,7 +89,7 @@ fn random_presets() {
 #[test]
 fn definitions_against_the_original() {
     let mut r = Rng::new(SEED + 10);
-    for _ in 0..COUNT / 10 {
+    for _ in 0..turns(COUNT / 10) {
         let (name, text) = (name(&mut r), text(&mut r));
         let read = answer(&ASKED, &text, &name);
         read.map_err(|e| panic!("{}: {e}", text.escape_ascii()))

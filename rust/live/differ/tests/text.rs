@@ -4,7 +4,7 @@ use differ::original;
 use oracle::toml_lite::probe as rust;
 use port::text::{self, TEXT_MAX};
 use replay::ask::ask;
-use replay::random::{self, Rng};
+use replay::random::{self, Rng, turns};
 
 const SEED: u64 = 20_240_601;
 
@@ -25,7 +25,7 @@ fn all_texts_up_to_five_characters() {
 #[test]
 fn random_texts() {
     let mut r = Rng::new(SEED);
-    for _ in 0..100_000 {
+    for _ in 0..turns(100_000) {
         check(&random::text(&mut r));
     }
 }

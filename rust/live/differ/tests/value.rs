@@ -2,7 +2,7 @@
 use differ::compare::check_by;
 use differ::value::compare;
 use replay::model::WHITE;
-use replay::random::Rng;
+use replay::random::{Rng, turns};
 use replay::value::{ask, random};
 
 const SEED: u64 = 20_240_602;
@@ -73,7 +73,7 @@ fn all_short_arrays() {
 
 fn random(seed: u64, make: fn(&mut Rng) -> String, check: fn(&str)) {
     let mut r = Rng::new(SEED + seed);
-    for _ in 0..COUNT {
+    for _ in 0..turns(COUNT) {
         check(&make(&mut r));
     }
 }

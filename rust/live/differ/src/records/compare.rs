@@ -4,7 +4,7 @@ use crate::shorten::shortest_difference;
 use port::preset::Preset;
 use replay::met::Met;
 use replay::plan::keys::Answered;
-use replay::random::Rng;
+use replay::random::{Rng, least, turns};
 use replay::records::answer::{Read, Refusal};
 use replay::records::ask::{Host, difference};
 use replay::records::model::{self, LIMITS, Limits, UNLIMITED};
@@ -175,7 +175,7 @@ pub fn check_random(judge: fn() -> Judge, seed: u64, count: usize) {
     const LEAST: usize = 100;
     let part = move |i| {
         let mut judge = judge();
-        judge.check_random(seed + i, count / PARTS as usize);
+        judge.check_random(seed + i, turns(count) / PARTS as usize);
         judge.met
     };
     let parts: Vec<_> = (0..PARTS).map(|i| thread::spawn(move || part(i))).collect();
@@ -185,5 +185,5 @@ pub fn check_random(judge: fn() -> Judge, seed: u64, count: usize) {
     }
     let summary = all.met.summary();
     println!("{summary}");
-    assert_eq!(all.seldom(LEAST), None, "met too seldom: {summary}");
+    assert_eq!(all.seldom(least(LEAST)), None, "met too seldom: {summary}");
 }
