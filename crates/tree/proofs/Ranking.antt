@@ -11,7 +11,7 @@ use Rattle.meaning.specs.Base.{less}
 use Rattle.tree.specs.declared.Slot.{Slot}
 use Rattle.tree.specs.declared.Found.{Found}
 use Rattle.tree.specs.declared.Found.the-variants.{At, Nothing}
-use Rattle.tree.specs.Room.{Holds, From, Below, Finds, slotAt, under}
+use Rattle.tree.specs.Room.{Holds, Clear, From, Below, Finds, slotAt, under}
 use Rattle.tree.specs.Order.{hasKey, before, above, nearer, follows, better, nearest, isMade, next, Stands}
 use Rattle.tree.specs.Nearest.{better-below, made-below}
 
@@ -92,24 +92,36 @@ from-zero : (f : Found) → From 0 f
 from-zero (At n) = omega arith
 from-zero Nothing = tt
 
+-- where nothing hangs under the parent, the best stays
+nearest-clear : (tree store : List ℕ) (parent : ℕ) (after : Found) (i : ℕ) (best : Found) → ((j : ℕ) → j < i → under tree j parent ≡ false)
+    → nearest (slotAt tree) store parent after i best ≡ best
+nearest-clear tree store parent after zero best h = refl
+nearest-clear tree store parent after (suc n) best h =
+    let f : false ≡ follows (slotAt tree) store parent after n = follows-not tree store parent n after false (sym (h n (omega arith))) refl in
+    let b : best ≡ better (slotAt tree) store parent after best n = better-not tree store parent n after best false f refl in
+    rw (← b) (nearest-clear tree store parent after n best (λ (j : ℕ). λ (l : j < n). h j (omega arith)))
+
 module _ (tree store : List ℕ) (made parent : ℕ) (after : Found) where
   pub near-start : Nearing tree store made parent after Nothing made
   near-start = record { high = omega arith; below = tt; left = refl }
 
   module _ (best : Found) (i : ℕ) (k : Nearing tree store made parent after best i) where
-    pub near-room : Holds tree made → 0 < i → Holds tree (i - 1 + 1)
-    near-room h l = record { fits = omega (arith, h .fits, k .high) }
+    pub near-room : (low : ℕ) → Holds tree made → low < i → Holds tree (i - 1 + 1)
+    near-room low h l = record { fits = omega (arith, h .fits, k .high) }
 
     pub near-best : Holds tree made → Stands tree best
     near-best h = stands-made tree made best h (k .below)
 
-    pub near-end : i ≤ 0 → Finds 0 made (nearest (slotAt tree) store parent after made Nothing) best
-    near-end l = let e : i ≡ 0 = omega arith in record { is = rw e at (k .left); from = from-zero best; below = k .below }
+    pub near-end : (low : ℕ) → Clear tree parent 0 low → i ≤ low → Finds 0 made (nearest (slotAt tree) store parent after made Nothing) best
+    near-end low c l =
+        let e : nearest (slotAt tree) store parent after i best ≡ best
+        = nearest-clear tree store parent after i best (λ (j : ℕ). λ (h : j < i). c .none j (omega arith) (omega arith)) in
+        record { is = sym e ∙ k .left; from = from-zero best; below = k .below }
 
-  pub near-on : (best : Found) (i : ℕ) (r : Found) → Nearing tree store made parent after best i → 0 < i → r ≡ better (slotAt tree) store parent after best (i - 1)
+  pub near-on : (low : ℕ) (best : Found) (i : ℕ) (r : Found) → Nearing tree store made parent after best i → low < i → r ≡ better (slotAt tree) store parent after best (i - 1)
       → Nearing tree store made parent after r (i - 1)
-  near-on best zero r k l b = absurd (omega arith)
-  near-on best (suc i) r k l b =
+  near-on low best zero r k l b = absurd (omega arith)
+  near-on low best (suc i) r k l b =
       let d : suc i - 1 ≡ i = omega arith in
       let e : r ≡ better (slotAt tree) store parent after best i = b ∙ ap (better (slotAt tree) store parent after best) d in
       record {

@@ -158,7 +158,7 @@ fn idle(tree: &[u8], n: usize, parent: u16) -> bool
 }
 
 // Up from a number, 8 values at a time, as long as none of them hangs under the parent.
-fn skip_up(tree: &[u8], made: usize, parent: u16, from: usize) -> usize
+pub fn skip_up(tree: &[u8], made: usize, parent: u16, from: usize) -> usize
     requires { ⌜ Holds (now tree) made ⌝ }
     ensures { λ r. ⌜ Clear (now (tree .entry)) parent from r ⌝ }
 {
@@ -345,13 +345,20 @@ fn better(tree: &[u8], store: &[u8], parent: u16, after: Found, best: Found, m: 
 }
 
 // One pass from the newest down: of values with one key the first met stays.
-fn nearest(tree: &[u8], store: &[u8], made: usize, parent: u16, after: Found) -> Found
-    requires { ⌜ Holds (now tree) made × Stands (now tree) after ⌝ }
+fn nearest(
+    tree: &[u8],
+    store: &[u8],
+    low: usize,
+    made: usize,
+    parent: u16,
+    after: Found,
+) -> Found
+    requires { ⌜ Holds (now tree) made × Clear (now tree) parent 0 low × Stands (now tree) after ⌝ }
     ensures { λ r. ⌜ Finds 0 made (order.nearest (slotAt (now (tree .entry))) (now (store .entry)) parent after made Found.Nothing) r ⌝ }
 {
     let mut best = Found::Nothing;
     let mut i = made;
-    while 0 < i {
+    while low < i {
         i -= 1;
         best = better(tree, store, parent, after, best, i);
     }
@@ -368,13 +375,20 @@ fn is_made(made: usize, after: Found) -> bool
 }
 
 // The next key under the parent behind that of the value found before, from nothing the first: of the keys above it the least, and of its values the newest.
-// Behind a value that is not made, or whose key runs past the store, comes nothing.
-pub fn next(tree: &[u8], store: &[u8], made: usize, parent: u16, after: Found) -> Found
-    requires { ⌜ Holds (now tree) made ⌝ }
+// Behind a value that is not made, or whose key runs past the store, comes nothing. Below a number that the caller knows of nothing hangs under the parent, so a walk over all keys looks there once.
+pub fn next(
+    tree: &[u8],
+    store: &[u8],
+    low: usize,
+    made: usize,
+    parent: u16,
+    after: Found,
+) -> Found
+    requires { ⌜ Holds (now tree) made × Clear (now tree) parent 0 low ⌝ }
     ensures { λ r. ⌜ Finds 0 made (order.next (slotAt (now (tree .entry))) (now (store .entry)) made parent after) r ⌝ }
 {
     if is_made(made, after) {
-        return nearest(tree, store, made, parent, after);
+        return nearest(tree, store, low, made, parent, after);
     }
     Found::Nothing
 }

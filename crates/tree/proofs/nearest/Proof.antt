@@ -7,10 +7,10 @@ use Rattle.tree.proofs.nearest.Lts as lts
 use Rattle.tree.proofs.better.Reads as better-reads
 
 abbrev Inv-loop : tie.InvT-loop
-Inv-loop tree store made parent after best₀ i₀ best i = Nearing tree store made parent after best i
+Inv-loop tree store low made parent after best₀ i₀ best i = Nearing tree store made parent after best i
 
 abbrev μ-loop : tie.MeasureT-loop
-μ-loop tree store made parent after best₀ i₀ best i = i
+μ-loop tree store low made parent after best₀ i₀ best i = i
 
 loop-holds : tie.Need-loop-holds Inv-loop μ-loop
 loop-holds c = search (needs, near-start)
