@@ -351,10 +351,11 @@ pub fn count_keys(tree: &[u8], store: &[u8], list: List, most: usize) -> usize
 {
     let place = list.place;
     let end = list.end;
+    let low = tree::skip_up(tree, end, place, 0);
     let mut after = Found::Nothing;
     let mut n: usize = 0;
     while n <= most {
-        let found = tree::next(tree, store, end, place, after);
+        let found = tree::next(tree, store, low, end, place, after);
         match found {
             Found::Nothing => return n,
             Found::At(m) => {
@@ -373,10 +374,11 @@ pub fn nth_key(tree: &[u8], store: &[u8], list: List, i: usize) -> Found
 {
     let place = list.place;
     let end = list.end;
+    let low = tree::skip_up(tree, end, place, 0);
     let mut after = Found::Nothing;
     let mut left = i;
     loop {
-        let found = tree::next(tree, store, end, place, after);
+        let found = tree::next(tree, store, low, end, place, after);
         match found {
             Found::Nothing => return Found::Nothing,
             Found::At(m) => {
@@ -427,11 +429,12 @@ pub fn check_applications(
 {
     let place = list.place;
     let end = list.end;
+    let low = tree::skip_up(tree, end, place, 0);
     let mut after = Found::Nothing;
     let mut fault = crate::told(0, 0, 0);
     let mut i = 0;
     while i <= most {
-        let found = tree::next(tree, store, end, place, after);
+        let found = tree::next(tree, store, low, end, place, after);
         match found {
             Found::Nothing => return fault,
             Found::At(m) => {

@@ -8,12 +8,16 @@ use Rattle.parse.proofs.entry.check_applications.Lts as lts
 use Rattle.parse.proofs.entry.earlier_application.Reads as earlier-application-reads
 use Rattle.parse.proofs.told.Reads as told-reads
 use Rattle.tree.proofs.next.Reads as next-reads
+use Rattle.tree.proofs.skip_up.Reads as skip-up-reads
 
 abbrev Inv-loop : tie.InvT-loop
-Inv-loop tree store made most limit place end after₀ fault₀ i₀ after fault i = Walking tree store made most limit end place after fault i
+Inv-loop tree store made most limit place end low after₀ fault₀ i₀ after fault i = Walking tree store made most limit end place after fault i
 
 abbrev μ-loop : tie.MeasureT-loop
-μ-loop tree store made most limit place end after₀ fault₀ i₀ after fault i = most + 1 - i
+μ-loop tree store made most limit place end low after₀ fault₀ i₀ after fault i = most + 1 - i
+
+skip-up-requires : tie.Need-skip-up-requires Inv-loop μ-loop
+skip-up-requires c κs = search (needs, holds-end)
 
 told-requires : tie.Need-told-requires Inv-loop μ-loop
 told-requires c κs = search needs
@@ -57,6 +61,7 @@ check-applications-spec =
     (tie.spec
     Inv-loop
     μ-loop
+    skip-up-requires
     told-requires
     loop-holds
     next-requires

@@ -6,12 +6,16 @@ use Rattle.parse.proofs.entry.count_keys.Tie as tie
 use Rattle.parse.proofs.entry.count_keys.Reads as reads
 use Rattle.parse.proofs.entry.count_keys.Lts as lts
 use Rattle.tree.proofs.next.Reads as next-reads
+use Rattle.tree.proofs.skip_up.Reads as skip-up-reads
 
 abbrev Inv-loop : tie.InvT-loop
-Inv-loop tree store most place end after₀ n₀ after n = Counted tree store end place most after n
+Inv-loop tree store most place end low after₀ n₀ after n = Counted tree store end place most after n
 
 abbrev μ-loop : tie.MeasureT-loop
-μ-loop tree store most place end after₀ n₀ after n = most + 1 - n
+μ-loop tree store most place end low after₀ n₀ after n = most + 1 - n
+
+skip-up-requires : tie.Need-skip-up-requires Inv-loop μ-loop
+skip-up-requires c κs = search needs
 
 loop-holds : tie.Need-loop-holds Inv-loop μ-loop
 loop-holds c = search (needs, count-start)
@@ -46,6 +50,7 @@ count-keys-spec =
     (tie.spec
     Inv-loop
     μ-loop
+    skip-up-requires
     loop-holds
     next-requires
     enum-told

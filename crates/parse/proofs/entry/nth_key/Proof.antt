@@ -5,12 +5,16 @@ use Rattle.parse.proofs.entry.nth_key.Tie as tie
 use Rattle.parse.proofs.entry.nth_key.Reads as reads
 use Rattle.parse.proofs.entry.nth_key.Lts as lts
 use Rattle.tree.proofs.next.Reads as next-reads
+use Rattle.tree.proofs.skip_up.Reads as skip-up-reads
 
 abbrev Inv-loop : tie.InvT-loop
-Inv-loop tree store i place end after₀ left₀ after left = Nearing tree store end place i after left
+Inv-loop tree store i place end low after₀ left₀ after left = Nearing tree store end place i after left
 
 abbrev μ-loop : tie.MeasureT-loop
-μ-loop tree store i place end after₀ left₀ after left = left
+μ-loop tree store i place end low after₀ left₀ after left = left
+
+skip-up-requires : tie.Need-skip-up-requires Inv-loop μ-loop
+skip-up-requires c κs = search needs
 
 loop-holds : tie.Need-loop-holds Inv-loop μ-loop
 loop-holds c = search (needs, nth-start)
@@ -45,6 +49,7 @@ nth-key-spec =
     (tie.spec
     Inv-loop
     μ-loop
+    skip-up-requires
     loop-holds
     next-requires
     enum-told
