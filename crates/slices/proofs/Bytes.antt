@@ -12,6 +12,7 @@ use lib.Seq.{drop-cons, take-suc, take-length, set-at, length-take-le}
 use Rattle.meaning.specs.Base.{before, same, less}
 use Rattle.laws.specs.Cases.{on}
 use Rattle.slices.specs.Found.{Found}
+use Rattle.slices.specs.Heads.{Ranked}
 
 pub past : (s : List ℕ) (i : ℕ) → length s ≤ i → 0 ≡ getD s i 0
 past s i h = sym (List·getD-eq-default s 0 h)
@@ -70,11 +71,6 @@ module _ (a b : List ℕ) (i : ℕ) where
       rw (drop-of-length-le a h, drop-of-length-le b l) at (k .left)
 
 -- ---- less
-pub record Ranked (a b : List ℕ) (i : ℕ) : Type 0 where
-  pub high : i ≤ length a
-  pub low : i ≤ length b
-  pub left : less (drop i a) (drop i b) ≡ less a b
-
 module _ (a b : List ℕ) (i : ℕ) where
   pub less-on : Ranked a b i → i < length a → i < length b → getD a i 0 ≡ getD b i 0 → Ranked a b (i + 1)
   less-on k h l e =

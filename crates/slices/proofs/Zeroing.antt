@@ -32,7 +32,7 @@ or-none a b = on (eqb a 0) none some
         let n : bitOr a b ≡ 0 → ⊥ = λ z. eqb-false a 0 p (omega (arith, or-add-and a b, and-le-r a b, z)) in
         rw (p, ne-eqb (bitOr a b) 0 n)
 
-clear-on : (k : ℕ) (s : List ℕ) (at : ℕ) → clear (suc k) s at ≡ pick (eqb (getD s at 0) 0) (clear k s (at + 1)) false
+pub clear-on : (k : ℕ) (s : List ℕ) (at : ℕ) → clear (suc k) s at ≡ pick (eqb (getD s at 0) 0) (clear k s (at + 1)) false
 unfolding clear
 clear-on k s at = refl
 

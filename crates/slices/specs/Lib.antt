@@ -1,3 +1,4 @@
 pub mod Clear
 pub mod Found
+pub mod Heads
 pub mod Numbers

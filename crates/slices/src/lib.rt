@@ -8,6 +8,7 @@ ghost use Rattle.meaning.specs.Base as base;
 ghost use Rattle.laws.specs.Stored.{stored};
 ghost use Rattle.slices.specs.Clear.{clear};
 ghost use Rattle.slices.specs.Found.{Found};
+ghost use Rattle.slices.specs.Heads.{Ranked, xors};
 ghost use Rattle.slices.specs.Numbers.{Reading, Read, little, number};
 
 // The byte at i, or 0 from the end on.
@@ -48,11 +49,43 @@ pub fn same(a: &[u8], b: &[u8]) -> bool
     true
 }
 
+// Whether the 8 bytes at a place are the same in both. No byte ends the loop, so that the machine takes them at once.
+fn alike(a: &[u8], b: &[u8], at: usize) -> bool
+    requires { ⌜ (at + 8 ≤ length (now a)) × (at + 8 ≤ length (now b)) ⌝ }
+    ensures { λ r. ⌜ r ≡ clear 8 (xors (now (a .entry)) (now (b .entry))) at ⌝ }
+{
+    let mut k = 0;
+    let mut r: u8 = 0;
+    while k < 8 {
+        r = r | (a[at + k] ^ b[at + k]);
+        k += 1;
+    }
+    r == 0
+}
+
+// How many bytes both begin with alike, as far as blocks of 8 go.
+fn shared(a: &[u8], b: &[u8]) -> usize
+    ensures { λ r. ⌜ Ranked (now (a .entry)) (now (b .entry)) r ⌝ }
+{
+    let mut i = 0;
+    while 8 <= a.len() - i {
+        if b.len() - i < 8 {
+            return i;
+        }
+        if alike(a, b, i) {
+            i += 8;
+        } else {
+            return i;
+        }
+    }
+    i
+}
+
 // Whether a comes before b in byte order.
 pub fn less(a: &[u8], b: &[u8]) -> bool
     ensures { λ r. ⌜ r ≡ base.less (now (a .entry)) (now (b .entry)) ⌝ }
 {
-    let mut i = 0;
+    let mut i = shared(a, b);
     while i < a.len() {
         if b.len() <= i {
             return false;

@@ -1,5 +1,6 @@
 use borrow.Author.Needs.{needs}
-use Rattle.slices.proofs.Bytes.{Ranked, less-on, less-told, less-short, less-end}
+use Rattle.slices.proofs.Bytes.{less-on, less-told, less-short, less-end}
+use Rattle.slices.specs.Heads.{Ranked}
 use lib.ListN.{length}
 use Prim.Native.Nat.{_-_}
 use Rattle.slices.proofs.less.Statement.{statement}
@@ -10,6 +11,9 @@ Inv-loop a b i₀ i = Ranked a b i
 
 abbrev μ-loop : tie.MeasureT-loop
 μ-loop a b i₀ i = length a - i
+
+shared-requires : tie.Need-shared-requires Inv-loop μ-loop
+shared-requires c κs = search needs
 
 loop-holds : tie.Need-loop-holds Inv-loop μ-loop
 loop-holds c = search needs
@@ -50,6 +54,7 @@ less-spec =
     (tie.spec
     Inv-loop
     μ-loop
+    shared-requires
     loop-holds
     returns
     shared-slice-read-if2
