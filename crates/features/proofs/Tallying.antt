@@ -9,14 +9,16 @@ use Rattle.meaning.specs.Base.{pick, same, less}
 use Rattle.meaning.specs.Features.{gap, placed, ordered}
 use Rattle.laws.specs.Cases.{on}
 use Rattle.tree.specs.Room.{under}
-use Rattle.tree.specs.Doors.{items, itemsIn}
+use Rattle.tree.specs.declared.Fields.{Fields}
+use Rattle.tree.specs.Doors.{Rooms, fieldsOf, items, itemsIn}
+use Rattle.tree.specs.Spans.{spread-fields, items-newest}
 use Rattle.schema.specs.declared.Features.{Features}
 use Rattle.schema.specs.declared.Features.the-variants as lists
 use Rattle.schema.specs.Texts.{clip}
 use Rattle.features.specs.declared.Piece.{Piece}
 use Rattle.features.specs.declared.Feature.{Feature}
 use Rattle.features.specs.declared.Feature.the-variants.{Nothing, At}
-use Rattle.features.specs.Pieces.{close, wordsAt, piecesAt, piecesFrom, pieces, bound, nextOf}
+use Rattle.features.specs.Pieces.{close, wordsAt, piecesAt, piecesFrom, pieces, bound, reach, nextOf}
 use Rattle.features.specs.Ordered.{bytesAll, bytes-length, Walks, walk-ordered}
 
 close-most : (i n : ℕ) (ps : List Piece) (k : ℕ) → length ps ≤ k → length (close i n ps) ≤ k + n
@@ -111,3 +113,29 @@ tally-last room store made f a n end k e h l =
       ordered-most (bytesAll store (pieces room store made f)),
       bytes-length store (pieces room store made f),
     )
+
+-- ---- the values that hold all items
+
+pub reach-items : (room : List ℕ) (made : ℕ) (f : Features) (place : ℕ) (g : Fields) → f ≡ lists.Items place → g ≡ fieldsOf room made place
+    → g .to ≡ reach room made f
+unfolding fieldsOf
+reach-items room made f place g e h = rw (e, h)
+
+reached : (room : List ℕ) (made : ℕ) (f : Features) → Rooms room made → Rooms room (reach room made f)
+unfolding fieldsOf
+reached room made lists.Absent h = h
+reached room made (lists.Words from len) h = h
+reached room made (lists.Items place) h = let s = spread-fields room made place (h .fits) (h .low) in record { fits = s .fits; low = s .low }
+
+pub reach-rooms : (room : List ℕ) (made near : ℕ) (f : Features) → Rooms room made → near ≡ reach room made f → Rooms room near
+reach-rooms room made near f h e = rw e (reached room made f h)
+
+reach-pieces : (room store : List ℕ) (made : ℕ) (f : Features) → pieces room store (reach room made f) f ≡ pieces room store made f
+unfolding piecesFrom
+reach-pieces room store made lists.Absent = refl
+reach-pieces room store made (lists.Words from len) = refl
+reach-pieces room store made (lists.Items place) = ap (piecesAt room store) (items-newest room place 0 made)
+
+pub reach-all : (room store : List ℕ) (made near : ℕ) (f : Features) (n : ℕ) → near ≡ reach room made f
+    → n ≡ length (ordered (bytesAll store (pieces room store near f))) → n ≡ length (ordered (bytesAll store (pieces room store made f)))
+reach-all room store made near f n e h = rw (e, reach-pieces room store made f) at h

@@ -9,7 +9,7 @@ use Rattle.meaning.specs.Base.{pick, same, less}
 use Rattle.meaning.specs.Features.{gap}
 use Rattle.tree.specs.declared.Value.{Value}
 use Rattle.tree.specs.declared.Value.the-variants as values
-use Rattle.tree.specs.Doors.{valueAt, items}
+use Rattle.tree.specs.Doors.{valueAt, newest, items}
 use Rattle.schema.specs.declared.Features.{Features}
 use Rattle.schema.specs.declared.Features.the-variants.{Absent, Words, Items}
 use Rattle.schema.specs.Texts.{clip}
@@ -112,6 +112,12 @@ module _ (room store : List ℕ) where
     featuresRead limit (values.Flag b) = record { fault = 20; features = Absent }
     featuresRead limit (values.Array place) = fewItems limit place
     featuresRead limit (values.Table place) = record { fault = 20; features = Absent }
+
+-- the values that hold all items: of an array those up to its newest item
+abbrev pub reach : List ℕ → ℕ → Features → ℕ
+reach room made Absent = made
+reach room made (Words from len) = made
+reach room made (Items place) = newest room made place
 
 -- ---- in byte order, each once
 

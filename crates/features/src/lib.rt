@@ -379,8 +379,23 @@ fn most(store: &[u8], made: usize, f: Features) -> usize
     }
 }
 
-// How many items a list has, each once.
-pub fn count(tree: &[u8], store: &[u8], made: usize, f: Features) -> usize
+// The values up to an array's newest item hold all its items, so that a walk over these alone looks at nothing behind them.
+fn reach(tree: &[u8], made: usize, f: Features) -> usize
+    requires { ⌜ Rooms (now tree) made ⌝ }
+    ensures { λ r. ⌜ r ≡ piece.reach (now (tree .entry)) made f ⌝ }
+{
+    match f {
+        Features::Absent => made,
+        Features::Words { from: _, len: _ } => made,
+        Features::Items(place) => {
+            let children = tree::fields_at(tree, made, place);
+            children.to
+        }
+    }
+}
+
+// How many items a list has among so many values, each once.
+fn tally(tree: &[u8], store: &[u8], made: usize, f: Features) -> usize
     requires { ⌜ Rooms (now tree) made ⌝ }
     ensures { λ r. ⌜ r ≡ length (meant.ordered (bytesAll (now (store .entry)) (piece.pieces (now (tree .entry)) (now (store .entry)) made f))) ⌝ }
 {
@@ -394,4 +409,13 @@ pub fn count(tree: &[u8], store: &[u8], made: usize, f: Features) -> usize
         }
     }
     end
+}
+
+// How many items a list has, each once.
+pub fn count(tree: &[u8], store: &[u8], made: usize, f: Features) -> usize
+    requires { ⌜ Rooms (now tree) made ⌝ }
+    ensures { λ r. ⌜ r ≡ length (meant.ordered (bytesAll (now (store .entry)) (piece.pieces (now (tree .entry)) (now (store .entry)) made f))) ⌝ }
+{
+    let near = reach(tree, made, f);
+    tally(tree, store, near, f)
 }

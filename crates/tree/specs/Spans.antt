@@ -55,6 +55,13 @@ module _ (room : List ℕ) (parent : ℕ) where
       let s = count-items k (i + 1) in
       on (under room i parent) (λ p. rw (p, e) (omega (arith, rw p at c))) (λ p. rw (p, e) (omega (arith, rw p at c)))
 
+  -- a last value that hangs elsewhere is none of them
+  last-items : (k i : ℕ) → under room (i + k) parent ≡ false → itemsIn room parent (suc k) i ≡ itemsIn room parent k i
+  last-items zero i p = rw (rw (add-zero i) at p)
+  last-items (suc k) i p =
+      let e : i + suc k ≡ i + 1 + k = omega arith in
+      rw (last-items k (i + 1) (rw e at p))
+
   -- from a child on: the child, and the items behind it
   cons-items : (k i n : ℕ) → first room parent k i ≡ At n → itemsIn room parent k i ≡ n ∷ itemsIn room parent (i + k - (n + 1)) (n + 1)
   cons-items zero i n e = let z : _≡_ {A = ℕ} 0 1 = cc in absurd (omega arith)
@@ -194,6 +201,27 @@ module _ (room : List ℕ) (made parent from : ℕ) where
 
     pub item-rest : ns ≡ items room made parent (n + 1)
     item-rest = let f = items-next n item-child in cc
+
+-- an array's items are those up to the newest, and nothing is lost
+module _ (room : List ℕ) (parent from : ℕ) where
+  fewer-items : (n : ℕ) → under room n parent ≡ false → items room (suc n) parent from ≡ items room n parent from
+  unfolding items
+  fewer-items n p =
+      on (leb from n)
+      (λ t.
+      let l = leb-true from n t in
+      let d : suc n - from ≡ suc (n - from) = omega arith in
+      let e : n ≡ from + (n - from) = omega arith in
+      rw d (last-items room parent (n - from) from (rw e at p)))
+      (λ t.
+      let l = leb-false from n t in
+      let d : suc n - from ≡ 0 = omega arith in
+      let e : n - from ≡ 0 = omega arith in
+      rw (d, e))
+
+  pub items-newest : (made : ℕ) → items room (newest room made parent) parent from ≡ items room made parent from
+  items-newest zero = refl
+  items-newest (suc n) = on (under room n parent) (λ p. rw p) (λ p. rw p (items-newest n ∙ sym (fewer-items n p)))
 
 pub items-count : (room : List ℕ) (made parent : ℕ) → length (items room made parent 0) ≡ count room made parent
 unfolding items
