@@ -183,21 +183,21 @@ module _ (tree store : List ℕ) (made : ℕ) (f : Features) (r : Raw) (h : Step
   pub empty-no : (p : Piece) (n : ℕ) → r ≡ raws.At p n → false ≡ nil? (pieces tree store made f)
   empty-no p n e = rw (step-at tree store made 0 f r h p n e .0)
 
-pub record Nearing (tree store : List ℕ) (made : ℕ) (f : Features) (after best : Feature) (at : ℕ) : Type 0 where
+pub record Nearing (tree store : List ℕ) (made : ℕ) (f : Features) (from : ℕ) (after best : Feature) (at : ℕ) : Type 0 where
   pub high : at ≤ bound tree store made f
-  pub left : nextOf store after best (piecesFrom tree store made f at) ≡ nextOf store after features.Nothing (pieces tree store made f)
+  pub left : nextOf store after best (piecesFrom tree store made f at) ≡ nextOf store after features.Nothing (piecesFrom tree store made f from)
 
-module _ (tree store : List ℕ) (made : ℕ) (f : Features) (after : Feature) where
-  pub near-start : Nearing tree store made f after features.Nothing 0
-  near-start = record { high = omega arith; left = refl }
+module _ (tree store : List ℕ) (made : ℕ) (f : Features) (from : ℕ) (after : Feature) where
+  pub near-start : Rooms tree made × (from ≤ bound tree store made f) → Nearing tree store made f from after features.Nothing from
+  near-start h = record { high = h .1; left = refl }
 
-  module _ (best : Feature) (at : ℕ) (k : Nearing tree store made f after best at)
+  module _ (best : Feature) (at : ℕ) (k : Nearing tree store made f from after best at)
       (r : Raw) (h : Steps (piecesFrom tree store made f) (bound tree store made f) at r) where
-    pub near-end : r ≡ raws.End → best ≡ nextOf store after features.Nothing (pieces tree store made f)
+    pub near-end : r ≡ raws.End → best ≡ nextOf store after features.Nothing (piecesFrom tree store made f from)
     near-end e = rw (step-end tree store made at f r h e) at (k .left)
 
     module _ (p : Piece) (n : ℕ) (e : r ≡ raws.At p n) where
-      pub near-on : (q : Feature) → q ≡ better store after best p → Nearing tree store made f after q n
+      pub near-on : (q : Feature) → q ≡ better store after best p → Nearing tree store made f from after q n
       near-on q g =
           let s = step-at tree store made at f r h p n e in
           record { high = s .2; left = rw g (rw (s .0) at (k .left)) }

@@ -3,22 +3,21 @@ use Prim.Native.Nat.{ℕ, zero, suc, _+_, _-_, _≤_}
 use mathlib.Core.List.{List, [], _∷_}
 use mathlib.Core.Path.{_≡_, refl, sym, ap, subst, _∙_}
 use native.Mathlib.Omega.{arith}
-use lib.Dec.{eqb}
-use lib.ListN.{length}
-use Rattle.meaning.specs.Base.{pick, same, less}
+use lib.ListN.{length, drop, length-drop}
+use Rattle.meaning.specs.Base.{same, less}
 use Rattle.meaning.specs.Features.{gap, placed, ordered}
 use Rattle.laws.specs.Cases.{on}
 use Rattle.tree.specs.Room.{under}
 use Rattle.tree.specs.declared.Fields.{Fields}
 use Rattle.tree.specs.Doors.{Rooms, fieldsOf, items, itemsIn}
-use Rattle.tree.specs.Spans.{spread-fields, items-newest}
+use Rattle.tree.specs.Spans.{spread-fields, items-fields}
 use Rattle.schema.specs.declared.Features.{Features}
 use Rattle.schema.specs.declared.Features.the-variants as lists
 use Rattle.schema.specs.Texts.{clip}
 use Rattle.features.specs.declared.Piece.{Piece}
 use Rattle.features.specs.declared.Feature.{Feature}
 use Rattle.features.specs.declared.Feature.the-variants.{Nothing, At}
-use Rattle.features.specs.Pieces.{close, wordsAt, piecesAt, piecesFrom, pieces, bound, reach, nextOf}
+use Rattle.features.specs.Pieces.{close, wordsAt, piecesAt, piecesFrom, pieces, bound, span, nextOf}
 use Rattle.features.specs.Ordered.{bytesAll, bytes-length, Walks, walk-ordered}
 
 close-most : (i n : ℕ) (ps : List Piece) (k : ℕ) → length ps ≤ k → length (close i n ps) ≤ k + n
@@ -41,11 +40,13 @@ pieces-count : (room store ns : List ℕ) → length (piecesAt room store ns) �
 pieces-count room store [] = refl
 pieces-count room store (n ∷ ns) = ap suc (pieces-count room store ns)
 
-pieces-most : (room store : List ℕ) (made : ℕ) (f : Features) → length (pieces room store made f) ≤ bound room store made f
+pieces-most : (room store : List ℕ) (made : ℕ) (f : Features) (at : ℕ) → length (piecesFrom room store made f at) ≤ bound room store made f
 unfolding piecesFrom items
-pieces-most room store made lists.Absent = omega arith
-pieces-most room store made (lists.Words from len) = omega (arith, words-most (from + 0) 0 (clip from len store))
-pieces-most room store made (lists.Items place) = omega (arith, pieces-count room store (items room made place 0), items-most room place (made - 0) 0)
+pieces-most room store made lists.Absent at = omega arith
+pieces-most room store made (lists.Words from len) at =
+    omega (arith, words-most (from + at) 0 (drop at (clip from len store)), length-drop at (clip from len store))
+pieces-most room store made (lists.Items place) at =
+    omega (arith, pieces-count room store (items room made place at), items-most room place (made - at) at)
 
 placed-most : (x : List ℕ) (ys : List (List ℕ)) → length (placed x ys) ≤ suc (length ys)
 placed-most x [] = omega arith
@@ -102,40 +103,43 @@ bound-any room other store made lists.Absent = refl
 bound-any room other store made (lists.Words from len) = refl
 bound-any room other store made (lists.Items place) = refl
 
-pub tally-last : (room store : List ℕ) (made : ℕ) (f : Features) (a : Feature) (n end : ℕ) → Tallied store (pieces room store made f) a n
-    → end ≡ bound store store made f → end ≤ n → n ≤ end → end ≡ length (ordered (bytesAll store (pieces room store made f)))
-tally-last room store made f a n end k e h l =
+pub tally-last : (room store : List ℕ) (made : ℕ) (f : Features) (from : ℕ) (a : Feature) (n end : ℕ)
+    → Tallied store (piecesFrom room store made f from) a n → end ≡ bound store store made f → end ≤ n → n ≤ end
+    → end ≡ length (ordered (bytesAll store (piecesFrom room store made f from)))
+tally-last room store made f from a n end k e h l =
     omega (
       arith,
       k .left,
       bound-any room store store made f,
-      pieces-most room store made f,
-      ordered-most (bytesAll store (pieces room store made f)),
-      bytes-length store (pieces room store made f),
+      pieces-most room store made f from,
+      ordered-most (bytesAll store (piecesFrom room store made f from)),
+      bytes-length store (piecesFrom room store made f from),
     )
 
--- ---- the values that hold all items
+-- ---- among which values the items stand
 
-pub reach-items : (room : List ℕ) (made : ℕ) (f : Features) (place : ℕ) (g : Fields) → f ≡ lists.Items place → g ≡ fieldsOf room made place
-    → g .to ≡ reach room made f
-unfolding fieldsOf
-reach-items room made f place g e h = rw (e, h)
+pub span-items : (room : List ℕ) (made : ℕ) (f : Features) (place : ℕ) (s : Fields) → f ≡ lists.Items place → s ≡ fieldsOf room made place
+    → s ≡ span room made f
+span-items room made f place s e h = rw e h
 
-reached : (room : List ℕ) (made : ℕ) (f : Features) → Rooms room made → Rooms room (reach room made f)
-unfolding fieldsOf
-reached room made lists.Absent h = h
-reached room made (lists.Words from len) h = h
-reached room made (lists.Items place) h = let s = spread-fields room made place (h .fits) (h .low) in record { fits = s .fits; low = s .low }
+spread : (room store : List ℕ) (made : ℕ) (f : Features) → Rooms room made
+    → Rooms room (span room made f .to) × (span room made f .from ≤ bound room store (span room made f .to) f)
+spread room store made lists.Absent h = (h, omega arith)
+spread room store made (lists.Words from len) h = (h, omega arith)
+spread room store made (lists.Items place) h =
+    let s = spread-fields room made place (h .fits) (h .low) in
+    (record { fits = s .fits; low = s .low }, s .order)
 
-pub reach-rooms : (room : List ℕ) (made near : ℕ) (f : Features) → Rooms room made → near ≡ reach room made f → Rooms room near
-reach-rooms room made near f h e = rw e (reached room made f h)
+pub span-in : (room store : List ℕ) (made : ℕ) (f : Features) (s : Fields) → Rooms room made → s ≡ span room made f
+    → Rooms room (s .to) × (s .from ≤ bound room store (s .to) f)
+span-in room store made f s h e = rw e (spread room store made f h)
 
-reach-pieces : (room store : List ℕ) (made : ℕ) (f : Features) → pieces room store (reach room made f) f ≡ pieces room store made f
+span-pieces : (room store : List ℕ) (made : ℕ) (f : Features) → piecesFrom room store (span room made f .to) f (span room made f .from) ≡ pieces room store made f
 unfolding piecesFrom
-reach-pieces room store made lists.Absent = refl
-reach-pieces room store made (lists.Words from len) = refl
-reach-pieces room store made (lists.Items place) = ap (piecesAt room store) (items-newest room place 0 made)
+span-pieces room store made lists.Absent = refl
+span-pieces room store made (lists.Words from len) = refl
+span-pieces room store made (lists.Items place) = ap (piecesAt room store) (items-fields room place made)
 
-pub reach-all : (room store : List ℕ) (made near : ℕ) (f : Features) (n : ℕ) → near ≡ reach room made f
-    → n ≡ length (ordered (bytesAll store (pieces room store near f))) → n ≡ length (ordered (bytesAll store (pieces room store made f)))
-reach-all room store made near f n e h = rw (e, reach-pieces room store made f) at h
+pub span-all : (room store : List ℕ) (made : ℕ) (f : Features) (s : Fields) (n : ℕ) → s ≡ span room made f
+    → n ≡ length (ordered (bytesAll store (piecesFrom room store (s .to) f (s .from)))) → n ≡ length (ordered (bytesAll store (pieces room store made f)))
+span-all room store made f s n e h = rw (e, span-pieces room store made f) at h

@@ -9,7 +9,8 @@ use Rattle.meaning.specs.Base.{pick, same, less}
 use Rattle.meaning.specs.Features.{gap}
 use Rattle.tree.specs.declared.Value.{Value}
 use Rattle.tree.specs.declared.Value.the-variants as values
-use Rattle.tree.specs.Doors.{valueAt, newest, items}
+use Rattle.tree.specs.declared.Fields.{Fields}
+use Rattle.tree.specs.Doors.{valueAt, fieldsOf, items}
 use Rattle.schema.specs.declared.Features.{Features}
 use Rattle.schema.specs.declared.Features.the-variants.{Absent, Words, Items}
 use Rattle.schema.specs.Texts.{clip}
@@ -113,11 +114,11 @@ module _ (room store : List ℕ) where
     featuresRead limit (values.Array place) = fewItems limit place
     featuresRead limit (values.Table place) = record { fault = 20; features = Absent }
 
--- the values that hold all items: of an array those up to its newest item
-abbrev pub reach : List ℕ → ℕ → Features → ℕ
-reach room made Absent = made
-reach room made (Words from len) = made
-reach room made (Items place) = newest room made place
+-- where among the values all items stand: an array's between its first item and its newest
+abbrev pub span : List ℕ → ℕ → Features → Fields
+span room made Absent = record { place = 0; from = 0; to = made }
+span room made (Words from len) = record { place = 0; from = 0; to = made }
+span room made (Items place) = fieldsOf room made place
 
 -- ---- in byte order, each once
 

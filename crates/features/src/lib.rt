@@ -4,6 +4,7 @@ mod reader;
 
 use reader::Word;
 use schema::Features;
+use tree::Fields;
 use tree::Found;
 use tree::Value;
 ghost use mathlib.Core.Bool.{true};
@@ -264,13 +265,20 @@ fn better(store: &[u8], after: Feature, best: Feature, p: Piece) -> Feature
     best
 }
 
-// The next item in byte order behind the last one given, each once.
-pub fn next(tree: &[u8], store: &[u8], made: usize, f: Features, after: Feature) -> Feature
-    requires { ⌜ Rooms (now tree) made ⌝ }
-    ensures { λ r. ⌜ r ≡ piece.nextOf (now (store .entry)) after Feature.Nothing (piece.pieces (now (tree .entry)) (now (store .entry)) made f) ⌝ }
+// Of a list's items from a position on, the least behind the last one given.
+fn nearest(
+    tree: &[u8],
+    store: &[u8],
+    made: usize,
+    f: Features,
+    from: usize,
+    after: Feature,
+) -> Feature
+    requires { ⌜ Rooms (now tree) made × (from ≤ piece.bound (now tree) (now store) made f) ⌝ }
+    ensures { λ r. ⌜ r ≡ piece.nextOf (now (store .entry)) after Feature.Nothing (piece.piecesFrom (now (tree .entry)) (now (store .entry)) made f from) ⌝ }
 {
     let mut best = Feature::Nothing;
-    let mut at = 0;
+    let mut at = from;
     loop {
         let r = raw_next(tree, store, made, f, at);
         match r {
@@ -281,6 +289,14 @@ pub fn next(tree: &[u8], store: &[u8], made: usize, f: Features, after: Feature)
             }
         }
     }
+}
+
+// The next item in byte order behind the last one given, each once.
+pub fn next(tree: &[u8], store: &[u8], made: usize, f: Features, after: Feature) -> Feature
+    requires { ⌜ Rooms (now tree) made ⌝ }
+    ensures { λ r. ⌜ r ≡ piece.nextOf (now (store .entry)) after Feature.Nothing (piece.pieces (now (tree .entry)) (now (store .entry)) made f) ⌝ }
+{
+    nearest(tree, store, made, f, 0, after)
 }
 
 // Whether two pieces have the same bytes.
@@ -379,30 +395,35 @@ fn most(store: &[u8], made: usize, f: Features) -> usize
     }
 }
 
-// The values up to an array's newest item hold all its items, so that a walk over these alone looks at nothing behind them.
-fn reach(tree: &[u8], made: usize, f: Features) -> usize
+// Among which values all items of a list stand: an array's between its first item and its newest, so that a walk looks at no others.
+fn span(tree: &[u8], made: usize, f: Features) -> Fields
     requires { ⌜ Rooms (now tree) made ⌝ }
-    ensures { λ r. ⌜ r ≡ piece.reach (now (tree .entry)) made f ⌝ }
+    ensures { λ r. ⌜ r ≡ piece.span (now (tree .entry)) made f ⌝ }
 {
     match f {
-        Features::Absent => made,
-        Features::Words { from: _, len: _ } => made,
-        Features::Items(place) => {
-            let children = tree::fields_at(tree, made, place);
-            children.to
-        }
+        Features::Absent => Fields {
+            place: 0,
+            from: 0,
+            to: made,
+        },
+        Features::Words { from: _, len: _ } => Fields {
+            place: 0,
+            from: 0,
+            to: made,
+        },
+        Features::Items(place) => tree::fields_at(tree, made, place),
     }
 }
 
-// How many items a list has among so many values, each once.
-fn tally(tree: &[u8], store: &[u8], made: usize, f: Features) -> usize
-    requires { ⌜ Rooms (now tree) made ⌝ }
-    ensures { λ r. ⌜ r ≡ length (meant.ordered (bytesAll (now (store .entry)) (piece.pieces (now (tree .entry)) (now (store .entry)) made f))) ⌝ }
+// How many items a list has from a position on, each once.
+fn tally(tree: &[u8], store: &[u8], made: usize, f: Features, from: usize) -> usize
+    requires { ⌜ Rooms (now tree) made × (from ≤ piece.bound (now tree) (now store) made f) ⌝ }
+    ensures { λ r. ⌜ r ≡ length (meant.ordered (bytesAll (now (store .entry)) (piece.piecesFrom (now (tree .entry)) (now (store .entry)) made f from))) ⌝ }
 {
     let end = most(store, made, f);
     let mut after = Feature::Nothing;
     for n in 0..end {
-        after = next(tree, store, made, f, after);
+        after = nearest(tree, store, made, f, from, after);
         match after {
             Feature::Nothing => return n,
             Feature::At(_) => {}
@@ -416,6 +437,6 @@ pub fn count(tree: &[u8], store: &[u8], made: usize, f: Features) -> usize
     requires { ⌜ Rooms (now tree) made ⌝ }
     ensures { λ r. ⌜ r ≡ length (meant.ordered (bytesAll (now (store .entry)) (piece.pieces (now (tree .entry)) (now (store .entry)) made f))) ⌝ }
 {
-    let near = reach(tree, made, f);
-    tally(tree, store, near, f)
+    let s = span(tree, made, f);
+    tally(tree, store, s.to, f, s.from)
 }

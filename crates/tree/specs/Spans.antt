@@ -62,6 +62,15 @@ module _ (room : List ℕ) (parent : ℕ) where
       let e : i + suc k ≡ i + 1 + k = omega arith in
       rw (last-items k (i + 1) (rw e at p))
 
+  -- nor are first ones that do
+  first-items : (d k i : ℕ) → ((j : ℕ) → i ≤ j → j < i + d → under room j parent ≡ false) → itemsIn room parent (k + d) i ≡ itemsIn room parent k (i + d)
+  first-items zero k i h = rw (add-zero i, add-zero k)
+  first-items (suc d) k i h =
+      let e : i + suc d ≡ i + 1 + d = omega arith in
+      let s : k + suc d ≡ suc (k + d) = omega arith in
+      let p : under room i parent ≡ false = h i (omega arith) (omega arith) in
+      rw (s, e, p) (first-items d k (i + 1) (λ j l m. h j (omega arith) (omega arith)))
+
   -- from a child on: the child, and the items behind it
   cons-items : (k i n : ℕ) → first room parent k i ≡ At n → itemsIn room parent k i ≡ n ∷ itemsIn room parent (i + k - (n + 1)) (n + 1)
   cons-items zero i n e = let z : _≡_ {A = ℕ} 0 1 = cc in absurd (omega arith)
@@ -202,26 +211,31 @@ module _ (room : List ℕ) (made parent from : ℕ) where
     pub item-rest : ns ≡ items room made parent (n + 1)
     item-rest = let f = items-next n item-child in cc
 
--- an array's items are those up to the newest, and nothing is lost
-module _ (room : List ℕ) (parent from : ℕ) where
-  fewer-items : (n : ℕ) → under room n parent ≡ false → items room (suc n) parent from ≡ items room n parent from
+-- its items are those from the first child to the newest, and nothing is lost
+module _ (room : List ℕ) (place : ℕ) where
+  fewer-items : (n : ℕ) → under room n place ≡ false → items room (suc n) place 0 ≡ items room n place 0
   unfolding items
   fewer-items n p =
-      on (leb from n)
-      (λ t.
-      let l = leb-true from n t in
-      let d : suc n - from ≡ suc (n - from) = omega arith in
-      let e : n ≡ from + (n - from) = omega arith in
-      rw d (last-items room parent (n - from) from (rw e at p)))
-      (λ t.
-      let l = leb-false from n t in
-      let d : suc n - from ≡ 0 = omega arith in
-      let e : n - from ≡ 0 = omega arith in
-      rw (d, e))
+      let d : suc n - 0 ≡ suc n = omega arith in
+      let e : n - 0 ≡ n = omega arith in
+      let z : 0 + n ≡ n = omega arith in
+      rw (d, e) (last-items room place n 0 (rw z p))
 
-  pub items-newest : (made : ℕ) → items room (newest room made parent) parent from ≡ items room made parent from
+  items-newest : (made : ℕ) → items room (newest room made place) place 0 ≡ items room made place 0
   items-newest zero = refl
-  items-newest (suc n) = on (under room n parent) (λ p. rw p) (λ p. rw p (items-newest n ∙ sym (fewer-items n p)))
+  items-newest (suc n) = on (under room n place) (λ p. rw p) (λ p. rw p (items-newest n ∙ sym (fewer-items n p)))
+
+  items-first : (to : ℕ) → items room to place (orElse (child room to place 0) to) ≡ items room to place 0
+  unfolding items
+  items-first to =
+      let from : ℕ = orElse (child room to place 0) to in
+      let d : to - 0 ≡ to - from + from = omega (arith, from-high room to place) in
+      let z : 0 + from ≡ from = omega arith in
+      sym (rw d (rw z at (first-items room place from (to - from) 0 (λ j l m. from-clear room to place j (rw z at m)))))
+
+  pub items-fields : (made : ℕ) → items room (fieldsOf room made place .to) place (fieldsOf room made place .from) ≡ items room made place 0
+  unfolding fieldsOf
+  items-fields made = items-first (newest room made place) ∙ items-newest made
 
 pub items-count : (room : List ℕ) (made parent : ℕ) → length (items room made parent 0) ≡ count room made parent
 unfolding items

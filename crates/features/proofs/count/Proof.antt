@@ -1,16 +1,16 @@
 use borrow.Author.Needs.{needs}
-use Rattle.features.proofs.Tallying.{reach-rooms, reach-all}
+use Rattle.features.proofs.Tallying.{span-in, span-all}
 use Rattle.features.proofs.count.Statement.{statement}
 use Rattle.features.proofs.count.Tie as tie
 
-reach-requires : tie.Need-reach-requires
-reach-requires c κs = search needs
+span-requires : tie.Need-span-requires
+span-requires c κs = search needs
 
 tally-requires : tie.Need-tally-requires
-tally-requires c κs = search (needs, reach-rooms)
+tally-requires c κs = let d = c .before .before .before in span-in _ (d .args .store .now) _ (d .args .f) _ (d .pre) (c .span .ensures)
 
 returns : tie.Need-returns
-returns c = search (needs, reach-all)
+returns c = search (needs, span-all)
 
 pub count-spec : {M : Type 1} → statement M
-count-spec = tie.close (tie.spec reach-requires tally-requires returns)
+count-spec = tie.close (tie.spec span-requires tally-requires returns)

@@ -1,5 +1,5 @@
 use borrow.Author.Needs.{needs}
-use Rattle.features.specs.Pieces.{pieces}
+use Rattle.features.specs.Pieces.{piecesFrom}
 use Rattle.features.proofs.Tallying.{Tallied, tally-start, tally-end, tally-on, tally-last}
 use Prim.Native.Nat.{_-_, _≤_}
 use Rattle.features.proofs.tally.Statement.{statement}
@@ -7,13 +7,13 @@ use Rattle.features.proofs.tally.Tie as tie
 use Rattle.features.proofs.tally.Reads as reads
 use Rattle.features.proofs.tally.Lts as lts
 use Rattle.features.proofs.most.Reads as most-reads
-use Rattle.features.proofs.next.Reads as next-reads
+use Rattle.features.proofs.nearest.Reads as nearest-reads
 
 abbrev Inv-loop : tie.InvT-loop
-Inv-loop tree store made f end after₀ n₀ after n = Tallied store (pieces tree store made f) after n × (n ≤ end)
+Inv-loop tree store made f from end after₀ n₀ after n = Tallied store (piecesFrom tree store made f from) after n × (n ≤ end)
 
 abbrev μ-loop : tie.MeasureT-loop
-μ-loop tree store made f end after₀ n₀ after n = end - n
+μ-loop tree store made f from end after₀ n₀ after n = end - n
 
 most-requires : tie.Need-most-requires Inv-loop μ-loop
 most-requires c κs = search needs
@@ -21,8 +21,8 @@ most-requires c κs = search needs
 loop-holds : tie.Need-loop-holds Inv-loop μ-loop
 loop-holds c = search (needs, tally-start)
 
-next-requires : tie.Need-next-requires Inv-loop μ-loop
-next-requires c κs = search needs
+nearest-requires : tie.Need-nearest-requires Inv-loop μ-loop
+nearest-requires c κs = search needs
 
 enum-told : tie.Need-enum-told Inv-loop μ-loop
 enum-told c = search needs
@@ -53,7 +53,7 @@ tally-spec =
     μ-loop
     most-requires
     loop-holds
-    next-requires
+    nearest-requires
     enum-told
     returns
     enum-told-2

@@ -1,7 +1,7 @@
 use borrow.Author.Needs.{needs}
-use Rattle.features.proofs.Tallying.{reach-items}
-use Rattle.features.proofs.reach.Statement.{statement}
-use Rattle.features.proofs.reach.Tie as tie
+use Rattle.features.proofs.Tallying.{span-items}
+use Rattle.features.proofs.span.Statement.{statement}
+use Rattle.features.proofs.span.Tie as tie
 
 enum-told : tie.Need-enum-told
 enum-told c = search needs
@@ -16,15 +16,15 @@ fields-at-requires : tie.Need-fields-at-requires
 fields-at-requires c κs = search needs
 
 returns : tie.Need-returns
-returns c = search needs
+returns c = cc
 
 returns-2 : tie.Need-returns-2
-returns-2 c = search needs
+returns-2 c = cc
 
 returns-3 : tie.Need-returns-3
-returns-3 c = search (needs, reach-items)
+returns-3 c = search (needs, span-items)
 
-pub reach-spec : {M : Type 1} → statement M
-reach-spec =
+pub span-spec : {M : Type 1} → statement M
+span-spec =
     tie.close
     (tie.spec enum-told enum-told-2 enum-known-f fields-at-requires returns returns-2 returns-3)

@@ -2,18 +2,18 @@ use borrow.Author.Needs.{needs}
 use Prim.Native.Nat.{_-_}
 use Rattle.features.specs.Pieces.{bound}
 use Rattle.features.proofs.Stepping.{Nearing, near-start, near-on, near-end, step-less}
-use Rattle.features.proofs.next.Statement.{statement}
-use Rattle.features.proofs.next.Tie as tie
-use Rattle.features.proofs.next.Reads as reads
-use Rattle.features.proofs.next.Lts as lts
+use Rattle.features.proofs.nearest.Statement.{statement}
+use Rattle.features.proofs.nearest.Tie as tie
+use Rattle.features.proofs.nearest.Reads as reads
+use Rattle.features.proofs.nearest.Lts as lts
 use Rattle.features.proofs.better.Reads as better-reads
 use Rattle.features.proofs.raw_next.Reads as raw-next-reads
 
 abbrev Inv-loop : tie.InvT-loop
-Inv-loop tree store made f after best₀ at₀ best at = Nearing tree store made f after best at
+Inv-loop tree store made f from after best₀ at₀ best at = Nearing tree store made f from after best at
 
 abbrev μ-loop : tie.MeasureT-loop
-μ-loop tree store made f after best₀ at₀ best at = bound tree store made f - at
+μ-loop tree store made f from after best₀ at₀ best at = bound tree store made f - at
 
 loop-holds : tie.Need-loop-holds Inv-loop μ-loop
 loop-holds c = search (needs, near-start)
@@ -39,8 +39,8 @@ loop-less c = search (needs, step-less)
 loop-again : tie.Need-loop-again Inv-loop μ-loop
 loop-again c = search (needs, near-on)
 
-pub next-spec : {M : Type 1} → statement M
-next-spec =
+pub nearest-spec : {M : Type 1} → statement M
+nearest-spec =
     tie.close
     (tie.spec
     Inv-loop
