@@ -6,7 +6,7 @@ use mathlib.Core.Path.{_≡_, refl, sym, ap, _∙_}
 use native.Mathlib.Omega.{arith}
 use native.Mathlib.Numerals.{add-one}
 use borrow.Author.Tests.{eq-eqb, ne-eqb}
-use lib.ListN.{length, take, set, replicate, length-set, length-map}
+use lib.ListN.{length, take, set, replicate, length-set}
 use lib.Seq.{take-suc-set}
 use Rattle.tree.specs.declared.Found.{Found}
 use Rattle.tree.specs.declared.Found.the-variants.{At, Nothing}
@@ -21,13 +21,13 @@ use Rattle.parse.specs.Entries as parsed
 use Rattle.parse.specs.Entries.{told, walk, eachComponent, applicationFault}
 use Rattle.parse.proofs.Entering as reading
 use Rattle.layout.specs.declared.Mark.{Mark}
-use Rattle.layout.specs.Marks.{anyOf}
+use Rattle.layout.specs.declared.Fault.{Fault}
+use Rattle.layout.specs.Marks.{anyOf, firstHit, judged, Marked}
 use Rattle.layout.specs.Parts.{noMarks}
 use Rattle.validate.specs.declared.Entry.{Entry}
 use Rattle.validate.specs.declared.uses.Spot.{Spot}
 use Rattle.validate.specs.declared.uses.Pair.{Pair}
-use Rattle.validate.specs.declared.gather.Gathered.{Gathered}
-use Rattle.validate.specs.Clashes.{noSpot}
+use Rattle.validate.specs.Clashes.{noSpot, clash}
 use Rattle.validate.specs.Entries.{componentEntry, applicationEntry, componentAt, applicationAt}
 use Rattle.validate.specs.Gathered.{blank, either, faultAt, Listed, Counted, Components, Followed, Applications}
 
@@ -67,9 +67,9 @@ module _ (entry : ℕ → Entry) (all : Seq ℕ) (front : Seq Pair) (marks : Seq
     all-passed : i ≡ length all
     all-passed = omega (arith, k .count)
 
-    passed-listed : (fault : Refusal) (first : Bool) → i ≤ 64 → Listed entry all (record { fault = fault; count = i; first = first; marks = marks; pairs = pairs })
-    passed-listed fault first l =
-        record { count = all-passed; few = omega (arith, all-passed); marks = rw (← all-passed) (sym (rw append-nil at (k .marks))) }
+    passed-listed : (store : Seq ℕ) (number : ℕ) (own : Fault) → i ≤ 64 → own ≡ judged number store (take i marks) → Listed store number entry all i own
+    passed-listed store number own l e =
+        record { is = all-passed; few = omega (arith, all-passed); own = e ∙ ap (judged number store) (sym (rw append-nil at (k .marks))) }
 
     passed-pairs : take at pairs ≡ front ++ map (λ n. entry n .pair) all
     passed-pairs = sym (rw append-nil at (k .pairs))
@@ -105,28 +105,34 @@ module _ (room store : Seq ℕ) (made : ℕ) (parts : Seq (Seq ℕ)) (place end 
       }
 
   module _ (marks : Seq Mark) (pairs : Seq Pair) (fault : Refusal) (first : Bool) (i from : ℕ) (k : Composed room store made parts place end marks pairs fault first i from) where
-    -- no item is left
-    comps-done : fault ≡ eachComponent room store made place end 32 → items room end place from ≡ []
-        → Components room store made place end parts (record { fault = fault; count = i; first = first; marks = marks; pairs = pairs })
-    comps-done f g =
-        let p : Passed (componentAt room store made parts) (items room end place 0) [] [] marks pairs i i = rw g at (k .passed) in
-        let n : i ≡ length (items room end place 0) = all-passed (componentAt room store made parts) (items room end place 0) [] marks pairs i i p in
-        record {
-          fault = f;
-          gathers = λ _. record {
-            listed = passed-listed (componentAt room store made parts) (items room end place 0) [] marks pairs i i p fault first (omega (arith, n, k .few));
-            pairs = rw (← n) (passed-pairs (componentAt room store made parts) (items room end place 0) [] marks pairs i i p);
-            first = sym (rw g at (k .left) ∙ either-none first);
-          };
-        }
+    pub comps-marked : Marked i 51
+    comps-marked = record { fits = omega (arith, k .passed .count, k .few); told = omega arith }
 
-    pub comps-end : end ≤ from → Components room store made place end parts (record { fault = fault; count = i; first = first; marks = marks; pairs = pairs })
-    unfolding items
-    comps-end l = let d : end - from ≡ 0 = omega arith in comps-done (reading.comps-end room store made place end 32 i from (k .reads) fault l (k .none)) (rw d)
+    -- behind the loop the fault is one of those that its ways out leave
+    module _ (r : Refusal) (own : Fault) (eo : own ≡ judged 51 store (take i marks)) where
+      -- no item is left
+      comps-done : r ≡ eachComponent room store made place end 32 → items room end place from ≡ []
+          → Components room store made place end parts (record { fault = r; count = i; first = first; own = own; pairs = pairs })
+      comps-done f g =
+          let p : Passed (componentAt room store made parts) (items room end place 0) [] [] marks pairs i i = rw g at (k .passed) in
+          let n : i ≡ length (items room end place 0) = all-passed (componentAt room store made parts) (items room end place 0) [] marks pairs i i p in
+          record {
+            fault = f;
+            gathers = λ _. record {
+              listed = passed-listed (componentAt room store made parts) (items room end place 0) [] marks pairs i i p store 51 own (comps-marked .fits) eo;
+              pairs = rw (← n) (passed-pairs (componentAt room store made parts) (items room end place 0) [] marks pairs i i p);
+              first = sym (rw g at (k .left) ∙ either-none first);
+            };
+          }
+
+      pub comps-end : end ≤ from → r ≡ fault → Components room store made place end parts (record { fault = r; count = i; first = first; own = own; pairs = pairs })
+      unfolding items
+      comps-end l e = let d : end - from ≡ 0 = omega arith in comps-done (reading.comps-end room store made place end 32 i from (k .reads) r l (e ∙ k .none)) (rw d)
 
     module _ (found : Found) (h : Finds from end (child room end place from) found) where
-      pub comps-none : found ≡ Nothing → Components room store made place end parts (record { fault = fault; count = i; first = first; marks = marks; pairs = pairs })
-      comps-none g = comps-done (reading.comps-none room store made place end 32 i from (k .reads) fault found h g (k .none)) (items-end room end place from found h g)
+      pub comps-none : found ≡ Nothing → (r : Refusal) (own : Fault) → own ≡ judged 51 store (take i marks) → r ≡ fault
+          → Components room store made place end parts (record { fault = r; count = i; first = first; own = own; pairs = pairs })
+      comps-none g r own eo e = comps-done r own eo (reading.comps-none room store made place end 32 i from (k .reads) r found h g (e ∙ k .none)) (items-end room end place from found h g)
 
       module _ (n : ℕ) (g : found ≡ At n) where
         pub comps-room : i < 64
@@ -137,9 +143,10 @@ module _ (room store : Seq ℕ) (made : ℕ) (parts : Seq (Seq ℕ)) (place end 
           unfolding componentEntry
           fault-is = ap (λ (x : Entry). x .fault) d
 
-          pub comps-not : (r : Refusal) → (e .fault ≡ 0 → ⊥) → r ≡ told 4 (e .fault) i
-              → Components room store made place end parts (record { fault = r; count = i; first = first; marks = marks; pairs = pairs })
-          comps-not r z t =
+          pub comps-not : (e .fault ≡ 0 → ⊥) → (here r : Refusal) (own : Fault) → here ≡ told 4 (e .fault) i → r ≡ here
+              → Components room store made place end parts (record { fault = r; count = i; first = first; own = own; pairs = pairs })
+          comps-not z here r own eh er =
+              let t : r ≡ told 4 (e .fault) i = er ∙ eh in
               record {
                 fault = reading.comps-not room store made place end 32 i from (k .reads) r found h n (parsed.componentAt room store made n 32) g refl (rw (← fault-is) z) (rw (← fault-is) t);
                 gathers = λ y. absurd (z (sym (ap (λ (x : Refusal). x .number) t) ∙ y));
@@ -161,56 +168,61 @@ module _ (room store : Seq ℕ) (made : ℕ) (parts : Seq (Seq ℕ)) (place end 
 
 -- ---- applications
 
-pub record Applied (room store : Seq ℕ) (made : ℕ) (parts : Seq (Seq ℕ)) (place end : ℕ) (c : Gathered) (behind : ℕ) (marks : Seq Mark) (pairs : Seq Pair) (fault : Refusal) (after : Found) (i : ℕ) : Type 0 where
-  pub is : behind ≡ c .count
+-- applications that were met, behind packages of an array that has more room
+pub record Applying (room store : Seq ℕ) (made : ℕ) (parts : Seq (Seq ℕ)) (place end : ℕ) (old : Seq Pair) (behind : ℕ) (marks : Seq Mark) (pairs : Seq Pair) (fault : Refusal) (after : Found) (i : ℕ) : Type 0 where
   pub low : behind ≤ 64
   pub high : i ≤ 64
   pub reads : reading.Walking room store made 64 32 end place after fault i
-  pub passed : Passed (applicationAt room store made parts) (walk room store end place 65 Nothing) (walk room store end place (65 - i) after) (take (c .count) (c .pairs)) marks pairs i (behind + i)
+  pub passed : Passed (applicationAt room store made parts) (walk room store end place 65 Nothing) (walk room store end place (65 - i) after) (take behind old) marks pairs i (behind + i)
 
 pub key-stood : (room store : Seq ℕ) (made place end n : ℕ) (after found : Found) → Finds 0 end (next (slotAt room) store end place after) found → found ≡ At n → Rooms room made → end ≤ made → Stood room n
 key-stood room store made place end n after found h g r l =
     let b : n < end = found-below found end n (h .below) g in
     record { fits = record { fits = omega (arith, r .fits .fits) }; low = omega (arith, r .low) }
 
-module _ (room store : Seq ℕ) (made : ℕ) (parts : Seq (Seq ℕ)) (place end : ℕ) (c : Gathered) where
-  -- an array in a struct is as long as its elements in the machine
-  pub apps-start : (count : ℕ) (marks : Seq Mark) (fault : Refusal) {X : Type 0} (f : Pair → X) → Followed room made end count c → length (map f (c .pairs)) ≡ 128 → marks ≡ noMarks → fault ≡ told 0 0 0
-      → Applied room store made parts place end c (c .count) marks (c .pairs) fault Nothing 0
-  apps-start count marks fault f h w m e =
-      let z : c .count + 0 ≡ c .count = omega arith in
+module _ (room store : Seq ℕ) (made : ℕ) (parts : Seq (Seq ℕ)) (place end : ℕ) (old : Seq Pair) (behind : ℕ) where
+  pub apps-start : (count : ℕ) (marks : Seq Mark) (fault : Refusal) → Followed room made end count behind → length old ≡ 128 → marks ≡ noMarks → fault ≡ told 0 0 0
+      → Applying room store made parts place end old behind marks old fault Nothing 0
+  apps-start count marks fault h w m e =
+      let z : behind + 0 ≡ behind = omega arith in
       record {
-        is = refl;
-        low = h .behind;
+        low = h .low;
         high = omega arith;
         reads = reading.apps-start room store made 64 32 end place fault e;
-        passed = record { count = omega arith; mark-room = ap length m; pair-room = sym (length-map (c .pairs) f) ∙ w; marks = refl; pairs = rw z };
+        passed = record { count = omega arith; mark-room = ap length m; pair-room = w; marks = refl; pairs = rw z };
       }
 
-  module _ (behind : ℕ) (marks : Seq Mark) (pairs : Seq Pair) (fault : Refusal) (after : Found) (i : ℕ) (k : Applied room store made parts place end c behind marks pairs fault after i) where
-    pub apps-end : 64 < i → Applications room store made place end parts c (record { fault = fault; count = i; first = c .first; marks = marks; pairs = pairs })
-    apps-end l = absurd (omega (arith, k .high))
+  module _ (marks : Seq Mark) (pairs : Seq Pair) (fault : Refusal) (after : Found) (i : ℕ) (k : Applying room store made parts place end old behind marks pairs fault after i) where
+    pub apps-marked : Marked i 65
+    apps-marked = record { fits = k .high; told = omega arith }
+
+    pub apps-all : behind + i ≤ 128
+    apps-all = omega (arith, k .low, k .high)
+
+    pub apps-end : 64 < i → (r : Refusal) (own : Fault) (at : ℕ) → Applications room store made place end parts (take behind old) (record { fault = r; count = i; own = own; clash = at })
+    apps-end l r own at = absurd (omega (arith, k .high))
 
     module _ (found : Found) (h : Finds 0 end (next (slotAt room) store end place after) found) where
-      pub apps-none : found ≡ Nothing → Applications room store made place end parts c (record { fault = fault; count = i; first = c .first; marks = marks; pairs = pairs })
-      apps-none g =
+      pub apps-none : found ≡ Nothing → (r : Refusal) (own : Fault) (at : ℕ) → own ≡ judged 65 store (take i marks) → at ≡ firstHit (clash room store made) [] (take (behind + i) pairs) → r ≡ fault
+          → Applications room store made place end parts (take behind old) (record { fault = r; count = i; own = own; clash = at })
+      apps-none g r own at eo ec er =
           let d : 65 - i ≡ suc (64 - i) = omega (arith, k .high) in
           let e : next (slotAt room) store end place after ≡ Nothing = sym (h .is) ∙ g in
-          let p : Passed (applicationAt room store made parts) (walk room store end place 65 Nothing) [] (take (c .count) (c .pairs)) marks pairs i (behind + i) = rw (d, e) at (k .passed) in
-          let n : i ≡ length (walk room store end place 65 Nothing)
-          = all-passed (applicationAt room store made parts) (walk room store end place 65 Nothing) (take (c .count) (c .pairs)) marks pairs i (behind + i) p in
+          let p : Passed (applicationAt room store made parts) (walk room store end place 65 Nothing) [] (take behind old) marks pairs i (behind + i) = rw (d, e) at (k .passed) in
           record {
-            fault = reading.apps-none room store made 64 32 (record { fault = 0; place = place; end = end }) after fault i (k .reads) found (k .high) h g;
+            fault = er ∙ reading.apps-none room store made 64 32 (record { fault = 0; place = place; end = end }) after fault i (k .reads) found (k .high) h g;
             gathers = λ _. record {
-              listed = passed-listed (applicationAt room store made parts) (walk room store end place 65 Nothing) (take (c .count) (c .pairs)) marks pairs i (behind + i) p fault (c .first) (k .high);
-              pairs = rw (← n, ← (k .is)) (rw (← (k .is)) at (passed-pairs (applicationAt room store made parts) (walk room store end place 65 Nothing) (take (c .count) (c .pairs)) marks pairs i (behind + i) p));
+              listed = passed-listed (applicationAt room store made parts) (walk room store end place 65 Nothing) (take behind old) marks pairs i (behind + i) p store 65 own (k .high) eo;
+              clashes = ec ∙ ap (firstHit (clash room store made) []) (passed-pairs (applicationAt room store made parts) (walk room store end place 65 Nothing) (take behind old) marks pairs i (behind + i) p);
             };
           }
 
       module _ (n : ℕ) (g : found ≡ At n) where
         -- one more than there may be
-        pub apps-many : (r : Refusal) → 64 ≤ i → r ≡ told 5 25 64 → Applications room store made place end parts c (record { fault = r; count = i; first = c .first; marks = marks; pairs = pairs })
-        apps-many r l t =
+        pub apps-many : 64 ≤ i → (here r : Refusal) (own : Fault) (at : ℕ) → here ≡ told 5 25 64 → r ≡ here
+            → Applications room store made place end parts (take behind old) (record { fault = r; count = i; own = own; clash = at })
+        apps-many l here r own at eh er =
+            let t : r ≡ told 5 25 64 = er ∙ eh in
             let w = reading.apps-on room store made 64 32 end place after fault i (k .reads) (k .high) found h n g (earlier fault (applicationFault room store made 32 i n)) refl in
             record {
               fault = reading.apps-many room store made 64 32 (record { fault = 0; place = place; end = end }) (At n) (earlier fault (applicationFault room store made 32 i n)) (i + 1) w r (omega arith) t;
@@ -228,19 +240,18 @@ module _ (room store : Seq ℕ) (made : ℕ) (parts : Seq (Seq ℕ)) (place end 
           apps-behind = omega (arith, k .low)
 
           pub apps-on : (e : Entry) (r : Refusal) → e ≡ applicationAt room store made parts n → r ≡ earlier fault (faultAt 5 (e .fault) i)
-              → Applied room store made parts place end c behind (set marks i (e .mark)) (set pairs (behind + i) (e .pair)) r (At n) (i + 1)
+              → Applying room store made parts place end old behind (set marks i (e .mark)) (set pairs (behind + i) (e .pair)) r (At n) (i + 1)
           unfolding applicationEntry
           apps-on e r d f =
-              let p : Passed (applicationAt room store made parts) (walk room store end place 65 Nothing) (n ∷ walk room store end place (65 - (i + 1)) (At n)) (take (c .count) (c .pairs)) marks pairs i (behind + i)
+              let p : Passed (applicationAt room store made parts) (walk room store end place 65 Nothing) (n ∷ walk room store end place (65 - (i + 1)) (At n)) (take behind old) marks pairs i (behind + i)
               = rw onward at (k .passed) in
               let z : behind + (i + 1) ≡ behind + i + 1 = omega arith in
               let q : e .fault ≡ parsed.applicationAt room store made n 32 .fault = ap (λ (x : Entry). x .fault) d in
               record {
-                is = k .is;
                 low = k .low;
                 high = omega arith;
                 reads = reading.apps-on room store made 64 32 end place after fault i (k .reads) (k .high) found h n g r (rw (← q) f);
-                passed = rw z (passed-on (applicationAt room store made parts) (walk room store end place 65 Nothing) (take (c .count) (c .pairs)) marks pairs i (behind + i) n (walk room store end place (65 - (i + 1)) (At n)) e l apps-behind d p);
+                passed = rw z (passed-on (applicationAt room store made parts) (walk room store end place 65 Nothing) (take behind old) marks pairs i (behind + i) n (walk room store end place (65 - (i + 1)) (At n)) e l apps-behind d p);
               }
 
 -- ---- the first fault

@@ -1,5 +1,5 @@
 -- The groups of rules in 01's order, and validation: one law for each way out.
-use Prim.Native.Nat.{ℕ, zero, suc, _+_, _-_, _≤_, _<_}
+use Prim.Native.Nat.{ℕ, _+_, _-_, _≤_, _<_}
 use mathlib.Core.Bool.{Bool, true, false}
 use mathlib.Core.List.{List as Seq, [], _∷_, map}
 use mathlib.Core.Path.{_≡_, refl, sym, ap, _∙_}
@@ -8,7 +8,6 @@ use borrow.Author.Tests.{eq-eqb, ne-eqb, eqb-true, lt-ltb, le-ltb, ltb-true, ltb
 use lib.Dec.{eqb, ltb}
 use lib.ListN.{length, take, replicate}
 use lib.Seq.{take-append-seam}
-use Rattle.meaning.specs.Base.{nil?}
 use Rattle.meaning.specs.Limits.{of01}
 use Rattle.meaning.specs.Refusal.{accepted}
 use Rattle.meaning.specs.Fields.{each, listed}
@@ -43,11 +42,10 @@ use Rattle.parse.proofs.Entering.{comps-many, comps-few}
 use Rattle.parse.proofs.Judging.{components-among, applications-among, partitions-judged, components-judged, applications-judged, verdict-told}
 use Rattle.layout.specs.declared.Fault.{Fault}
 use Rattle.layout.specs.declared.Mark.{Mark}
-use Rattle.layout.specs.Marks.{firstHit, faultOf, judged, Marked}
+use Rattle.layout.specs.Marks.{faultOf, judged}
 use Rattle.layout.specs.Parts.{partName, partMeant}
-use Rattle.validate.specs.declared.uses.Pair.{Pair}
 use Rattle.validate.specs.declared.gather.Gathered.{Gathered}
-use Rattle.validate.specs.Clashes.{clash}
+use Rattle.validate.specs.declared.gather.Applied.{Applied}
 use Rattle.validate.specs.Fronts as fronts
 use Rattle.validate.specs.FrontSaid.{front-plain}
 use Rattle.validate.specs.Gathered.{components, applications, Few, Counted, Gathers, Components, Followed, Follows, Applications}
@@ -56,10 +54,9 @@ use Rattle.validate.specs.Faults.{
   inEntry,
   lengthFault,
   componentsFault,
-  applicationsFault,
+  countedFault,
   bootFault,
   clashFault,
-  usesFault,
   gatheredFault,
   behindFault,
   listsFault,
@@ -67,7 +64,6 @@ use Rattle.validate.specs.Faults.{
   applicationsJudged,
   componentsJudged,
   partitionsJudged,
-  Using,
 }
 use Rattle.validate.specs.Validated.{validating}
 use Rattle.validate.proofs.Placing.{rules-low}
@@ -89,62 +85,56 @@ first-there first r t e = rw t e
 pub first-not : (first : Bool) (r : Refusal) → first ≡ false → r ≡ told 4 70 0 → r ≡ bootFault first
 first-not first r t e = rw t e
 
-pub marked : (count number : ℕ) → count ≤ 64 → 1 ≤ number → Marked count number
-marked count number h k = record { fits = h; told = k }
+module _ (own : Fault) (count : ℕ) (r : Refusal) where
+  pub components-none : count ≡ 0 → r ≡ told 4 50 0 → r ≡ countedFault own count
+  unfolding countedFault
+  components-none z e = rw (eq-eqb count 0 z) e
 
-module _ (store : Seq ℕ) (marks : Seq Mark) (count : ℕ) (r : Refusal) where
-  pub components-none : count ≡ 0 → r ≡ told 4 50 0 → r ≡ componentsFault store (take count marks)
-  unfolding componentsFault
-  components-none z e = rw z e
+  pub components-some : (count ≡ 0 → ⊥) → r ≡ inEntry 4 own → r ≡ countedFault own count
+  unfolding countedFault
+  components-some z e = rw (ne-eqb count 0 z) e
 
-  some-taken : (ms : Seq Mark) (n : ℕ) → length ms ≡ 64 → (n ≡ 0 → ⊥) → nil? (take n ms) ≡ false
-  some-taken ms zero l z = absurd (z refl)
-  some-taken [] (suc n) l z = absurd (omega arith)
-  some-taken (m ∷ ms) (suc n) l z = refl
+counted-is : (store ns : Seq ℕ) (mark : ℕ → Mark) → countedFault (judged 51 store (map mark ns)) (length ns) ≡ componentsFault store (map mark ns)
+unfolding countedFault componentsFault
+counted-is store [] mark = refl
+counted-is store (n ∷ ns) mark = rw (ne-eqb (length (n ∷ ns)) 0 (λ z. omega (arith, z)))
 
-  pub components-some : (f : Fault) → (count ≡ 0 → ⊥) → length marks ≡ 64 → f ≡ judged 51 store (take count marks) → r ≡ inEntry 4 f → r ≡ componentsFault store (take count marks)
-  unfolding componentsFault
-  components-some f z l ef e = rw (some-taken marks count l z, ← ef) e
-
-  pub applications-all : (f : Fault) → f ≡ judged 65 store (take count marks) → r ≡ inEntry 5 f → r ≡ applicationsFault store (take count marks)
-  applications-all f ef e = rw (← ef) e
-
-module _ (room store : Seq ℕ) (made cs apps at : ℕ) (pairs : Seq Pair) (r : Refusal) (e : at ≡ firstHit (clash room store made) [] (take (cs + apps) pairs)) where
-  pub clash-component : at < cs → r ≡ told 4 60 at → r ≡ usesFault room store made cs apps pairs
+module _ (cs apps at : ℕ) (r : Refusal) where
+  pub clash-component : at < cs → r ≡ told 4 60 at → r ≡ clashFault cs (cs + apps) at
   unfolding clashFault
-  clash-component h q = rw (← e, lt-ltb at cs h) q
+  clash-component h q = rw (lt-ltb at cs h) q
 
-  pub clash-application : cs ≤ at → at < cs + apps → r ≡ told 5 60 (at - cs) → r ≡ usesFault room store made cs apps pairs
+  pub clash-application : cs ≤ at → at < cs + apps → r ≡ told 5 60 (at - cs) → r ≡ clashFault cs (cs + apps) at
   unfolding clashFault
-  clash-application h k q = rw (← e, le-ltb at cs h, lt-ltb at (cs + apps) k) q
+  clash-application h k q = rw (le-ltb at cs h, lt-ltb at (cs + apps) k) q
 
-  pub clash-none : cs ≤ at → cs + apps ≤ at → r ≡ told 0 0 0 → r ≡ usesFault room store made cs apps pairs
+  pub clash-none : cs ≤ at → cs + apps ≤ at → r ≡ told 0 0 0 → r ≡ clashFault cs (cs + apps) at
   unfolding clashFault
-  clash-none h k q = rw (← e, le-ltb at cs h, le-ltb at (cs + apps) k) q
+  clash-none h k q = rw (le-ltb at cs h, le-ltb at (cs + apps) k) q
 
 -- ---- 60 to 70, of what was gathered
 
-module _ (room store : Seq ℕ) (made cs : ℕ) (first : Bool) (a : Gathered) (b : Refusal) (eb : b ≡ usesFault room store made cs (a .count) (a .pairs)) where
-  pub behind-uses : (b .number ≡ 0 → ⊥) → b ≡ gatheredFault room store made cs first a
+module _ (cs : ℕ) (first : Bool) (a : Applied) (b : Refusal) (eb : b ≡ clashFault cs (cs + a .count) (a .clash)) where
+  pub behind-uses : (b .number ≡ 0 → ⊥) → b ≡ gatheredFault cs first a
   unfolding gatheredFault
   behind-uses z = rw (← eb, ne-eqb (b .number) 0 z)
 
-  module _ (zb : b .number ≡ 0) (d : Refusal) (ed : d ≡ applicationsFault store (take (a .count) (a .marks))) where
-    pub behind-applications : (d .number ≡ 0 → ⊥) → d ≡ gatheredFault room store made cs first a
+  module _ (zb : b .number ≡ 0) (d : Refusal) (ed : d ≡ inEntry 5 (a .own)) where
+    pub behind-applications : (d .number ≡ 0 → ⊥) → d ≡ gatheredFault cs first a
     unfolding gatheredFault
     behind-applications z = rw (← eb, eq-eqb (b .number) 0 zb, ← ed, ne-eqb (d .number) 0 z)
 
-    pub behind-first : d .number ≡ 0 → (r : Refusal) → r ≡ bootFault first → r ≡ gatheredFault room store made cs first a
+    pub behind-first : d .number ≡ 0 → (r : Refusal) → r ≡ bootFault first → r ≡ gatheredFault cs first a
     unfolding gatheredFault
     behind-first z r e = rw (← eb, eq-eqb (b .number) 0 zb, ← ed, eq-eqb (d .number) 0 z) e
 
 -- ---- the applications
 
 module _ (room store : Seq ℕ) (made : ℕ) (l : List) (el : l ≡ applicationList room store made) where
-  pub applications-followed : (count : ℕ) (c : Gathered) → Rooms room made → count ≤ 32 → Few c → Followed room made (l .end) count c
-  applications-followed count c h k f = record { rooms = h; within = applications-among room store made l h el .end; parts = k; behind = f .few }
+  pub applications-followed : (count : ℕ) (c : Gathered) → Rooms room made → count ≤ 32 → Few c → Followed room made (l .end) count (c .count)
+  applications-followed count c h k f = record { rooms = h; within = applications-among room store made l h el .end; parts = k; low = f .few }
 
-  module _ (parts : Seq (Seq ℕ)) (c a : Gathered) (g : Applications room store made (l .place) (l .end) parts c a) (s b : Refusal) (es : s ≡ inSection 5 (l .fault)) (eb : b ≡ earlier s (a .fault)) where
+  module _ (parts : Seq (Seq ℕ)) (c : Gathered) (a : Applied) (g : Applications room store made (l .place) (l .end) parts (take (c .count) (c .pairs)) a) (s b : Refusal) (es : s ≡ inSection 5 (l .fault)) (eb : b ≡ earlier s (a .fault)) where
     applications-are : b ≡ verdicts.applicationFault room store made of01
     applications-are = applications-judged room store made of01 l (a .fault) s b el (g .fault) es eb
 
@@ -157,17 +147,17 @@ module _ (room store : Seq ℕ) (made : ℕ) (l : List) (el : l ≡ applicationL
       unfolding applicationsJudged
       rules-refused rules y = rw (← applications-are, eq-eqb (b .number) 0 z, ne-eqb (rules .number) 0 y)
 
-      follows : Follows room store made parts (applications room store made) c a
+      follows : Follows room store made parts (applications room store made) (take (c .count) (c .pairs)) a
       follows = rw el at (g .gathers (earlier-clear s (a .fault) (rw (← eb) z) .1))
 
-      pub uses-fit : Rooms room made → Few c → Using room made (c .count) (a .count)
-      uses-fit h k = record { rooms = h; components = k .few; applications = omega (arith, follows .listed .count, follows .listed .few) }
+      pub applications-few : a .count ≤ 64
+      applications-few = omega (arith, follows .listed .is, follows .listed .few)
 
-      pub applications-passed : (rules r : Refusal) → rules .number ≡ 0 → r ≡ gatheredFault room store made (c .count) (c .first) a
+      pub applications-passed : (rules r : Refusal) → rules .number ≡ 0 → r ≡ gatheredFault (c .count) (c .first) a
           → r ≡ applicationsJudged room store made parts rules (c .count) (take (c .count) (c .pairs)) (c .first)
       unfolding applicationsJudged gatheredFault behindFault
       applications-passed rules r y e =
-          rw (← applications-are, eq-eqb (b .number) 0 z, eq-eqb (rules .number) 0 y) (rw (follows .listed .count, follows .listed .marks, follows .pairs) at e)
+          rw (← applications-are, eq-eqb (b .number) 0 z, eq-eqb (rules .number) 0 y) (rw (follows .listed .is, follows .listed .own, follows .clashes) at e)
 
 -- ---- the components
 
@@ -222,19 +212,16 @@ module _ (room store : Seq ℕ) (made : ℕ) (l : List) (el : l ≡ componentLis
         gathers : Gathers room store made parts (components room store made) c
         gathers = rw el at (g .gathers y)
 
-        pub components-fit : c .count ≤ 64
-        components-fit = omega (arith, gathers .listed .count, gathers .listed .few)
-
         pub components-few : Few c
-        components-few = record { few = components-fit }
+        components-few = record { few = omega (arith, gathers .listed .is, gathers .listed .few) }
 
-        pub components-passed : (rules own f r : Refusal) → f ≡ componentsFault store (take (c .count) (c .marks)) → own ≡ earlier rules f
+        pub components-passed : (rules own f r : Refusal) → f ≡ countedFault (c .own) (c .count) → own ≡ earlier rules f
             → r ≡ applicationsJudged room store made parts own (c .count) (take (c .count) (c .pairs)) (c .first) → r ≡ componentsJudged room store made parts rules
         unfolding componentsJudged applicationsJudged listsFault
         components-passed rules own f r ef eo er =
             let behind = behindFault room store made parts (c .count) (take (c .count) (c .pairs)) (c .first) in
             let e : earlier own behind ≡ earlier rules (earlier f behind) = rw eo (sym (earlier-two rules f behind)) in
-            let d : earlier f behind ≡ listsFault room store made parts = rw (ef, gathers .listed .count, gathers .listed .marks, gathers .pairs, gathers .first) in
+            let d : earlier f behind ≡ listsFault room store made parts = rw (ef, gathers .listed .own, gathers .listed .is, counted-is, gathers .pairs, gathers .first) in
             rw (← components-are, eq-eqb (c .fault .number) 0 y) (rw (e, d) at er)
 
 -- ---- the partitions

@@ -1,13 +1,13 @@
 -- Level 2 of the rules: the first refusal in 01's order, over marks and packages.
-use Prim.Native.Nat.{ℕ, _+_, _-_, _≤_}
+use Prim.Native.Nat.{ℕ, _+_, _-_}
 use mathlib.Core.Bool.{Bool}
 use mathlib.Core.List.{List as Seq, [], map, _++_}
-use lib.Dec.{ltb}
-use lib.ListN.{length, take}
+use lib.Dec.{eqb, ltb}
+use lib.ListN.{length}
 use Rattle.meaning.specs.Base.{pick, nil?}
 use Rattle.meaning.specs.Limits.{of01}
 use Rattle.meaning.specs.Layout as meant
-use Rattle.tree.specs.Doors.{Rooms, fieldsOf}
+use Rattle.tree.specs.Doors.{fieldsOf}
 use Rattle.schema.specs.declared.Chip.{Chip}
 use Rattle.schema.specs.Words.{chipMeant}
 use Rattle.parse.specs.declared.Refusal.{Refusal}
@@ -21,7 +21,7 @@ use Rattle.layout.specs.declared.Mark.{Mark}
 use Rattle.layout.specs.Marks.{anyOf, firstHit, faultOf, judged}
 use Rattle.layout.specs.Parts.{partName, partMeant}
 use Rattle.validate.specs.declared.uses.Pair.{Pair}
-use Rattle.validate.specs.declared.gather.Gathered.{Gathered}
+use Rattle.validate.specs.declared.gather.Applied.{Applied}
 use Rattle.validate.specs.Clashes.{clash}
 use Rattle.validate.specs.Entries.{componentAt, applicationAt}
 use Rattle.validate.specs.Fronts as fronts
@@ -41,6 +41,10 @@ lengthFault section n = pick (ltb 64 n) (told section 25 64) (told 0 0 0)
 unfoldable pub componentsFault : Seq ℕ → Seq Mark → Refusal
 componentsFault store ms = pick (nil? ms) (told 4 50 0) (inEntry 4 (judged 51 store ms))
 
+-- 50 to 59, of as many as were gathered and the first fault of their marks
+unfoldable pub countedFault : Fault → ℕ → Refusal
+countedFault own n = pick (eqb n 0) (told 4 50 0) (inEntry 4 own)
+
 -- 61 to 66
 abbrev pub applicationsFault : Seq ℕ → Seq Mark → Refusal
 applicationsFault store ms = inEntry 5 (judged 65 store ms)
@@ -53,20 +57,11 @@ bootFault first = pick first (told 0 0 0) (told 4 70 0)
 unfoldable pub clashFault : ℕ → ℕ → ℕ → Refusal
 clashFault cs all at = pick (ltb at cs) (told 4 60 at) (pick (ltb at all) (told 5 60 (at - cs)) (told 0 0 0))
 
-pub record Using (room : Seq ℕ) (made cs apps : ℕ) : Type 0 where
-  pub rooms : Rooms room made
-  pub components : cs ≤ 64
-  pub applications : apps ≤ 64
+-- 60 to 70, of applications that were gathered behind components
+unfoldable pub gatheredFault : ℕ → Bool → Applied → Refusal
+gatheredFault cs first a = earlier (clashFault cs (cs + a .count) (a .clash)) (earlier (inEntry 5 (a .own)) (bootFault first))
 
 module _ (room store : Seq ℕ) (made : ℕ) where
-  abbrev pub usesFault : ℕ → ℕ → Seq Pair → Refusal
-  usesFault cs apps pairs = clashFault cs (cs + apps) (firstHit (clash room store made) [] (take (cs + apps) pairs))
-
-  -- 60 to 70, of applications that were gathered behind components
-  unfoldable pub gatheredFault : ℕ → Bool → Gathered → Refusal
-  gatheredFault cs first a =
-      earlier (usesFault cs (a .count) (a .pairs)) (earlier (applicationsFault store (take (a .count) (a .marks))) (bootFault first))
-
   -- ---- all of them, the partitions' names given
 
   module _ (parts : Seq (Seq ℕ)) where

@@ -1,7 +1,7 @@
 -- Level 2 of all entries: what gathering them leaves.
-use Prim.Native.Nat.{ℕ, _+_, _≤_}
+use Prim.Native.Nat.{ℕ, _≤_}
 use mathlib.Core.Bool.{Bool, true}
-use mathlib.Core.List.{List as Seq, map, _++_}
+use mathlib.Core.List.{List as Seq, [], map, _++_}
 use mathlib.Core.Path.{_≡_}
 use lib.Dec.{eqb}
 use lib.ListN.{length, take}
@@ -15,11 +15,13 @@ use Rattle.schema.specs.declared.Features.the-variants as lists
 use Rattle.parse.specs.declared.Refusal.{Refusal}
 use Rattle.parse.specs.Entries.{walk, told, refusalOf, eachComponent, applicationR}
 use Rattle.parse.specs.Refused.{componentNumbers, applicationNumbers}
-use Rattle.layout.specs.Marks.{anyOf}
+use Rattle.layout.specs.declared.Fault.{Fault}
+use Rattle.layout.specs.Marks.{anyOf, firstHit, judged}
 use Rattle.validate.specs.declared.Entry.{Entry}
 use Rattle.validate.specs.declared.uses.Pair.{Pair}
 use Rattle.validate.specs.declared.gather.Gathered.{Gathered}
-use Rattle.validate.specs.Clashes.{spots}
+use Rattle.validate.specs.declared.gather.Applied.{Applied}
+use Rattle.validate.specs.Clashes.{spots, clash}
 use Rattle.validate.specs.Entries.{componentAt, applicationAt}
 
 abbrev pub blank : Pair
@@ -34,11 +36,11 @@ faultAt section number place = pick (eqb number 0) (told 0 0 0) (told section nu
 
 -- ---- entries that numbers stand for
 
--- how many, and their marks
-pub record Listed (entry : ℕ → Entry) (ns : Seq ℕ) (r : Gathered) : Type 0 where
-  pub count : r .count ≡ length ns
+-- how many, and the first fault of their marks, where a name met twice has this number
+pub record Listed (store : Seq ℕ) (number : ℕ) (entry : ℕ → Entry) (ns : Seq ℕ) (count : ℕ) (f : Fault) : Type 0 where
+  pub is : count ≡ length ns
   pub few : length ns ≤ 64
-  pub marks : take (length ns) (r .marks) ≡ map (λ n. entry n .mark) ns
+  pub own : f ≡ judged number store (map (λ n. entry n .mark) ns)
 
 pub record Counted (room : Seq ℕ) (made place end count : ℕ) : Type 0 where
   pub rooms : Rooms room made
@@ -47,8 +49,9 @@ pub record Counted (room : Seq ℕ) (made place end count : ℕ) : Type 0 where
   pub few : length (items room end place 0) ≤ 64
 
 module _ (room store : Seq ℕ) (made : ℕ) where
+  -- as many, their own rules, their packages, and whether one lies in the first partition
   pub record Gathers (parts : Seq (Seq ℕ)) (ns : Seq ℕ) (r : Gathered) : Type 0 where
-    pub listed : Listed (componentAt room store made parts) ns r
+    pub listed : Listed store 51 (componentAt room store made parts) ns (r .count) (r .own)
     pub pairs : take (length ns) (r .pairs) ≡ map (λ n. componentAt room store made parts n .pair) ns
     pub first : r .first ≡ anyOf (λ n. componentAt room store made parts n .first) ns
 
@@ -61,22 +64,23 @@ module _ (room store : Seq ℕ) (made : ℕ) where
 pub record Few (c : Gathered) : Type 0 where
   pub few : c .count ≤ 64
 
-pub record Followed (room : Seq ℕ) (made end count : ℕ) (c : Gathered) : Type 0 where
+-- a list of a room, and as many packages in front
+pub record Followed (room : Seq ℕ) (made end count behind : ℕ) : Type 0 where
   pub rooms : Rooms room made
   pub within : end ≤ made
   pub parts : count ≤ 32
-  pub behind : c .count ≤ 64
+  pub low : behind ≤ 64
 
 module _ (room store : Seq ℕ) (made : ℕ) where
-  -- their packages stand behind those of the components
-  pub record Follows (parts : Seq (Seq ℕ)) (ns : Seq ℕ) (c r : Gathered) : Type 0 where
-    pub listed : Listed (applicationAt room store made parts) ns r
-    pub pairs : take (c .count + length ns) (r .pairs) ≡ take (c .count) (c .pairs) ++ map (λ n. applicationAt room store made parts n .pair) ns
+  -- as many, their own rules, and the first entry that clashes: their packages stand behind those in front
+  pub record Follows (parts : Seq (Seq ℕ)) (ns : Seq ℕ) (front : Seq Pair) (r : Applied) : Type 0 where
+    pub listed : Listed store 65 (applicationAt room store made parts) ns (r .count) (r .own)
+    pub clashes : r .clash ≡ firstHit (clash room store made) [] (front ++ map (λ n. applicationAt room store made parts n .pair) ns)
 
   -- the list's length is told before its entries
-  pub record Applications (place end : ℕ) (parts : Seq (Seq ℕ)) (c r : Gathered) : Type 0 where
+  pub record Applications (place end : ℕ) (parts : Seq (Seq ℕ)) (front : Seq Pair) (r : Applied) : Type 0 where
     pub fault : r .fault ≡ refusalOf (listed (applicationR room store made 32) inApplication 64 (walk room store end place 65 Nothing))
-    pub gathers : r .fault .number ≡ 0 → Follows parts (walk room store end place 65 Nothing) c r
+    pub gathers : r .fault .number ≡ 0 → Follows parts (walk room store end place 65 Nothing) front r
 
   -- ---- of a preset
 

@@ -1,7 +1,7 @@
 // All entries of a preset in their order: their marks, and the packages they use.
 
 use crate::uses::Pair;
-use layout::Mark;
+use layout::Fault;
 use parse::Refusal;
 use schema::Partition;
 use tree::Found;
@@ -13,13 +13,21 @@ ghost use Rattle.layout.specs.Parts.{partName};
 ghost use Rattle.validate.specs.Gathered as gathered;
 ghost use Rattle.validate.specs.Gathered.{Counted, Components, Applications, Followed};
 
-// The first fault of the records; how many entries a list has, and whether one lies in the first partition.
+// The components: the first fault of their records; how many there are, and whether one lies in the first partition; what their own rules say, and the packages they use.
 pub struct Gathered {
     pub fault: Refusal,
     pub count: usize,
     pub first: bool,
-    pub marks: [Mark; 64],
+    pub own: Fault,
     pub pairs: [Pair; 128],
+}
+
+// The applications: the first fault of their records; how many there are; what their own rules say, and the first of all entries whose packages clash.
+pub struct Applied {
+    pub fault: Refusal,
+    pub count: usize,
+    pub own: Fault,
+    pub clash: usize,
 }
 
 fn no_pairs() -> [Pair; 128]
@@ -96,11 +104,12 @@ pub fn each_component(
             }
         }
     }
+    let own = layout::judge(store, marks, i, 51);
     Gathered {
         fault: fault,
         count: i,
         first: first,
-        marks: marks,
+        own: own,
         pairs: pairs,
     }
 }
@@ -114,17 +123,17 @@ pub fn each_application(
     end: usize,
     items: [Partition; 32],
     count: usize,
-    c: Gathered,
-) -> Gathered
-    requires { ⌜ Followed (now tree) made end count c ⌝ }
-    ensures { λ r. ⌜ Applications (now (tree .entry)) (now (store .entry)) made place end (map (partName (now (store .entry))) (take count items)) c r ⌝ }
+    old: [Pair; 128],
+    behind: usize,
+) -> Applied
+    requires { ⌜ Followed (now tree) made end count behind ⌝ }
+    ensures { λ r. ⌜ Applications (now (tree .entry)) (now (store .entry)) made place end (map (partName (now (store .entry))) (take count items)) (take behind old) r ⌝ }
 {
     let mut marks = layout::no_marks();
-    let mut pairs = c.pairs;
+    let mut pairs = old;
     let mut fault = parse::told(0, 0, 0);
     let mut after = Found::Nothing;
     let mut i = 0;
-    let behind = c.count;
     while i <= 64 {
         let found = tree::next(tree, store, end, place, after);
         match found {
@@ -146,11 +155,12 @@ pub fn each_application(
             }
         }
     }
-    Gathered {
+    let own = layout::judge(store, marks, i, 65);
+    let all = behind + i;
+    Applied {
         fault: fault,
         count: i,
-        first: c.first,
-        marks: marks,
-        pairs: pairs,
+        own: own,
+        clash: crate::uses::first_clash(tree, store, made, pairs, all),
     }
 }

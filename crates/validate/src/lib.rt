@@ -6,6 +6,7 @@ pub mod front;
 pub mod gather;
 pub mod uses;
 
+use crate::gather::Applied;
 use crate::gather::Gathered;
 use crate::uses::Pair;
 use layout::Fault;
@@ -15,7 +16,7 @@ use schema::Chip;
 use schema::Partition;
 ghost use mathlib.Core.List.{map};
 ghost use mathlib.Core.Path.{_≡_};
-ghost use Prim.Native.Nat.{_≤_};
+ghost use Prim.Native.Nat.{_+_, _≤_};
 ghost use lib.ListN.{take};
 ghost use Rattle.layout.specs.Parts.{partName};
 ghost use Rattle.validate.specs.Gathered as gathered;
@@ -43,30 +44,21 @@ fn in_entry(section: u32, f: Fault) -> Refusal
 }
 
 // 50 to 59.
-fn check_components(store: &[u8], marks: [Mark; 64], count: usize) -> Refusal
-    requires { ⌜ count ≤ 64 ⌝ }
-    ensures { λ r. ⌜ r ≡ faults.componentsFault (now (store .entry)) (take count marks) ⌝ }
+fn check_components(own: Fault, count: usize) -> Refusal
+    ensures { λ r. ⌜ r ≡ faults.countedFault own count ⌝ }
 {
     if count == 0 {
         return parse::told(4, 50, 0);
     }
-    in_entry(4, layout::judge(store, marks, count, 51))
+    in_entry(4, own)
 }
 
 // 60: in the components, then in the applications behind them.
-fn check_uses(
-    tree: &[u8],
-    store: &[u8],
-    made: usize,
-    pairs: [Pair; 128],
-    components: usize,
-    applications: usize,
-) -> Refusal
-    requires { ⌜ faults.Using (now tree) made components applications ⌝ }
-    ensures { λ r. ⌜ r ≡ faults.usesFault (now (tree .entry)) (now (store .entry)) made components applications pairs ⌝ }
+fn check_uses(at: usize, components: usize, applications: usize) -> Refusal
+    requires { ⌜ (components ≤ 64) × (applications ≤ 64) ⌝ }
+    ensures { λ r. ⌜ r ≡ faults.clashFault components (components + applications) at ⌝ }
 {
     let all = components + applications;
-    let at = uses::first_clash(tree, store, made, pairs, all);
     if at < components {
         return parse::told(4, 60, at);
     }
@@ -74,14 +66,6 @@ fn check_uses(
         return parse::told(5, 60, at - components);
     }
     parse::told(0, 0, 0)
-}
-
-// 61 to 66.
-fn check_applications(store: &[u8], marks: [Mark; 64], count: usize) -> Refusal
-    requires { ⌜ count ≤ 64 ⌝ }
-    ensures { λ r. ⌜ r ≡ faults.applicationsFault (now (store .entry)) (take count marks) ⌝ }
-{
-    in_entry(5, layout::judge(store, marks, count, 65))
 }
 
 // 70: no component lies in the first partition.
@@ -95,24 +79,16 @@ fn check_first(first: bool) -> Refusal
 }
 
 // 60 to 70: the packages of all entries, the applications' own rules, the first partition.
-fn check_behind(
-    tree: &[u8],
-    store: &[u8],
-    made: usize,
-    components: usize,
-    first: bool,
-    a: Gathered,
-) -> Refusal
-    requires { ⌜ faults.Using (now tree) made components (a .count) ⌝ }
-    ensures { λ r. ⌜ r ≡ faults.gatheredFault (now (tree .entry)) (now (store .entry)) made components first a ⌝ }
+fn check_behind(components: usize, first: bool, a: Applied) -> Refusal
+    requires { ⌜ (components ≤ 64) × (a .count ≤ 64) ⌝ }
+    ensures { λ r. ⌜ r ≡ faults.gatheredFault components first a ⌝ }
 {
-    let pairs = a.pairs;
-    let marks = a.marks;
-    let b = check_uses(tree, store, made, pairs, components, a.count);
+    let own = a.own;
+    let b = check_uses(a.clash, components, a.count);
     if b.number != 0 {
         return b;
     }
-    let d = check_applications(store, marks, a.count);
+    let d = in_entry(5, own);
     if d.number != 0 {
         return d;
     }
@@ -135,7 +111,8 @@ fn judge_applications(
     let l = parse::view::application_list(tree, store, made);
     let cs = c.count;
     let first = c.first;
-    let a = gather::each_application(tree, store, made, l.place, l.end, items, count, c);
+    let pairs = c.pairs;
+    let a = gather::each_application(tree, store, made, l.place, l.end, items, count, pairs, cs);
     let fault = a.fault;
     let b = parse::earlier(parse::in_section(5, l.fault), fault);
     if b.number != 0 {
@@ -144,7 +121,7 @@ fn judge_applications(
     if rules.number != 0 {
         return rules;
     }
-    check_behind(tree, store, made, cs, first, a)
+    check_behind(cs, first, a)
 }
 
 // 25, where a list has more entries than 64.
@@ -180,8 +157,8 @@ fn judge_components(
     if b.number != 0 {
         return b;
     }
-    let marks = c.marks;
-    let own = parse::earlier(rules, check_components(store, marks, c.count));
+    let mine = c.own;
+    let own = parse::earlier(rules, check_components(mine, c.count));
     judge_applications(tree, store, made, items, count, c, own)
 }
 

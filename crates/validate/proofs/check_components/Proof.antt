@@ -1,33 +1,27 @@
-use Rattle.validate.proofs.Judging.{marked, components-none, components-some}
+use Rattle.validate.proofs.Judging.{components-none, components-some}
 use borrow.Author.Needs.{needs}
 use Rattle.validate.proofs.check_components.Statement.{statement}
 use Rattle.validate.proofs.check_components.Tie as tie
 use Rattle.validate.proofs.check_components.Reads as reads
 use Rattle.validate.proofs.check_components.Lts as lts
-use Rattle.layout.proofs.judge.Reads as judge-reads
 use Rattle.parse.proofs.told.Reads as told-reads
 use Rattle.validate.proofs.in_entry.Reads as in-entry-reads
 
--- src/lib.rt:53:9
+-- src/lib.rt:51:9
 told-requires : tie.Need-told-requires
 told-requires c κs = search needs
 
--- src/lib.rt:53:9
+-- src/lib.rt:51:9
 returns : tie.Need-returns
 returns c = search (needs, components-none)
 
--- src/lib.rt:55:17
-judge-requires : tie.Need-judge-requires
-judge-requires c κs = search (needs, marked)
-
--- src/lib.rt:55:5
+-- src/lib.rt:53:5
 in-entry-requires : tie.Need-in-entry-requires
 in-entry-requires c κs = search needs
 
--- src/lib.rt:48:1
+-- src/lib.rt:47:1
 returns-2 : tie.Need-returns-2
 returns-2 c = search (needs, components-some)
 
 pub check-components-spec : {M : Type 1} → statement M
-check-components-spec =
-    tie.close (tie.spec told-requires returns judge-requires in-entry-requires returns-2)
+check-components-spec = tie.close (tie.spec told-requires returns in-entry-requires returns-2)

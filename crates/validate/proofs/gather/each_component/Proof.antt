@@ -1,14 +1,16 @@
 use borrow.Author.Needs.{needs}
 use Prim.Native.Nat.{_-_}
 use mathlib.Core.List.{map}
+use mathlib.Core.Logic.{⊎-elim}
 use lib.ListN.{take}
 use Rattle.parse.proofs.Entering.{holds-end, item-fits, item-less, item-stood}
 use Rattle.layout.specs.Parts.{partName}
-use Rattle.validate.proofs.Gathering.{Composed, comps-end, comps-none, comps-not, comps-on, comps-room, comps-start}
+use Rattle.validate.proofs.Gathering.{Composed, comps-end, comps-marked, comps-none, comps-not, comps-on, comps-room, comps-start}
 use Rattle.validate.proofs.gather.each_component.Statement.{statement}
 use Rattle.validate.proofs.gather.each_component.Tie as tie
 use Rattle.validate.proofs.gather.each_component.Reads as reads
 use Rattle.validate.proofs.gather.each_component.Lts as lts
+use Rattle.layout.proofs.judge.Reads as judge-reads
 use Rattle.layout.proofs.no_marks.Reads as no-marks-reads
 use Rattle.parse.proofs.told.Reads as told-reads
 use Rattle.tree.proofs.child.Reads as child-reads
@@ -24,91 +26,86 @@ abbrev μ-loop : tie.MeasureT-loop
 μ-loop tree store made place end items count marks₀ pairs₀ fault₀ first₀ i₀ from₀ marks pairs fault first i from =
     end - from
 
--- src/gather.rt:73:21
+-- src/gather.rt:81:21
 no-marks-requires : tie.Need-no-marks-requires Inv-loop μ-loop
 no-marks-requires c κs = search needs
 
--- src/gather.rt:74:21
+-- src/gather.rt:82:21
 no-pairs-requires : tie.Need-no-pairs-requires Inv-loop μ-loop
 no-pairs-requires c κs = search needs
 
--- src/gather.rt:75:9
+-- src/gather.rt:83:9
 told-requires : tie.Need-told-requires Inv-loop μ-loop
 told-requires c κs = search needs
 
--- src/gather.rt:79:5
+-- src/gather.rt:87:5
 loop-holds : tie.Need-loop-holds Inv-loop μ-loop
 loop-holds c = search (needs, comps-start)
 
--- src/gather.rt:80:13
+-- src/gather.rt:88:13
 child-requires : tie.Need-child-requires Inv-loop μ-loop
 child-requires c κs = search (needs, holds-end)
 
--- src/gather.rt:82:31
+-- src/gather.rt:90:31
 enum-told : tie.Need-enum-told Inv-loop μ-loop
 enum-told c = search needs
 
--- src/gather.rt:83:23
+-- src/gather.rt:91:23
 enum-known-found : tie.Need-enum-known-found Inv-loop μ-loop
 enum-known-found c = search needs
 
--- src/gather.rt:84:21
+-- src/gather.rt:92:21
 entry-requires : tie.Need-entry-requires Inv-loop μ-loop
 entry-requires c κs = search (needs, item-stood)
 
--- src/gather.rt:86:21
+-- src/gather.rt:94:21
 told-requires-2 : tie.Need-told-requires-2 Inv-loop μ-loop
 told-requires-2 c κs = search needs
 
--- src/gather.rt:91:17
+-- src/gather.rt:99:17
 mul-marks : tie.Need-mul-marks Inv-loop μ-loop
 mul-marks c = search (needs, comps-room)
 
--- src/gather.rt:91:17
+-- src/gather.rt:99:17
 array-set-from-marks : tie.Need-array-set-from-marks Inv-loop μ-loop
 array-set-from-marks c = search (needs, comps-room)
 
--- src/gather.rt:92:17
+-- src/gather.rt:100:17
 mul-pairs : tie.Need-mul-pairs Inv-loop μ-loop
 mul-pairs c = search (needs, comps-room)
 
--- src/gather.rt:92:17
+-- src/gather.rt:100:17
 array-set-from-pairs : tie.Need-array-set-from-pairs Inv-loop μ-loop
 array-set-from-pairs c = search (needs, comps-room)
 
--- src/gather.rt:93:17
+-- src/gather.rt:101:17
 either-requires : tie.Need-either-requires Inv-loop μ-loop
 either-requires c κs = search needs
 
--- src/gather.rt:94:17
+-- src/gather.rt:102:17
 add-i : tie.Need-add-i Inv-loop μ-loop
 add-i c = search (needs, comps-room)
 
--- src/gather.rt:95:24
+-- src/gather.rt:103:24
 add-from : tie.Need-add-from Inv-loop μ-loop
-add-from c =
-    let d = c .before .before .before .before .before .before .before .before .before in
+add-from c = let d = c .before .before .before .before .before .before .before .before .before in
     search (needs, item-fits, d .child .ensures)
 
--- src/gather.rt:79:5
+-- src/gather.rt:87:5
 loop-less : tie.Need-loop-less Inv-loop μ-loop
 loop-less c = search (needs, item-less)
 
--- src/gather.rt:79:5
+-- src/gather.rt:87:5
 loop-again : tie.Need-loop-again Inv-loop μ-loop
 loop-again c = search (needs, comps-on)
 
--- src/gather.rt:61:1
+-- src/gather.rt:107:9
+judge-requires : tie.Need-judge-requires Inv-loop μ-loop
+judge-requires c κs = search (needs, comps-marked)
+
+-- src/gather.rt:69:1
 returns : tie.Need-returns Inv-loop μ-loop
-returns c = search (needs, comps-end, comps-none, comps-not)
-
--- src/gather.rt:61:1
-returns-2 : tie.Need-returns-2 Inv-loop μ-loop
-returns-2 c = search (needs, comps-end, comps-none, comps-not)
-
--- src/gather.rt:61:1
-returns-3 : tie.Need-returns-3 Inv-loop μ-loop
-returns-3 c = search (needs, comps-end, comps-none, comps-not)
+returns c = ⊎-elim (λ w. search (needs, comps-end)) (⊎-elim (λ w. search (needs, comps-none)) (λ w. search (needs, comps-not))) (c .before .loop-test .came)
 
 pub each-component-spec : {M : Type 1} → statement M
 each-component-spec =
@@ -134,6 +131,5 @@ each-component-spec =
     add-from
     loop-less
     loop-again
-    returns
-    returns-2
-    returns-3)
+    judge-requires
+    returns)
