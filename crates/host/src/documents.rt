@@ -113,5 +113,13 @@ pub extern "C" fn tree_next(
     if tree::capacity(tree) < made {
         return told(Found::Nothing);
     }
-    told(tree::next(tree, store, made, parent, behind(begun, after)))
+    let low = tree::skip_up(tree, made, parent, 0);
+    told(tree::next(
+        tree,
+        store,
+        low,
+        made,
+        parent,
+        behind(begun, after),
+    ))
 }

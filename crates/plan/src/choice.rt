@@ -32,10 +32,11 @@ fn declared(tree: &[u8], store: &[u8], made: usize, list: List, key: &[u8]) -> C
 {
     let place = list.place;
     let end = list.end;
+    let low = tree::skip_up(tree, end, place, 0);
     let mut after = Found::Nothing;
     let mut i = 0;
     while i <= 64 {
-        let found = tree::next(tree, store, end, place, after);
+        let found = tree::next(tree, store, low, end, place, after);
         match found {
             Found::Nothing => return Choice::Undeclared,
             Found::At(n) => {

@@ -129,13 +129,14 @@ pub fn each_application(
     requires { ⌜ Followed (now tree) made end count behind ⌝ }
     ensures { λ r. ⌜ Applications (now (tree .entry)) (now (store .entry)) made place end (map (partName (now (store .entry))) (take count items)) (take behind old) r ⌝ }
 {
+    let low = tree::skip_up(tree, end, place, 0);
     let mut marks = layout::no_marks();
     let mut pairs = old;
     let mut fault = parse::told(0, 0, 0);
     let mut after = Found::Nothing;
     let mut i = 0;
     while i <= 64 {
-        let found = tree::next(tree, store, end, place, after);
+        let found = tree::next(tree, store, low, end, place, after);
         match found {
             Found::Nothing => break,
             Found::At(n) => {

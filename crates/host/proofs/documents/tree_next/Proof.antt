@@ -8,6 +8,7 @@ use Rattle.host.proofs.documents.behind.Reads as behind-reads
 use Rattle.host.proofs.documents.told.Reads as told-reads
 use Rattle.tree.proofs.capacity.Reads as capacity-reads
 use Rattle.tree.proofs.next.Reads as next-reads
+use Rattle.tree.proofs.skip_up.Reads as skip-up-reads
 
 -- src/documents.rt:118:8
 capacity-requires : tie.Need-capacity-requires
@@ -20,6 +21,9 @@ told-requires c κs = search needs
 -- src/documents.rt:119:9
 returns : tie.Need-returns
 returns c = search (needs, none-there)
+
+skip-up-requires : tie.Need-skip-up-requires
+skip-up-requires c κs = search needs
 
 -- src/documents.rt:121:48
 behind-requires : tie.Need-behind-requires
@@ -44,6 +48,7 @@ tree-next-spec =
     capacity-requires
     told-requires
     returns
+    skip-up-requires
     behind-requires
     next-requires
     told-requires-2

@@ -8,12 +8,16 @@ use Rattle.plan.proofs.choice.declared.Reads as reads
 use Rattle.plan.proofs.choice.declared.Lts as lts
 use Rattle.plan.proofs.choice.keyed.Reads as keyed-reads
 use Rattle.tree.proofs.next.Reads as next-reads
+use Rattle.tree.proofs.skip_up.Reads as skip-up-reads
 
 abbrev Inv-loop : tie.InvT-loop
-Inv-loop tree store made key place end after₀ i₀ after i = Seeking tree store key end place after i
+Inv-loop tree store made key place end low after₀ i₀ after i = Seeking tree store key end place after i
 
 abbrev μ-loop : tie.MeasureT-loop
-μ-loop tree store made key place end after₀ i₀ after i = 65 - i
+μ-loop tree store made key place end low after₀ i₀ after i = 65 - i
+
+skip-up-requires : tie.Need-skip-up-requires Inv-loop μ-loop
+skip-up-requires c κs = search (needs, holds-end)
 
 -- src/choice.rt:37:5
 loop-holds : tie.Need-loop-holds Inv-loop μ-loop
@@ -65,6 +69,7 @@ declared-spec =
     (tie.spec
     Inv-loop
     μ-loop
+    skip-up-requires
     loop-holds
     next-requires
     enum-told

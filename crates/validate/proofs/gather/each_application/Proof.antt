@@ -14,19 +14,24 @@ use Rattle.layout.proofs.judge.Reads as judge-reads
 use Rattle.layout.proofs.no_marks.Reads as no-marks-reads
 use Rattle.parse.proofs.told.Reads as told-reads
 use Rattle.tree.proofs.next.Reads as next-reads
+use Rattle.tree.proofs.skip_up.Reads as skip-up-reads
 use Rattle.validate.proofs.application.entry.Reads as entry-reads
 use Rattle.validate.proofs.gather.earlier_in.Reads as earlier-in-reads
 use Rattle.validate.proofs.uses.first_clash.Reads as first-clash-reads
 
 abbrev Inv-loop : tie.InvT-loop
-Inv-loop tree store made place end items count behind marks₀ pairs₀ fault₀ after₀ i₀ marks pairs fault after i =
+Inv-loop tree store made place end items count behind low marks₀ pairs₀ fault₀ after₀ i₀ marks pairs fault after i =
     Applying tree store made (map (partName store) (take count items)) place end pairs₀ behind marks pairs fault after i
 
 abbrev μ-loop : tie.MeasureT-loop
-μ-loop tree store made place end items count behind marks₀ pairs₀ fault₀ after₀ i₀ marks pairs fault after i =
+μ-loop tree store made place end items count behind low marks₀ pairs₀ fault₀ after₀ i₀ marks pairs fault after i =
     65 - i
 
--- src/gather.rt:132:21
+-- src/gather.rt:132:15
+skip-up-requires : tie.Need-skip-up-requires Inv-loop μ-loop
+skip-up-requires c κs = search (needs, holds-end)
+
+-- src/gather.rt:133:21
 no-marks-requires : tie.Need-no-marks-requires Inv-loop μ-loop
 no-marks-requires c κs = search needs
 
@@ -116,6 +121,7 @@ each-application-spec =
     (tie.spec
     Inv-loop
     μ-loop
+    skip-up-requires
     no-marks-requires
     told-requires
     loop-holds
