@@ -21,9 +21,13 @@ use Rattle.tree.specs.Room.{Holds, Finds, Below, Counts as Counted}
 use Rattle.tree.specs.Doors.{Rooms, Stood, Spread, field, fieldsOf, items, nthOf}
 use Rattle.tree.specs.Spans.{spread-fields}
 use Rattle.schema.specs.declared.Text.{Text}
-use Rattle.schema.specs.declared.Text.the-variants.{Lent}
+use Rattle.schema.specs.declared.Media.{Media}
+use Rattle.schema.specs.declared.MediaRead.{MediaRead}
+use Rattle.schema.specs.Words.{mediaChoice}
 use Rattle.schema.specs.declared.Partition.{Partition}
 use Rattle.parse.specs.declared.Refusal.{Refusal}
+use Rattle.parse.specs.declared.front.TableRead.{TableRead}
+use Rattle.parse.specs.declared.front.ChipFound.{ChipFound}
 use Rattle.parse.specs.declared.front.Front.{Front}
 use Rattle.parse.specs.declared.entry.List.{List}
 use Rattle.parse.specs.declared.entry.Partitions.{Partitions}
@@ -37,7 +41,8 @@ use Rattle.parse.specs.declared.view.ComponentFound.the-variants as comp
 use Rattle.parse.specs.declared.view.ApplicationFound.{ApplicationFound}
 use Rattle.parse.specs.declared.view.ApplicationFound.the-variants as apps
 use Rattle.parse.specs.Refusals.{inSection, earlier}
-use Rattle.parse.specs.Front.{frontRead}
+use Rattle.parse.specs.Fields.{mediaAt}
+use Rattle.parse.specs.Front.{tableAt, chipOf, boardRead, imageRead, frontOf, frontRead}
 use Rattle.parse.specs.Entries.{listOf, orOther, listAt, keysOf, keysAt, Among, Partitioned, partitions, components, applications, refusalOf, partitionAt, componentAt, applicationAt, Keyed, nthKey}
 use Rattle.parse.specs.Views.{partitionList, componentList, applicationList, goodPartition, goodComponent, goodApplication, partitionOf, componentOf, applicationOf, partition, component, application, countsOf, deviceOf, sound}
 use Rattle.parse.specs.Refused as refused
@@ -241,10 +246,12 @@ pub counts-are : (room store : Seq ℕ) (made : ℕ) (p c a : List) (n m k : ℕ
 unfolding countsOf
 counts-are room store made p c a n m k ep ec ea hn hm hk = rw (hn .is, hm .is, hk .is, ep, ec, ea)
 
-pub device-is : (room store : Seq ℕ) (made : ℕ) (f : Fields) (r : Front) → f ≡ fieldsOf room made 1 → r ≡ frontRead room store made f Lent
-    → record { chip = r .board .chip; media = r .image .media } ≡ deviceOf room store made
-unfolding deviceOf
-device-is room store made f r e q = rw (q, e)
+pub device-is : (room store : Seq ℕ) (made : ℕ) (f : Fields) (b i : TableRead) (c : ChipFound) (d : Media) (m : MediaRead)
+    → f ≡ fieldsOf room made 1 → b ≡ tableAt room store made f (ascii "board") → i ≡ tableAt room store made f (ascii "image")
+    → c ≡ chipOf room store (b .fields) (i .fields) → d ≡ mediaChoice (c .chip) → m ≡ mediaAt room store (i .fields) d
+    → record { chip = c .chip; media = m .media } ≡ deviceOf room store made
+unfolding deviceOf frontOf boardRead imageRead
+device-is room store made f b i c d m e eb ei ec ed em = rw (em, ed, ec, eb, ei, e)
 
 -- ---- an entry without fault
 module _ (room store : Seq ℕ) (made n : ℕ) where

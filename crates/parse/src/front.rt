@@ -124,7 +124,7 @@ fn chosen(store: &[u8], c: Text, p: Text) -> ChipFound
 }
 
 // Board `chip` and image `platform`, then the chip word.
-fn chip_of(tree: &[u8], store: &[u8], board: Fields, image: Fields) -> ChipFound
+pub fn chip_of(tree: &[u8], store: &[u8], board: Fields, image: Fields) -> ChipFound
     requires { ⌜ Spread (now tree) board × Spread (now tree) image ⌝ }
     ensures { λ r. ⌜ r ≡ fronts.chipOf (now (tree .entry)) (now (store .entry)) board image ⌝ }
 {

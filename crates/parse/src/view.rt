@@ -6,7 +6,6 @@ use schema::Chip;
 use schema::Component;
 use schema::Media;
 use schema::Partition;
-use schema::Text;
 use tree::Found;
 ghost use mathlib.Core.Path.{_≡_};
 ghost use Prim.Native.Nat.{_≤_};
@@ -192,16 +191,19 @@ pub struct Device {
     pub media: Media,
 }
 
-fn device_of(tree: &[u8], store: &[u8], made: usize) -> Device
+// Of board and image only what says it is read.
+pub fn device_of(tree: &[u8], store: &[u8], made: usize) -> Device
     requires { ⌜ Rooms (now tree) made ⌝ }
     ensures { λ r. ⌜ r ≡ views.deviceOf (now (tree .entry)) (now (store .entry)) made ⌝ }
 {
     let root = tree::fields_at(tree, made, 1);
-    let f = crate::front::read_front(tree, store, made, root, Text::Lent);
-    let b = f.board;
-    let i = f.image;
-    let chip = b.chip;
-    let media = i.media;
+    let b = crate::front::table_at(tree, store, made, root, b"board");
+    let i = crate::front::table_at(tree, store, made, root, b"image");
+    let f = i.fields;
+    let c = crate::front::chip_of(tree, store, b.fields, f);
+    let chip = c.chip;
+    let m = crate::field::media(tree, store, f, chip.default_media());
+    let media = m.media;
     Device {
         chip: chip,
         media: media,
