@@ -1,3 +1,4 @@
+pub mod Briefly
 pub mod Digits
 pub mod Pages
 pub mod Writing

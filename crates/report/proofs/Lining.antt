@@ -6,9 +6,6 @@ use lib.ListN.{length}
 use Rattle.meaning.specs.Base.{ascii}
 use Rattle.meaning.specs.Schema as meant
 use Rattle.meaning.specs.Listing.{spaced, decimal, dashed, stemLine, refusedLine}
-use Rattle.tree.specs.declared.Fields.{Fields}
-use Rattle.tree.specs.Doors.{fieldsOf}
-use Rattle.schema.specs.declared.Text.{Text}
 use Rattle.schema.specs.declared.Word.{Word}
 use Rattle.schema.specs.declared.Chip.{Chip}
 use Rattle.schema.specs.declared.Chip.the-variants as chips
@@ -21,13 +18,14 @@ use Rattle.schema.specs.declared.Component.{Component}
 use Rattle.schema.specs.declared.Application.{Application}
 use Rattle.schema.specs.Words.{word, chipMeant, mediaMeant, kindMeant, chipWord, mediaWord, kindWord}
 use Rattle.schema.specs.Texts.{clip, spelled}
-use Rattle.parse.specs.declared.front.Front.{Front}
 use Rattle.parse.specs.declared.view.Counts.{Counts}
-use Rattle.parse.specs.Front.{frontRead}
+use Rattle.parse.specs.declared.view.Device.{Device}
+use Rattle.parse.specs.Front.{boardRead, frontOf}
 use Rattle.parse.specs.Meant.{featureList}
-use Rattle.parse.specs.Refused.{lentText}
-use Rattle.parse.specs.Views.{countsOf}
+use Rattle.parse.specs.Views.{countsOf, deviceOf}
 use Rattle.plan.specs.declared.component.Build.{Build}
+use Rattle.report.specs.declared.brief.ComponentBrief.{ComponentBrief}
+use Rattle.report.specs.declared.brief.ApplicationBrief.{ApplicationBrief}
 use Rattle.report.specs.Page.{Wrote}
 use Rattle.report.specs.Shown as shown
 use Rattle.report.proofs.Pages.{wrote-then}
@@ -79,20 +77,22 @@ module _ (o o1 o2 o3 : List ℕ) (n n1 n2 n3 : ℕ) where
       refused-line number section place w x y v z = simp append-assoc (wrote-then w (wrote-then x (wrote-then y (wrote-then v z))))
 
       module _ (store name : List ℕ) where
-        pub comp-line : (c : Component) (k : Word)
-            → Wrote (ascii "comp") o n o1 n1 → Wrote (32 ∷ spelled store name (c .head .name)) o1 n1 o2 n2 → Wrote (32 ∷ word k) o2 n2 o3 n3
-            → Wrote (32 ∷ dashed (spelled store name (c .role .partition))) o3 n3 o4 n4 → Wrote (10 ∷ []) o4 n4 o5 n5
-            → k ≡ kindWord (c .head .kind)
+        pub comp-line : (c : Component) (b : ComponentBrief) (k : Word)
+            → Wrote (ascii "comp") o n o1 n1 → Wrote (32 ∷ spelled store name (b .name)) o1 n1 o2 n2 → Wrote (32 ∷ word k) o2 n2 o3 n3
+            → Wrote (32 ∷ dashed (spelled store name (b .partition))) o3 n3 o4 n4 → Wrote (10 ∷ []) o4 n4 o5 n5
+            → k ≡ kindWord (b .kind) → b ≡ shown.componentBrief c
             → Wrote (shown.comp store name c) o n o5 n5
         unfolding shown.comp
-        comp-line c k w x y v z e = simp append-assoc (wrote-then w (wrote-then x (wrote-then (field-by y (kind-said (c .head .kind) k e)) (wrote-then v z))))
+        comp-line c b k w x y v z e d =
+            simp append-assoc (wrote-then w (wrote-then (rw d at x) (wrote-then (field-by y (kind-said (c .head .kind) k (rw d at e))) (wrote-then (rw d at v) z))))
 
-        pub app-line : (a : Application)
-            → Wrote (ascii "app") o n o1 n1 → Wrote (32 ∷ spelled store name (a .«package»)) o1 n1 o2 n2 → Wrote (32 ∷ spelled store name (a .name)) o2 n2 o3 n3
-            → Wrote (32 ∷ dashed (spelled store name (a .partition))) o3 n3 o4 n4 → Wrote (10 ∷ []) o4 n4 o5 n5
+        pub app-line : (a : Application) (b : ApplicationBrief)
+            → Wrote (ascii "app") o n o1 n1 → Wrote (32 ∷ spelled store name (b .«package»)) o1 n1 o2 n2 → Wrote (32 ∷ spelled store name (b .name)) o2 n2 o3 n3
+            → Wrote (32 ∷ dashed (spelled store name (b .partition))) o3 n3 o4 n4 → Wrote (10 ∷ []) o4 n4 o5 n5
+            → b ≡ shown.applicationBrief a
             → Wrote (shown.app store name a) o n o5 n5
         unfolding shown.app
-        app-line a w x y v z = simp append-assoc (wrote-then w (wrote-then x (wrote-then y (wrote-then v z))))
+        app-line a b w x y v z d = simp append-assoc (wrote-then w (wrote-then (rw d at x) (wrote-then (rw d at y) (wrote-then (rw d at v) z))))
 
       pub counts-line : (room store : List ℕ) (made : ℕ) (c : Counts)
           → Wrote (32 ∷ decimal (c .partitions)) o n o1 n1 → Wrote (32 ∷ decimal (c .components)) o1 n1 o2 n2 → Wrote (32 ∷ decimal (c .applications)) o2 n2 o3 n3
@@ -108,11 +108,9 @@ module _ (o o1 o2 o3 : List ℕ) (n n1 n2 n3 : ℕ) where
   device-line chip media c m w x y e f = simp append-nil (wrote-then w (wrote-then (field-by x (chip-said chip c e)) (field-by y (media-said media m f))))
 
 module _ (room store : List ℕ) (made : ℕ) (name : List ℕ) (o o1 o2 : List ℕ) (n n1 n2 : ℕ) where
-  pub ok-line : (root : Fields) (lent : Text) (f : Front)
-      → Wrote (ascii "ok" ++ spaced (meant.chipWord (chipMeant (f .board .chip)) ∷ meant.mediaWord (mediaMeant (f .image .media)) ∷ [])) o n o1 n1 → Wrote (shown.counts room store made) o1 n1 o2 n2
-      → root ≡ fieldsOf room made 1 → lent ≡ lentText name → f ≡ frontRead room store made root lent
+  pub ok-line : (d : Device)
+      → Wrote (ascii "ok" ++ spaced (meant.chipWord (chipMeant (d .chip)) ∷ meant.mediaWord (mediaMeant (d .media)) ∷ [])) o n o1 n1 → Wrote (shown.counts room store made) o1 n1 o2 n2
+      → d ≡ deviceOf room store made
       → Wrote (shown.ok room store made name) o n o2 n2
-  unfolding shown.ok
-  ok-line root lent f x y e1 e2 e3 =
-      let e : f ≡ frontRead room store made (fieldsOf room made 1) (lentText name) = e3 ∙ rw (e1, e2) in
-      wrote-then (rw e at x) y
+  unfolding shown.ok deviceOf frontOf boardRead
+  ok-line d x y e = wrote-then (rw e at x) y

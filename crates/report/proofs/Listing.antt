@@ -17,9 +17,7 @@ use Rattle.schema.specs.declared.Text.{Text}
 use Rattle.schema.specs.Texts.{spelled}
 use Rattle.parse.specs.declared.entry.List.{List}
 use Rattle.parse.specs.declared.entry.PartitionRead.{PartitionRead}
-use Rattle.parse.specs.declared.component.ComponentRead.{ComponentRead}
-use Rattle.parse.specs.declared.application.ApplicationRead.{ApplicationRead}
-use Rattle.parse.specs.Entries.{partitionAt, componentAt, applicationAt, walk}
+use Rattle.parse.specs.Entries.{partitionAt, walk}
 use Rattle.parse.specs.Views.{partitionList}
 use Rattle.parse.proofs.Judging.{partitions-among}
 use Rattle.plan.specs.declared.builds.BuildList.{BuildList}
@@ -72,7 +70,7 @@ module _ (f : ℕ → Seq ℕ) (room : Seq ℕ) (l m : List) (d : l ≡ m) (out 
 
 module _ (f : ℕ → Seq ℕ) (room : Seq ℕ) (end place : ℕ) (out : Seq ℕ) (at from : ℕ) (out′ : Seq ℕ) (at′ : ℕ)
     (k : Left f (items room end place 0) (items room end place from) out at out′ at′) (found : Found) (h : Finds from end (child room end place from) found) (n : ℕ) (g : found ≡ At n) where
-  items-on : (out″ : Seq ℕ) (at″ : ℕ) → Wrote (f n) out′ at′ out″ at″ → Left f (items room end place 0) (items room end place (n + 1)) out at out″ at″
+  pub items-on : (out″ : Seq ℕ) (at″ : ℕ) → Wrote (f n) out′ at′ out″ at″ → Left f (items room end place 0) (items room end place (n + 1)) out at out″ at″
   items-on = left-on f (items room end place 0) out at (items room end place from) out′ at′ k n (items room end place (n + 1)) (items-step room end place from n found h g)
 
 -- ---- steps by key
@@ -95,43 +93,20 @@ module _ (f : ℕ → Seq ℕ) (room store : Seq ℕ) (l m : List) (d : l ≡ m)
 module _ (f : ℕ → Seq ℕ) (room store : Seq ℕ) (end place : ℕ) (out : Seq ℕ) (at : ℕ) (after : Found) (i : ℕ) (out′ : Seq ℕ) (at′ : ℕ)
     (k : Left f (walk room store end place 65 Nothing) (walk room store end place (65 - i) after) out at out′ at′) (b : i < 65)
     (found : Found) (h : Finds 0 end (next (slotAt room) store end place after) found) (n : ℕ) (g : found ≡ At n) where
-  keys-on : (out″ : Seq ℕ) (at″ : ℕ) → Wrote (f n) out′ at′ out″ at″ → Left f (walk room store end place 65 Nothing) (walk room store end place (65 - (i + 1)) (At n)) out at out″ at″
+  pub keys-on : (out″ : Seq ℕ) (at″ : ℕ) → Wrote (f n) out′ at′ out″ at″ → Left f (walk room store end place 65 Nothing) (walk room store end place (65 - (i + 1)) (At n)) out at out″ at″
   keys-on =
       let z : 65 - i ≡ suc (65 - (i + 1)) = omega arith in
       let e : next (slotAt room) store end place after ≡ At n = sym (h .is) ∙ g in
       left-on f (walk room store end place 65 Nothing) out at (walk room store end place (65 - i) after) out′ at′ k n (walk room store end place (65 - (i + 1)) (At n)) (rw (z, e))
 
--- ---- the lines of entries by their numbers
+-- ---- partitions
 
-module _ (room store : Seq ℕ) (made : ℕ) (name : Seq ℕ) where
-  -- of the partition, the component, the application that value number n is
-  abbrev pub partAt : ℕ → Seq ℕ
-  partAt n = shown.part store (partitionAt room store made n .partition)
-
-  abbrev pub compAt : ℕ → Seq ℕ
-  compAt n = shown.comp store name (componentAt room store made n 32 .component)
-
-  abbrev pub appAt : ℕ → Seq ℕ
-  appAt n = shown.app store name (applicationAt room store made n 32 .application)
-
-  module _ (end place : ℕ) (out : Seq ℕ) (at : ℕ) where
-    pub parts-on : (from : ℕ) (out′ : Seq ℕ) (at′ : ℕ) → Left partAt (items room end place 0) (items room end place from) out at out′ at′
-        → (found : Found) → Finds from end (child room end place from) found → (n : ℕ) → found ≡ At n
-        → (r : PartitionRead) → r ≡ partitionAt room store made n → (out″ : Seq ℕ) (at″ : ℕ) → Wrote (shown.part store (r .partition)) out′ at′ out″ at″
-        → Left partAt (items room end place 0) (items room end place (n + 1)) out at out″ at″
-    parts-on from out′ at′ k found h n g r e out″ at″ w = items-on partAt room end place out at from out′ at′ k found h n g out″ at″ (rw e at w)
-
-    pub comps-on : (from : ℕ) (out′ : Seq ℕ) (at′ : ℕ) → Left compAt (items room end place 0) (items room end place from) out at out′ at′
-        → (found : Found) → Finds from end (child room end place from) found → (n : ℕ) → found ≡ At n
-        → (r : ComponentRead) → r ≡ componentAt room store made n 32 → (out″ : Seq ℕ) (at″ : ℕ) → Wrote (shown.comp store name (r .component)) out′ at′ out″ at″
-        → Left compAt (items room end place 0) (items room end place (n + 1)) out at out″ at″
-    comps-on from out′ at′ k found h n g r e out″ at″ w = items-on compAt room end place out at from out′ at′ k found h n g out″ at″ (rw e at w)
-
-    pub apps-on : (after : Found) (i : ℕ) (out′ : Seq ℕ) (at′ : ℕ) → Left appAt (walk room store end place 65 Nothing) (walk room store end place (65 - i) after) out at out′ at′ → i < 65
-        → (found : Found) → Finds 0 end (next (slotAt room) store end place after) found → (n : ℕ) → found ≡ At n
-        → (r : ApplicationRead) → r ≡ applicationAt room store made n 32 → (out″ : Seq ℕ) (at″ : ℕ) → Wrote (shown.app store name (r .application)) out′ at′ out″ at″
-        → Left appAt (walk room store end place 65 Nothing) (walk room store end place (65 - (i + 1)) (At n)) out at out″ at″
-    apps-on after i out′ at′ k b found h n g r e out″ at″ w = keys-on appAt room store end place out at after i out′ at′ k b found h n g out″ at″ (rw e at w)
+module _ (room store : Seq ℕ) (made : ℕ) (name : Seq ℕ) (end place : ℕ) (out : Seq ℕ) (at : ℕ) where
+  pub parts-on : (from : ℕ) (out′ : Seq ℕ) (at′ : ℕ) → Left (shown.partAt room store made name) (items room end place 0) (items room end place from) out at out′ at′
+      → (found : Found) → Finds from end (child room end place from) found → (n : ℕ) → found ≡ At n
+      → (r : PartitionRead) → r ≡ partitionAt room store made n → (out″ : Seq ℕ) (at″ : ℕ) → Wrote (shown.part store (r .partition)) out′ at′ out″ at″
+      → Left (shown.partAt room store made name) (items room end place 0) (items room end place (n + 1)) out at out″ at″
+  parts-on from out′ at′ k found h n g r e out″ at″ w = items-on (shown.partAt room store made name) room end place out at from out′ at′ k found h n g out″ at″ (rw e at w)
 
 -- the partitions stand among the values made
 pub parts-within : (room store : Seq ℕ) (made : ℕ) (l : List) → Rooms room made → l ≡ partitionList room store made → l .end ≤ made

@@ -81,17 +81,17 @@ module _ (room store : Seq ℕ) (made : ℕ) (name : Seq ℕ) where
 
   parts-say : shown.parts room store made name ≡ each meant.partLine (preset .partitions)
   parts-say =
-      each-meant (λ (n : ℕ). shown.part store (partitionAt room store made n .partition)) meant.partLine (partitionOf room store made name)
+      each-meant (shown.partAt room store made name) meant.partLine (partitionOf room store made name)
       (λ n. part-says (partitionAt room store made n .partition)) (partitionNumbers room store made (fieldsOf room made 1))
 
   comps-say : shown.comps room store made name ≡ each meant.compLine (preset .components)
   comps-say =
-      each-meant (λ (n : ℕ). shown.comp store name (componentAt room store made n 32 .component)) meant.compLine (componentOf room store made name 32)
+      each-meant (shown.compAt room store made name) meant.compLine (componentOf room store made name 32)
       (λ n. comp-says (componentAt room store made n 32 .component)) (componentNumbers room store made (fieldsOf room made 1))
 
   apps-say : shown.apps room store made name ≡ each meant.appLine (preset .applications)
   apps-say =
-      each-meant (λ (n : ℕ). shown.app store name (applicationAt room store made n 32 .application)) meant.appLine (applicationOf room store made name 32)
+      each-meant (shown.appAt room store made name) meant.appLine (applicationOf room store made name 32)
       (λ n. app-says (applicationAt room store made n 32 .application)) (applicationNumbers room store made (fieldsOf room made 1) 64)
 
   module _ (few : length (components room store made) ≤ 64) where

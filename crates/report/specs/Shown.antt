@@ -22,6 +22,16 @@ use Rattle.plan.specs.declared.component.Build.{Build}
 use Rattle.plan.specs.declared.choice.Choice.the-variants.{BootChain}
 use Rattle.plan.specs.Builds.{buildsOf}
 use Rattle.plan.specs.Stems as stems
+use Rattle.report.specs.declared.brief.ComponentBrief.{ComponentBrief}
+use Rattle.report.specs.declared.brief.ApplicationBrief.{ApplicationBrief}
+
+-- ---- what a line says of an entry
+
+abbrev pub componentBrief : Component → ComponentBrief
+componentBrief c = record { kind = c .head .kind; name = c .head .name; partition = c .role .partition }
+
+abbrev pub applicationBrief : Application → ApplicationBrief
+applicationBrief a = record { «package» = a .«package»; name = a .name; partition = a .partition }
 
 -- ---- a line
 
@@ -54,16 +64,24 @@ module _ (room store : Seq ℕ) (made : ℕ) where
 
     -- ---- the lists
 
+    -- the line of the partition, the component, the application that value number n is
+    abbrev pub partAt : ℕ → Seq ℕ
+    partAt n = part store (partitionAt room store made n .partition)
+
+    abbrev pub compAt : ℕ → Seq ℕ
+    compAt n = comp store name (componentAt room store made n 32 .component)
+
+    abbrev pub appAt : ℕ → Seq ℕ
+    appAt n = app store name (applicationAt room store made n 32 .application)
+
     abbrev pub parts : Seq ℕ
-    parts = each (λ (n : ℕ). part store (partitionAt room store made n .partition)) (items room (partitionList room store made .end) (partitionList room store made .place) 0)
+    parts = each partAt (items room (partitionList room store made .end) (partitionList room store made .place) 0)
 
     abbrev pub comps : Seq ℕ
-    comps = each (λ (n : ℕ). comp store name (componentAt room store made n 32 .component)) (items room (componentList room store made .end) (componentList room store made .place) 0)
+    comps = each compAt (items room (componentList room store made .end) (componentList room store made .place) 0)
 
     abbrev pub apps : Seq ℕ
-    apps =
-        each (λ (n : ℕ). app store name (applicationAt room store made n 32 .application))
-        (walk room store (applicationList room store made .end) (applicationList room store made .place) 65 Nothing)
+    apps = each appAt (walk room store (applicationList room store made .end) (applicationList room store made .place) 65 Nothing)
 
     abbrev pub builds : Seq ℕ
     builds = each build (buildsOf room store made BootChain)

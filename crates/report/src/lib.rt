@@ -1,5 +1,6 @@
 // The listing of an accepted preset's boot chain: its lines, one behind the other, into a lent output.
 
+pub mod brief;
 pub mod line;
 pub mod lists;
 pub mod page;

@@ -2,9 +2,7 @@
 
 use crate::page;
 use plan::component::Build;
-use schema::Application;
 use schema::Chip;
-use schema::Component;
 use schema::Media;
 use schema::Partition;
 use schema::Text;
@@ -14,7 +12,7 @@ ghost use Rattle.meaning.specs.Schema as schemas;
 ghost use Rattle.meaning.specs.Listing as meant;
 ghost use Rattle.schema.specs.Texts.{spelled};
 ghost use Rattle.schema.specs.Words.{chipMeant, mediaMeant};
-ghost use Rattle.tree.specs.Doors.{Rooms};
+ghost use Rattle.tree.specs.Doors.{Rooms, Stood};
 ghost use Rattle.report.specs.Page.{Wrote};
 ghost use Rattle.report.specs.Shown as shown;
 
@@ -45,12 +43,9 @@ pub fn ok(out: &mut [u8], at: usize, tree: &[u8], store: &[u8], made: usize, nam
     requires { ⌜ Rooms (now tree) made ⌝ }
     ensures { λ r. ⌜ Wrote (shown.ok (now (tree .entry)) (now (store .entry)) made (now (name .entry))) (now (out .entry)) at (now (out .exit)) r ⌝ }
 {
-    let root = tree::fields_at(tree, made, 1);
-    let f = parse::front::read_front(tree, store, made, root, parse::lent_name(name));
-    let board = f.board;
-    let image = f.image;
-    let chip = board.chip;
-    let media = image.media;
+    let d = parse::view::device_of(tree, store, made);
+    let chip = d.chip;
+    let media = d.media;
     let a = device(out, at, chip, media);
     counts(out, a, tree, store, made)
 }
@@ -66,15 +61,23 @@ pub fn part(out: &mut [u8], at: usize, store: &[u8], p: Partition) -> usize
     page::put(out, d, b"\n")
 }
 
-// `comp`: name, kind, reference.
-pub fn comp(out: &mut [u8], at: usize, store: &[u8], name: &[u8], x: Component) -> usize
-    ensures { λ r. ⌜ Wrote (shown.comp (now (store .entry)) (now (name .entry)) x) (now (out .entry)) at (now (out .exit)) r ⌝ }
+// `comp` of the component that value number n is: name, kind, reference.
+pub fn comp(
+    out: &mut [u8],
+    at: usize,
+    tree: &[u8],
+    store: &[u8],
+    made: usize,
+    name: &[u8],
+    n: usize,
+) -> usize
+    requires { ⌜ Rooms (now tree) made × Stood (now tree) n ⌝ }
+    ensures { λ r. ⌜ Wrote (shown.compAt (now (tree .entry)) (now (store .entry)) made (now (name .entry)) n) (now (out .entry)) at (now (out .exit)) r ⌝ }
 {
-    let head = x.head;
-    let role = x.role;
-    let kind = head.kind;
-    let own = head.name;
-    let partition = role.partition;
+    let x = crate::brief::component(tree, store, made, n);
+    let kind = x.kind;
+    let own = x.name;
+    let partition = x.partition;
     let a = page::put(out, at, b"comp");
     let b = page::text(out, a, store, name, own);
     let c = page::word(out, b, kind.name());
@@ -82,10 +85,20 @@ pub fn comp(out: &mut [u8], at: usize, store: &[u8], name: &[u8], x: Component) 
     page::put(out, d, b"\n")
 }
 
-// `app`: package, name, partition.
-pub fn app(out: &mut [u8], at: usize, store: &[u8], name: &[u8], x: Application) -> usize
-    ensures { λ r. ⌜ Wrote (shown.app (now (store .entry)) (now (name .entry)) x) (now (out .entry)) at (now (out .exit)) r ⌝ }
+// `app` of the application that value number n is: package, name, partition.
+pub fn app(
+    out: &mut [u8],
+    at: usize,
+    tree: &[u8],
+    store: &[u8],
+    made: usize,
+    name: &[u8],
+    n: usize,
+) -> usize
+    requires { ⌜ Rooms (now tree) made × Stood (now tree) n ⌝ }
+    ensures { λ r. ⌜ Wrote (shown.appAt (now (tree .entry)) (now (store .entry)) made (now (name .entry)) n) (now (out .entry)) at (now (out .exit)) r ⌝ }
 {
+    let x = crate::brief::application(tree, store, made, n);
     let package = x.package;
     let own = x.name;
     let partition = x.partition;

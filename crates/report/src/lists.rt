@@ -60,9 +60,7 @@ pub fn comps(
         match found {
             Found::Nothing => return to,
             Found::At(n) => {
-                let r = parse::entry::component_at(tree, store, made, n, 32);
-                let c = r.component;
-                to = crate::line::comp(out, to, store, name, c);
+                to = crate::line::comp(out, to, tree, store, made, name, n);
                 from = n + 1;
             }
         }
@@ -85,9 +83,7 @@ pub fn apps(out: &mut [u8], at: usize, tree: &[u8], store: &[u8], made: usize, n
         match found {
             Found::Nothing => return to,
             Found::At(n) => {
-                let r = parse::entry::application_at(tree, store, made, n, 32);
-                let a = r.application;
-                to = crate::line::app(out, to, store, name, a);
+                to = crate::line::app(out, to, tree, store, made, name, n);
                 after = Found::At(n);
             }
         }

@@ -4,75 +4,58 @@ use Rattle.tree.specs.Doors.{items}
 use Rattle.parse.proofs.Entering.{item-less}
 use Rattle.parse.proofs.Judging.{components-hold}
 use Rattle.plan.proofs.Walking.{component-stood, component-fits}
-use Rattle.report.proofs.Listing.{Left, left-start, left-long, items-past, items-none, compAt, comps-on}
+use Rattle.report.specs.Shown as shown
+use Rattle.report.proofs.Listing.{Left, left-start, left-long, items-past, items-none, items-on}
 use Rattle.report.proofs.lists.comps.Statement.{statement}
 use Rattle.report.proofs.lists.comps.Tie as tie
 use Rattle.report.proofs.lists.comps.Reads as reads
 use Rattle.report.proofs.lists.comps.Lts as lts
-use Rattle.parse.proofs.entry.component_at.Reads as component-at-reads
 use Rattle.parse.proofs.view.component_list.Reads as component-list-reads
 use Rattle.report.proofs.line.comp.Reads as comp-reads
 use Rattle.tree.proofs.child.Reads as child-reads
 
 abbrev Inv-loop : tie.InvT-loop
-Inv-loop out₀ at tree store made name place end to₀ from₀ out to from = Left (compAt tree store made name) (items tree end place 0) (items tree end place from) out₀ at out to
+Inv-loop out₀ at tree store made name place end to₀ from₀ out to from = Left (shown.compAt tree store made name) (items tree end place 0) (items tree end place from) out₀ at out to
 
 abbrev μ-loop : tie.MeasureT-loop
 μ-loop out₀ at tree store made name place end to₀ from₀ out to from = end - from
 
--- src/lists.rt:53:9
 component-list-requires : tie.Need-component-list-requires Inv-loop μ-loop
 component-list-requires c κs = search needs
 
--- src/lists.rt:58:5
 loop-holds : tie.Need-loop-holds Inv-loop μ-loop
 loop-holds c = search (needs, left-start)
 
--- src/lists.rt:59:13
 child-requires : tie.Need-child-requires Inv-loop μ-loop
 child-requires c κs = search (needs, components-hold)
 
--- src/lists.rt:61:31
 enum-told : tie.Need-enum-told Inv-loop μ-loop
 enum-told c = search needs
 
--- src/lists.rt:61:31
 same-length : tie.Need-same-length Inv-loop μ-loop
 same-length c = search (needs, left-long)
 
--- src/lists.rt:61:31
 returns : tie.Need-returns Inv-loop μ-loop
 returns c = search (needs, items-none)
 
--- src/lists.rt:62:23
 enum-known-found : tie.Need-enum-known-found Inv-loop μ-loop
 enum-known-found c = search needs
 
--- src/lists.rt:63:21
-component-at-requires : tie.Need-component-at-requires Inv-loop μ-loop
-component-at-requires c κs = search (needs, component-stood)
-
--- src/lists.rt:65:17
 comp-requires : tie.Need-comp-requires Inv-loop μ-loop
-comp-requires c κs = search needs
+comp-requires c κs = search (needs, component-stood)
 
--- src/lists.rt:66:24
 add-from : tie.Need-add-from Inv-loop μ-loop
 add-from c = search (needs, component-fits)
 
--- src/lists.rt:58:5
 loop-less : tie.Need-loop-less Inv-loop μ-loop
 loop-less c = search (needs, item-less)
 
--- src/lists.rt:58:5
 loop-again : tie.Need-loop-again Inv-loop μ-loop
-loop-again c = search (needs, comps-on)
+loop-again c = search (needs, items-on)
 
--- src/lists.rt:42:1
 same-length-2 : tie.Need-same-length-2 Inv-loop μ-loop
 same-length-2 c = search (needs, left-long)
 
--- src/lists.rt:42:1
 returns-2 : tie.Need-returns-2 Inv-loop μ-loop
 returns-2 c = search (needs, items-past)
 
@@ -89,7 +72,6 @@ comps-spec =
     same-length
     returns
     enum-known-found
-    component-at-requires
     comp-requires
     add-from
     loop-less

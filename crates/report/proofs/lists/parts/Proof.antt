@@ -3,7 +3,8 @@ use Prim.Native.Nat.{_-_}
 use Rattle.tree.specs.Doors.{items}
 use Rattle.parse.proofs.Entering.{item-stood, item-fits, item-less}
 use Rattle.parse.proofs.Judging.{partitions-hold}
-use Rattle.report.proofs.Listing.{Left, left-start, left-long, items-past, items-none, partAt, parts-on, parts-within}
+use Rattle.report.specs.Shown as shown
+use Rattle.report.proofs.Listing.{Left, left-start, left-long, items-past, items-none, parts-on, parts-within}
 use Rattle.report.proofs.lists.parts.Statement.{statement}
 use Rattle.report.proofs.lists.parts.Tie as tie
 use Rattle.report.proofs.lists.parts.Reads as reads
@@ -14,7 +15,7 @@ use Rattle.report.proofs.line.part.Reads as part-reads
 use Rattle.tree.proofs.child.Reads as child-reads
 
 abbrev Inv-loop : tie.InvT-loop
-Inv-loop out₀ at tree store made name place end to₀ from₀ out to from = Left (partAt tree store made name) (items tree end place 0) (items tree end place from) out₀ at out to
+Inv-loop out₀ at tree store made name place end to₀ from₀ out to from = Left (shown.partAt tree store made name) (items tree end place 0) (items tree end place from) out₀ at out to
 
 abbrev μ-loop : tie.MeasureT-loop
 μ-loop out₀ at tree store made name place end to₀ from₀ out to from = end - from

@@ -1,0 +1,62 @@
+use Rattle.parse.proofs.Entering.{table-spread}
+use Rattle.report.proofs.Briefly.{component-brief}
+use borrow.Author.Needs.{needs}
+use Rattle.report.proofs.brief.component.Statement.{statement}
+use Rattle.report.proofs.brief.component.Tie as tie
+use Rattle.report.proofs.brief.component.Reads as reads
+use Rattle.report.proofs.brief.component.Lts as lts
+use Rattle.parse.proofs.entry.entry_table.Reads as entry-table-reads
+use Rattle.parse.proofs.field.TextRead.or.Reads as or-reads
+use Rattle.parse.proofs.field.kind.Reads as kind-reads
+use Rattle.parse.proofs.field.text.Reads as text-reads
+use Rattle.tree.proofs.value_at.Reads as value-at-reads
+
+-- src/brief.rt:28:51
+value-at-requires : tie.Need-value-at-requires
+value-at-requires c κs = search needs
+
+-- src/brief.rt:28:9
+entry-table-requires : tie.Need-entry-table-requires
+entry-table-requires c κs = search needs
+
+-- src/brief.rt:30:9
+kind-requires : tie.Need-kind-requires
+kind-requires c κs = search (needs, table-spread)
+
+-- src/brief.rt:31:48
+slice-aggregate-text : tie.Need-slice-aggregate-text
+slice-aggregate-text c = search needs
+
+-- src/brief.rt:31:9
+text-requires : tie.Need-text-requires
+text-requires c κs = search (needs, table-spread)
+
+-- src/brief.rt:32:48
+slice-aggregate-text-2 : tie.Need-slice-aggregate-text-2
+slice-aggregate-text-2 c = search needs
+
+-- src/brief.rt:32:9
+text-requires-2 : tie.Need-text-requires-2
+text-requires-2 c κs = search (needs, table-spread)
+
+-- src/brief.rt:38:20
+or-requires : tie.Need-or-requires
+or-requires c κs = search needs
+
+-- src/brief.rt:24:1
+returns : tie.Need-returns
+returns c = search (needs, component-brief)
+
+pub component-spec : {M : Type 1} → statement M
+component-spec =
+    tie.close
+    (tie.spec
+    value-at-requires
+    entry-table-requires
+    kind-requires
+    slice-aggregate-text
+    text-requires
+    slice-aggregate-text-2
+    text-requires-2
+    or-requires
+    returns)
