@@ -7,7 +7,7 @@ use lib.ListN.{length}
 use Rattle.meaning.specs.Base.{zeros}
 use Rattle.meaning.specs.Refusal.{Fault, accepted, refused}
 use Rattle.meaning.specs.Listing.{short}
-use Rattle.laws.specs.Stored.{stored}
+use Rattle.scalar.specs.Stores.{over}
 use Rattle.tree.specs.Doors.{Rooms}
 use Rattle.toml_lite.specs.Doc.{Doc}
 use Rattle.document.specs.Rooms.{judged}
@@ -23,35 +23,24 @@ use Rattle.ways.specs.Settled.{Kept, Parsed}
 abbrev pub unlisted : Outcome → Listed
 unlisted o = record { number = o .number; section = o .section; place = o .place; written = 0 }
 
--- an output that is empty
-pub record Blank (out : List ℕ) : Type 0 where
-  pub zero : out ≡ zeros (length out)
+-- a refusal, and the output all zero
+pub record Emptied (out out' : List ℕ) (o : Outcome) (r : Listed) : Type 0 where
+  pub says : r ≡ unlisted o
+  pub out-is : out' ≡ zeros (length out)
 
--- and the rooms of a plan that was accepted
-pub record Listing (tree out : List ℕ) (o : Outcome) : Type 0 where
+-- the rooms of a plan that was accepted
+pub record Listing (tree : List ℕ) (o : Outcome) : Type 0 where
   pub rooms : o .number ≡ 0 → Rooms tree (o .made)
-  pub blank : Blank out
   pub low : o .place ≤ 70000
 
--- 17, and both rooms zero
-pub record Unroomed (store tree store' tree' : List ℕ) (r : Listed) : Type 0 where
-  pub says : r ≡ record { number = 17; section = 0; place = 0; written = 0 }
-  pub store-is : store' ≡ zeros (length store)
-  pub tree-is : tree' ≡ zeros (length tree)
-
--- the lines of a plan's rooms, where they fit; a refusal leaves none
+-- the lines of a plan's rooms, where they fit, and the output behind them as it was; a refusal leaves none
 pub record Lined (name store' tree' out out' : List ℕ) (o : Outcome) (r : Listed) : Type 0 where
-  pub not : (o .number ≡ 0 → ⊥) → (r ≡ unlisted o) × (out' ≡ zeros (length out))
+  pub not : (o .number ≡ 0 → ⊥) → Emptied out out' o r
   pub low : r .place ≤ 70000
   pub fine : o .number ≡ 0 → length (lines tree' store' (o .made) name) ≤ length out
-      → (r ≡ record { number = 0; section = 0; place = 0; written = length (lines tree' store' (o .made) name) }) × (out' ≡ stored (zeros (length out)) 0 (lines tree' store' (o .made) name))
+      → (r ≡ record { number = 0; section = 0; place = 0; written = length (lines tree' store' (o .made) name) }) × (out' ≡ over (lines tree' store' (o .made) name) out)
 
--- the rooms of a tree, and an output that is empty
-pub record Listable (tree : List ℕ) (made : ℕ) (out : List ℕ) : Type 0 where
-  pub rooms : Rooms tree made
-  pub blank : Blank out
-
--- what a judge says of them, what that leaves, and the lines
+-- what a judge says of a tree's rooms, what that leaves, and the lines
 pub record TreeListed (name store tree : List ℕ) (made : ℕ) (out store' tree' out' : List ℕ) (r : Listed) : Type 0 where
   pub refusal : Refusal
   pub told : Told (planning name 0 [] tree store made) refusal
@@ -64,12 +53,14 @@ pub record Planned (text name store tree out store' tree' out' : List ℕ) (r : 
   pub low : r .place ≤ 70000
   pub outcome : Outcome
   pub parsed : Parsed (planning name 0 []) text store tree store' tree' outcome
-  pub unread : (f : Fault) (section line : ℕ) → judged text (length store) (length tree) ≡ refused f section line → (r ≡ unlisted outcome) × (out' ≡ zeros (length out))
+  pub unread : (f : Fault) (section line : ℕ) → judged text (length store) (length tree) ≡ refused f section line → Emptied out out' outcome r
   pub lined : (d : Doc) → judged text (length store) (length tree) ≡ accepted d → Lined name store' tree' out out' outcome r
 
--- one that is not
+-- one that is not: 17, and all three rooms zero
 pub record Short (store tree out store' tree' out' : List ℕ) (r : Listed) : Type 0 where
-  pub unroomed : Unroomed store tree store' tree' r
+  pub says : r ≡ record { number = 17; section = 0; place = 0; written = 0 }
+  pub store-is : store' ≡ zeros (length store)
+  pub tree-is : tree' ≡ zeros (length tree)
   pub out-is : out' ≡ zeros (length out)
 
 abbrev pub ListsBy : Bool → List ℕ → List ℕ → List ℕ → List ℕ → List ℕ → List ℕ → List ℕ → List ℕ → Listed → Type 0

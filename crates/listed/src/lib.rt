@@ -5,8 +5,9 @@ use ways::Outcome;
 ghost use mathlib.Core.Path.{_≡_};
 ghost use lib.ListN.{length};
 ghost use Rattle.meaning.specs.Listing as meant;
+ghost use Rattle.tree.specs.Doors.{Rooms};
 ghost use Rattle.listed.specs.Listings as listings;
-ghost use Rattle.listed.specs.Listings.{Lined, Planned, Lists};
+ghost use Rattle.listed.specs.Listings.{Emptied, Lined, Planned, Lists};
 
 // What a listing comes to: number 0 and how many bytes were written; or 01's number, section and place.
 pub struct Listed {
@@ -29,9 +30,11 @@ fn short(out: &[u8], name: &[u8]) -> bool
     4294893568 <= name.len()
 }
 
-fn unlisted(o: Outcome) -> Listed
-    ensures { λ r. ⌜ r ≡ listings.unlisted o ⌝ }
+// A refusal, which leaves the output all zero.
+fn unlisted(o: Outcome, out: &mut [u8]) -> Listed
+    ensures { λ r. ⌜ Emptied (now (out .entry)) (now (out .exit)) o r ⌝ }
 {
+    slices::zero(out);
     Listed {
         number: o.number,
         section: o.section,
@@ -40,13 +43,13 @@ fn unlisted(o: Outcome) -> Listed
     }
 }
 
-// The lines of an accepted plan on an empty output.
+// The lines of an accepted plan; the output behind them stays as it is.
 fn list(o: Outcome, store: &[u8], tree: &[u8], out: &mut [u8], name: &[u8]) -> Listed
-    requires { ⌜ listings.Listing (now tree) (now out) o ⌝ }
+    requires { ⌜ listings.Listing (now tree) o ⌝ }
     ensures { λ r. ⌜ Lined (now (name .entry)) (now (store .entry)) (now (tree .entry)) (now (out .entry)) (now (out .exit)) o r ⌝ }
 {
     if o.number != 0 {
-        return unlisted(o);
+        return unlisted(o, out);
     }
     let n = report::lines(out, 0, tree, store, o.made, name);
     Listed {
@@ -58,11 +61,12 @@ fn list(o: Outcome, store: &[u8], tree: &[u8], out: &mut [u8], name: &[u8]) -> L
 }
 
 // A listing for which there is no room.
-fn no_room(store: &mut [u8], tree: &mut [u8]) -> Listed
-    ensures { λ r. ⌜ listings.Unroomed (now (store .entry)) (now (tree .entry)) (now (store .exit)) (now (tree .exit)) r ⌝ }
+fn no_room(store: &mut [u8], tree: &mut [u8], out: &mut [u8]) -> Listed
+    ensures { λ r. ⌜ listings.Short (now (store .entry)) (now (tree .entry)) (now (out .entry)) (now (store .exit)) (now (tree .exit)) (now (out .exit)) r ⌝ }
 {
     slices::zero(store);
     slices::zero(tree);
+    slices::zero(out);
     Listed {
         number: 17,
         section: 0,
@@ -71,9 +75,9 @@ fn no_room(store: &mut [u8], tree: &mut [u8]) -> Listed
     }
 }
 
-// The listing of a tree that was read, on an empty output.
+// The listing of a tree that was read.
 fn list_tree(name: &[u8], store: &mut [u8], tree: &mut [u8], out: &mut [u8], made: usize) -> Listed
-    requires { ⌜ listings.Listable (now tree) made (now out) ⌝ }
+    requires { ⌜ Rooms (now tree) made ⌝ }
     ensures { λ r. ⌜ listings.TreeListed (now (name .entry)) (now (store .entry)) (now (tree .entry)) made (now (out .entry)) (now (store .exit)) (now (tree .exit)) (now (out .exit)) r ⌝ }
 {
     let v = plan::judge(tree, store, made, name, 0, b"");
@@ -81,19 +85,18 @@ fn list_tree(name: &[u8], store: &mut [u8], tree: &mut [u8], out: &mut [u8], mad
     list(o, store, tree, out, name)
 }
 
-// The listing on an empty output that is long enough.
+// The listing on an output that is long enough.
 fn list_text(text: &[u8], name: &[u8], store: &mut [u8], tree: &mut [u8], out: &mut [u8]) -> Listed
-    requires { ⌜ listings.Blank (now out) ⌝ }
     ensures { λ r. ⌜ Planned (now (text .entry)) (now (name .entry)) (now (store .entry)) (now (tree .entry)) (now (out .entry)) (now (store .exit)) (now (tree .exit)) (now (out .exit)) r ⌝ }
 {
     let r = document::read_tree(text, store, tree);
     match r {
         Read::Fine(st) => list_tree(name, store, tree, out, st.made),
-        Read::Fault { number, line } => unlisted(ways::unread(number, line)),
+        Read::Fault { number, line } => unlisted(ways::unread(number, line), out),
     }
 }
 
-// The listing of a preset's boot chain, and the rooms as `plan` leaves them. A refusal leaves all three rooms all zero.
+// The listing of a preset's boot chain, the output behind it as it was, and the rooms as `plan` leaves them. A refusal leaves all three rooms all zero.
 pub fn listing(
     text: &[u8],
     name: &[u8],
@@ -103,9 +106,8 @@ pub fn listing(
 ) -> Listed
     ensures { λ r. ⌜ Lists (now (text .entry)) (now (name .entry)) (now (store .entry)) (now (tree .entry)) (now (out .entry)) (now (store .exit)) (now (tree .exit)) (now (out .exit)) r ⌝ }
 {
-    slices::zero(out);
     if short(out, name) {
-        return no_room(store, tree);
+        return no_room(store, tree, out);
     }
     list_text(text, name, store, tree, out)
 }

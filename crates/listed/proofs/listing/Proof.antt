@@ -1,4 +1,4 @@
-use Rattle.listed.proofs.Lining.{blank-is, lists-short, lists-long}
+use Rattle.listed.proofs.Lining.{lists-short, lists-long}
 use borrow.Author.Needs.{needs}
 use Rattle.listed.proofs.listing.Statement.{statement}
 use Rattle.listed.proofs.listing.Tie as tie
@@ -7,53 +7,48 @@ use Rattle.listed.proofs.listing.Lts as lts
 use Rattle.listed.proofs.list_text.Reads as list-text-reads
 use Rattle.listed.proofs.no_room.Reads as no-room-reads
 use Rattle.listed.proofs.short.Reads as short-reads
-use Rattle.slices.proofs.zero.Reads as zero-reads
 
--- src/listings.rt:106:5
-zero-requires : tie.Need-zero-requires
-zero-requires c κs = search needs
-
--- src/listings.rt:107:8
+-- src/lib.rt:109:8
 short-requires : tie.Need-short-requires
 short-requires c κs = search needs
 
--- src/listings.rt:108:9
+-- src/lib.rt:110:9
 no-room-requires : tie.Need-no-room-requires
 no-room-requires c κs = search needs
 
--- src/listings.rt:108:9
+-- src/lib.rt:110:9
 same-length : tie.Need-same-length
 same-length c = search needs
 
--- src/listings.rt:108:9
+-- src/lib.rt:110:9
 same-length-2 : tie.Need-same-length-2
 same-length-2 c = search needs
 
--- src/listings.rt:108:9
+-- src/lib.rt:110:9
 same-length-3 : tie.Need-same-length-3
 same-length-3 c = search needs
 
--- src/listings.rt:108:9
+-- src/lib.rt:110:9
 returns : tie.Need-returns
 returns c = search (needs, lists-short)
 
--- src/listings.rt:110:5
+-- src/lib.rt:112:5
 list-text-requires : tie.Need-list-text-requires
-list-text-requires c κs = search (needs, blank-is)
+list-text-requires c κs = search needs
 
--- src/listings.rt:97:1
+-- src/lib.rt:100:1
 same-length-4 : tie.Need-same-length-4
 same-length-4 c = search needs
 
--- src/listings.rt:97:1
+-- src/lib.rt:100:1
 same-length-5 : tie.Need-same-length-5
 same-length-5 c = search needs
 
--- src/listings.rt:97:1
+-- src/lib.rt:100:1
 same-length-6 : tie.Need-same-length-6
 same-length-6 c = search needs
 
--- src/listings.rt:97:1
+-- src/lib.rt:100:1
 returns-2 : tie.Need-returns-2
 returns-2 c = search (needs, lists-long)
 
@@ -61,7 +56,6 @@ pub listing-spec : {M : Type 1} → statement M
 listing-spec =
     tie.close
     (tie.spec
-    zero-requires
     short-requires
     no-room-requires
     same-length
