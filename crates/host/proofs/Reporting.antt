@@ -7,8 +7,8 @@ use mathlib.Core.Path.{_≡_, refl, sym, ap, subst, _∙_}
 use native.Mathlib.Omega.{arith}
 use borrow.Author.Tests.{ltb-false, leb-false}
 use lib.Dec.{ltb, leb}
-use lib.ListN.{length, drop}
-use Rattle.meaning.specs.Base.{pick, zeros}
+use lib.ListN.{length}
+use Rattle.meaning.specs.Base.{pick}
 use Rattle.meaning.specs.Limits.{of01}
 use Rattle.meaning.specs.Refusal.{Answer, accepted, refused, numbered, after, Fault}
 use Rattle.meaning.specs.Preset.{Read}
@@ -18,7 +18,6 @@ use Rattle.meaning.specs.Listing as meant
 use Rattle.meaning.specs.Listing.{outSize, linesOf}
 use Rattle.laws.specs.Answers.{accepted-one}
 use Rattle.laws.specs.Cases.{on}
-use Rattle.laws.specs.Stored.{stored}
 use Rattle.laws.specs.Listings.{planned-fits}
 use Rattle.toml_lite.specs.Doc.{Doc}
 use Rattle.document.specs.Rooms.{judged}
@@ -45,10 +44,6 @@ use Rattle.host.proofs.Recording.{plan-is, plan-accepted, plan-judged}
 abbrev shown : lists.Listed → Listed
 shown r = record { number = r .number; section = r .section; place = r .place; written = r .written % 4294967296 }
 
-over-stored : (s : List ℕ) (n : ℕ) → stored (zeros n) 0 s ≡ over s (zeros n)
-unfolding stored
-over-stored s n = let e : 0 + length s ≡ length s = omega arith in rw e
-
 -- what was refused was refused by planning
 refused-read : (x : Answer plans.Planned) (f : Fault) (section place : ℕ) → after x (λ q. accepted (q .read)) ≡ refused f section place → x ≡ refused f section place
 refused-read (accepted q) f section place e = let z : _≡_ {A = ℕ} 0 1 = cc in absurd (omega arith)
@@ -60,7 +55,7 @@ module _ (text name store tree out store' tree' out' : List ℕ) (r : lists.List
   unfolding meant.listing
   short-is t h =
       let e : listing text name store tree out ≡ refused (numbered 17) 0 0 = rw t in
-      rw e (record { says = rw (h .unroomed .says); store-is = h .unroomed .store-is; tree-is = h .unroomed .tree-is; out-is = h .out-is; shows = tt })
+      rw e (record { says = rw (h .says); store-is = h .store-is; tree-is = h .tree-is; out-is = h .out-is; shows = tt })
 
   module _ (t : meant.short (length out) name ≡ false) where
     -- an output that is long enough
@@ -86,10 +81,10 @@ module _ (text name store tree out store' tree' out' : List ℕ) (r : lists.List
 
       -- ---- a refusal
       module _ (f : Fault) (section place : ℕ) (e : planned text name 0 [] store tree ≡ refused f section place) where
-        nothing : (r ≡ entries.unlisted o) × (out' ≡ zeros (length out))
+        nothing : entries.Emptied out out' o r
         nothing = go (judged text (length store) (length tree)) refl
           where
-            go : (b : Answer Doc) → judged text (length store) (length tree) ≡ b → (r ≡ entries.unlisted o) × (out' ≡ zeros (length out))
+            go : (b : Answer Doc) → judged text (length store) (length tree) ≡ b → entries.Emptied out out' o r
             go (refused g s l) eb = h .unread g s l eb
             go (accepted d) eb =
                 h .lined d eb .not (λ z.
@@ -106,10 +101,10 @@ module _ (text name store tree out store' tree' out' : List ℕ) (r : lists.List
             let n = nothing in
             rw a
             (record {
-              says = rw (n .0) (ap (λ (q : Outcome). record { number = q .number; section = q .section; place = q .place; written = 0 }) (g .says));
+              says = rw (n .says) (ap (λ (q : Outcome). record { number = q .number; section = q .section; place = q .place; written = 0 }) (g .says));
               store-is = g .store-is;
               tree-is = g .tree-is;
-              out-is = n .1;
+              out-is = n .out-is;
               shows = tt;
             })
 
@@ -166,7 +161,7 @@ module _ (text name store tree out store' tree' out' : List ℕ) (r : lists.List
               says = ap shown (k .0) ∙ ap (λ (m : ℕ). record { number = 0; section = 0; place = 0; written = m }) (ap (λ (m : ℕ). m % 4294967296) n ∙ w);
               store-is = g .store-is;
               tree-is = g .tree-is;
-              out-is = k .1 ∙ rw said (over-stored (meant.listed x .lines) (length out));
+              out-is = k .1 ∙ ap (λ (s : List ℕ). over s out) said;
               shows = recorded;
             })
 

@@ -17,10 +17,10 @@ abbrev pub listedBy : Answer meant.Listed → Listed
 listedBy (accepted l) = record { number = 0; section = 0; place = 0; written = length (l .lines) }
 listedBy (refused f section place) = record { number = numberOf f; section = section; place = place; written = 0 }
 
--- the lines, then zeros; "all lent rooms then hold zero"
-abbrev pub outBy : ℕ → Answer meant.Listed → List ℕ
-outBy n (accepted l) = over (l .lines) (zeros n)
-outBy n (refused f section place) = zeros n
+-- the lines, and the output behind them as it was; "all lent rooms then hold zero"
+abbrev pub outBy : List ℕ → Answer meant.Listed → List ℕ
+outBy out (accepted l) = over (l .lines) out
+outBy out (refused f section place) = zeros (length out)
 
 -- what was read for it
 abbrev pub readBy : Answer meant.Listed → Answer Read
@@ -30,18 +30,18 @@ readBy a = after a (λ l. accepted (l .planned .read))
 abbrev pub listing : List ℕ → List ℕ → List ℕ → List ℕ → List ℕ → Answer meant.Listed
 listing text name store tree out = meant.listing of01 32 (length store) (length tree) (length out) name text
 
--- what a call leaves that has this answer to a text
+-- what a call leaves that has this answer to a text, by what the output held before
 pub record ReportedBy (a : Answer meant.Listed) (text name store tree out store' tree' out' : List ℕ) (r : Listed) : Type 0 where
   pub says : r ≡ listedBy a
   pub store-is : store' ≡ storeBy (length store) (readBy a)
   pub tree-is : tree' ≡ treeBy text (length store) (length tree) (readBy a)
-  pub out-is : out' ≡ outBy (length out) a
+  pub out-is : out' ≡ outBy out a
   pub shows : Records name store' tree' (readBy a)
 
 abbrev pub Reported : List ℕ → List ℕ → List ℕ → List ℕ → List ℕ → List ℕ → List ℕ → List ℕ → Listed → Type 0
 Reported text name store tree out store' tree' out' r = ReportedBy (listing text name store tree out) text name store tree out store' tree' out' r
 
--- two results that meet the promise are equal, answer and all three rooms
+-- two results that meet the promise for the same output are equal, answer and all three rooms
 pub reported-decides : (a : Answer meant.Listed) (text name store tree out store₁ tree₁ out₁ store₂ tree₂ out₂ : List ℕ) (r₁ r₂ : Listed)
     → ReportedBy a text name store tree out store₁ tree₁ out₁ r₁ → ReportedBy a text name store tree out store₂ tree₂ out₂ r₂
     → (r₁ ≡ r₂) × (store₁ ≡ store₂) × (tree₁ ≡ tree₂) × (out₁ ≡ out₂)

@@ -35,7 +35,8 @@ mod sys {
     }
 }
 
-/// Plans a preset's boot chain and writes its lines at the head of `out`, and zeros behind them.
+/// Plans a preset's boot chain and writes its lines at the head of `out`, which stays as it is behind
+/// them. A refusal leaves all three rooms zero.
 pub fn listing(
     text: &[u8],
     name: &[u8],

@@ -106,14 +106,15 @@ pub fn least(name: &[u8]) -> [usize; 3] {
 }
 
 impl Function {
-    /// Calls it and looks through the rooms: zero after a refusal, else behind what was made or written.
+    /// Calls it and looks through the rooms: zero after a refusal, else behind what was made. Behind the lines
+    /// of an output it is for the caller to see that nothing was changed.
     pub fn judge(&self, input: Input, mut rooms: Rooms) -> Result<Said, String> {
         let said = (self.call)(input, rooms.each_mut().map(|room| &mut **room));
         let [store, tree, out] = rooms;
         let count = said.count as usize;
         let zero = match (said.number, self.rooms) {
             (0, 2) => [&store[STORE_MIN..], &tree[SLOT * count..], &[]],
-            (0, _) => [&store[STORE_MIN..], &tree[TREE_MIN..], &out[count..]],
+            (0, _) => [&store[STORE_MIN..], &tree[TREE_MIN..], &[]],
             (_, 2) => [&*store, &*tree, &[]],
             _ => [&*store, &*tree, &*out],
         };
@@ -124,6 +125,11 @@ impl Function {
             true => Err(format!("{}: {said:?}", self.called)),
             false => Ok(said),
         }
+    }
+
+    /// How many bytes of the output it wrote, where it accepted and was lent one.
+    pub fn written(&self, said: Said) -> Option<usize> {
+        (said.number == 0 && self.rooms == 3).then_some(said.count as usize)
     }
 }
 
@@ -163,14 +169,13 @@ impl Bench {
         Ok(furthest)
     }
 
-    /// Twice, with other noise in other rooms: the answer and the rooms are the same.
+    /// Twice, with other noise in other rooms: the answer and the rooms are the same, of an output its lines.
     pub fn twice(&mut self, function: &Function, input: Input) -> Result<Said, String> {
         let first = self.once(function, input, 0)?;
         let second = self.once(function, input, 1)?;
         let [one, other] = &mut self.rooms;
-        let lent = one.iter_mut().zip(other).take(function.rooms);
         // after a refusal all of them are zero
-        let held = first.number > 0 || lent.into_iter().all(|(a, b)| a.bytes() == b.bytes());
+        let held = first.number > 0 || left(one, function, first) == left(other, function, first);
         match first == second && held {
             true => Ok(first),
             false => {
@@ -182,13 +187,12 @@ impl Bench {
         }
     }
 
-    /// The rooms that are lent to a function, as it left them.
-    pub fn lent(&mut self, function: &Function) -> Vec<&[u8]> {
-        let lent = self.rooms[0].iter_mut().take(function.rooms);
-        lent.map(|room| &*room.bytes()).collect()
+    /// The rooms that are lent to a function that said this, as it left them; of an output its lines.
+    pub fn lent(&mut self, function: &Function, said: Said) -> Vec<&[u8]> {
+        left(&mut self.rooms[0], function, said)
     }
 
-    // Nothing beside the rooms is changed.
+    // Nothing beside the rooms is changed, nor behind the lines of an output.
     fn once(&mut self, function: &Function, input: Input, n: usize) -> Result<Said, String> {
         self.turn += 1;
         let rooms = &mut self.rooms[n];
@@ -202,12 +206,25 @@ impl Bench {
             key: key.ending(input.key),
         };
         let said = function.judge(input, rooms.each_mut().map(Room::bytes))?;
-        match rooms.iter_mut().all(Room::kept) {
+        let [_, _, out] = &mut *rooms;
+        let behind = function.written(said);
+        let as_it_was = behind.is_none_or(|written| out.filled(self.turn, written));
+        match as_it_was && rooms.iter_mut().all(Room::kept) {
             true => Ok(said),
             false => Err(format!(
-                "{}: bytes beside the rooms were changed",
+                "{}: bytes beside the rooms or behind the lines were changed",
                 function.called
             )),
         }
     }
+}
+
+// What a function that said this promises of the rooms it was lent.
+fn left<'a>(rooms: &'a mut [Room; 3], function: &Function, said: Said) -> Vec<&'a [u8]> {
+    let lent = rooms.iter_mut().take(function.rooms);
+    let mut lent: Vec<&[u8]> = lent.map(|room| &*room.bytes()).collect();
+    if let (Some(written), Some(out)) = (function.written(said), lent.last_mut()) {
+        *out = &out[..written];
+    }
+    lent
 }

@@ -1,5 +1,6 @@
 //! Every function that starts from a text, lent all sorts of rooms and handed anything: an answer each time,
-//! the same twice, nothing beside the rooms changed, and rooms that are zero after a refusal.
+//! the same twice, nothing beside the rooms or behind a listing's lines changed, and rooms that are zero after
+//! a refusal.
 use port::text::TEXT_MAX;
 use replay::ask::holds;
 use replay::faults::{Bench, FUNCTIONS, Function, Input, Said, least};
@@ -87,7 +88,8 @@ fn short_rooms() {
     }
 }
 
-// The same answer and the same bytes as in rooms as small as can be, and then zeros.
+// The same answer and the same bytes as in rooms as small as can be, and then zeros; of an output the same
+// lines.
 #[test]
 fn long_rooms() {
     let mut exact = Bench::new(least(NAME), true, MOST);
@@ -105,8 +107,9 @@ fn same(function: &Function, input: Input, [exact, long]: [&mut Bench; 2]) {
     let about = input.text.escape_ascii();
     let said = [&mut *exact, &mut *long].map(|bench| bench.twice(function, input));
     assert_eq!(said[0], said[1], "{about}");
-    said[0].as_ref().unwrap_or_else(|e| panic!("{about}: {e}"));
-    for (short, long) in exact.lent(function).into_iter().zip(long.lent(function)) {
+    let said = *said[0].as_ref().unwrap_or_else(|e| panic!("{about}: {e}"));
+    let lent = exact.lent(function, said);
+    for (short, long) in lent.into_iter().zip(long.lent(function, said)) {
         holds(long, short).unwrap_or_else(|e| panic!("{about}: {e}"));
     }
 }

@@ -74,6 +74,14 @@ impl Drop for Fenced {
 
 const GUARD: [u8; 64] = [0x5A; 64];
 
+// Noise goes by words; what is left of a room behind its last word holds this byte.
+const LAST: u8 = 0xAA;
+
+fn noise(seed: u64) -> impl Iterator<Item = [u8; 8]> {
+    let word = move |n: u64| seed.wrapping_add(n.wrapping_mul(0x9E37_79B9_7F4A_7C15));
+    (1..).map(move |n| word(n).to_le_bytes())
+}
+
 /// A room with guard bytes before it; behind it guard bytes, or the protected page.
 pub struct Room {
     memory: Fenced,
@@ -121,12 +129,23 @@ impl Room {
     /// Fills the room with noise. Word by word: an emulator copies long parts byte by byte.
     pub fn fill(&mut self, seed: u64) {
         let (words, rest) = self.bytes().as_chunks_mut::<8>();
-        let mut noise = seed;
-        for word in words {
-            noise = noise.wrapping_add(0x9E37_79B9_7F4A_7C15);
-            *word = noise.to_le_bytes();
+        for (word, noise) in words.iter_mut().zip(noise(seed)) {
+            *word = noise;
         }
-        rest.fill(0xAA);
+        rest.fill(LAST);
+    }
+
+    /// Whether the room is from that byte on as `fill` left it.
+    pub fn filled(&mut self, seed: u64, from: usize) -> bool {
+        let (words, rest) = self.bytes().as_chunks::<8>();
+        let mut each = words.iter().zip(noise(seed)).skip(from / 8);
+        // of the word in which that byte stands only what is behind it
+        let behind = from % 8;
+        let first = each.next();
+        let part = first.is_none_or(|(word, noise)| word[behind..] == noise[behind..]);
+        let last = from.saturating_sub(8 * words.len());
+        part && each.all(|(word, noise)| *word == noise)
+            && rest.iter().skip(last).all(|&b| b == LAST)
     }
 
     pub fn bytes(&mut self) -> &mut [u8] {

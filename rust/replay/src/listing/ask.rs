@@ -118,11 +118,10 @@ impl Host {
         if !out.kept() {
             return Err("bytes beside the output were changed".into());
         }
-        let lines = want.as_ref().map_or(&[][..], |lines| lines);
-        holds(out.bytes(), lines).map_err(|_| told(out.bytes(), lines))?;
         match want {
-            Ok(_) => Ok(()),
+            Ok(lines) => written(out, self.turn, lines),
             Err(_) => {
+                holds(out.bytes(), b"").map_err(|e| format!("output: {e}"))?;
                 holds(rooms.store.bytes(), b"").map_err(|e| format!("store: {e}"))?;
                 holds(rooms.tree.bytes(), b"").map_err(|e| format!("tree: {e}"))
             }
@@ -146,12 +145,16 @@ pub fn listed(want: &Lines) -> Listed {
     }
 }
 
-// The first line that differs.
-fn told(out: &[u8], want: &[u8]) -> String {
-    let got = &out[..want.len()];
-    match got == want {
-        true => "the output is not zero behind the last line".into(),
-        false => differing(&rows(got), &rows(want)),
+// The lines stand in an output that was filled with that noise, and behind them it is as it was; or the
+// first line that differs.
+fn written(out: &mut Room, noise: u64, want: &[u8]) -> Result<(), String> {
+    let got = &out.bytes()[..want.len()];
+    if got != want {
+        return Err(differing(&rows(got), &rows(want)));
+    }
+    match out.filled(noise, want.len()) {
+        true => Ok(()),
+        false => Err("the output is changed behind the last line".into()),
     }
 }
 
