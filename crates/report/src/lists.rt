@@ -76,10 +76,11 @@ pub fn apps(out: &mut [u8], at: usize, tree: &[u8], store: &[u8], made: usize, n
     let l = parse::view::application_list(tree, store, made);
     let place = l.place;
     let end = l.end;
+    let low = tree::skip_up(tree, end, place, 0);
     let mut to = at;
     let mut after = Found::Nothing;
     for _i in 0..65usize {
-        let found = tree::next(tree, store, end, place, after);
+        let found = tree::next(tree, store, low, end, place, after);
         match found {
             Found::Nothing => return to,
             Found::At(n) => {

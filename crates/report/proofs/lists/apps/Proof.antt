@@ -12,15 +12,19 @@ use Rattle.report.proofs.lists.apps.Lts as lts
 use Rattle.parse.proofs.view.application_list.Reads as application-list-reads
 use Rattle.report.proofs.line.app.Reads as app-reads
 use Rattle.tree.proofs.next.Reads as next-reads
+use Rattle.tree.proofs.skip_up.Reads as skip-up-reads
 
 abbrev Inv-loop : tie.InvT-loop
-Inv-loop out₀ at tree store made name place end to₀ after₀ -i₀ out to after -i = Left (shown.appAt tree store made name) (walk tree store end place 65 Nothing) (walk tree store end place (65 - -i) after) out₀ at out to
+Inv-loop out₀ at tree store made name place end low to₀ after₀ -i₀ out to after -i = Left (shown.appAt tree store made name) (walk tree store end place 65 Nothing) (walk tree store end place (65 - -i) after) out₀ at out to
 
 abbrev μ-loop : tie.MeasureT-loop
-μ-loop out₀ at tree store made name place end to₀ after₀ -i₀ out to after -i = 65 - -i
+μ-loop out₀ at tree store made name place end low to₀ after₀ -i₀ out to after -i = 65 - -i
 
 application-list-requires : tie.Need-application-list-requires Inv-loop μ-loop
 application-list-requires c κs = search needs
+
+skip-up-requires : tie.Need-skip-up-requires Inv-loop μ-loop
+skip-up-requires c κs = search (needs, applications-hold)
 
 loop-holds : tie.Need-loop-holds Inv-loop μ-loop
 loop-holds c = search (needs, left-start)
@@ -65,6 +69,7 @@ apps-spec =
     Inv-loop
     μ-loop
     application-list-requires
+    skip-up-requires
     loop-holds
     next-requires
     enum-told
