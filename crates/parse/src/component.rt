@@ -94,7 +94,7 @@ fn filename_for(store: &[u8], s: Sources) -> Text
     bin.or(rest)
 }
 
-fn read_sources(tree: &[u8], store: &[u8], f: Fields) -> Sources
+pub fn read_sources(tree: &[u8], store: &[u8], f: Fields) -> Sources
     requires { ⌜ Spread (now tree) f ⌝ }
     ensures { λ r. ⌜ r ≡ comps.sources (now (tree .entry)) (now (store .entry)) f ⌝ }
 {
@@ -142,7 +142,7 @@ pub fn read_head(tree: &[u8], store: &[u8], f: Fields) -> HeadRead
 }
 
 // `features`, `pbp_features`: an empty one takes `features`.
-fn read_lists(tree: &[u8], store: &[u8], made: usize, f: Fields, limit: usize) -> Lists
+pub fn read_lists(tree: &[u8], store: &[u8], made: usize, f: Fields, limit: usize) -> Lists
     requires { ⌜ Rooms (now tree) made × Spread (now tree) f ⌝ }
     ensures { λ r. ⌜ r ≡ comps.lists (now (tree .entry)) (now (store .entry)) made f limit ⌝ }
 {

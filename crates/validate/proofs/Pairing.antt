@@ -16,7 +16,7 @@ use Rattle.schema.specs.Texts.{clip}
 use Rattle.parse.proofs.Fielding.{Elsewhere, elsewhere}
 use Rattle.validate.specs.declared.uses.Spot.{Spot}
 use Rattle.validate.specs.declared.uses.Pair.{Pair}
-use Rattle.validate.specs.Clashes.{packed, noSpot, bytesSpot, textSpot, listSpot, spotted, listAt, spots, pairOf, single}
+use Rattle.validate.specs.Clashes.{packed, noSpot, bytesSpot, textSpot, listSpot, textAt, spotted, listAt, spots, pairOf, single}
 
 -- ---- twice
 
@@ -59,9 +59,17 @@ pub single-made : (key len : ℕ) (f : Features) (x y z : Spot) → x ≡ listSp
     → record { «package» = record { kind = 1; from = key; len = len }; features = x; «pbp_package» = y; «pbp_features» = z } ≡ single key len f
 single-made key len f x y z a b c = rw (a, b, c)
 
--- ---- list_at
+-- ---- text_at, list_at
 
 module _ (s : Spot) where
+  pub text-stored : s .kind ≡ 1 → texts.Stored (s .from) (s .len) ≡ textAt s
+  unfolding textAt
+  text-stored h = rw h
+
+  pub text-none : (s .kind ≡ 1 → ⊥) → texts.Absent ≡ textAt s
+  unfolding textAt
+  text-none h = rw (ne-eqb (s .kind) 1 h)
+
   pub list-words : s .kind ≡ 1 → lists.Words (s .from) (s .len) ≡ listAt s
   unfolding listAt
   list-words h = rw h

@@ -17,6 +17,7 @@ use Rattle.laws.specs.Cases.{on, never}
 use Rattle.laws.specs.Order.{same-eq, eq-same}
 use Rattle.tree.specs.declared.Value.{Value as Read}
 use Rattle.tree.specs.declared.Value.the-variants as read
+use Rattle.tree.specs.declared.Fields.{Fields}
 use Rattle.tree.specs.Doors.{field, items}
 use Rattle.tree.specs.Short.{field-short}
 use Rattle.schema.specs.declared.Text.{Text}
@@ -29,7 +30,7 @@ use Rattle.features.specs.Pieces.{wordsFrom, allTexts, pieces, featuresRead}
 use Rattle.parse.specs.declared.Refusal.{Refusal}
 use Rattle.parse.specs.Refusals.{earlier}
 use Rattle.parse.specs.Meant.{featureList, componentMeant}
-use Rattle.parse.specs.Fields.{textRead}
+use Rattle.parse.specs.Fields.{textRead, textAt}
 use Rattle.parse.specs.Component as component
 use Rattle.parse.specs.Component.{sources, headRead, roleRead, bootRead, componentRead}
 use Rattle.parse.specs.Application.{loading, applicationRead}
@@ -40,6 +41,7 @@ use Rattle.parse.specs.Whole.{componentOf, applicationOf}
 use Rattle.layout.specs.Marks.{anyOf, firstHit}
 use Rattle.validate.specs.declared.uses.Spot.{Spot}
 use Rattle.validate.specs.declared.uses.Pair.{Pair}
+use Rattle.validate.specs.Clashes as clashes
 use Rattle.validate.specs.Clashes.{packed, textSpot, listSpot, spotted, listAt, differ, clash, pairOf}
 use Rattle.validate.specs.Entries.{componentEntry, applicationEntry, componentAt, applicationAt}
 use Rattle.validate.specs.Faults.{clashFault}
@@ -177,14 +179,14 @@ hit-faults cs apps k l =
 -- ---- an entry's packages
 
 -- a text that was read is absent or a short one of the store, and so is a feature list that is a text
-abbrev Short : Text → Type 0
+abbrev pub Short : Text → Type 0
 Short texts.Absent = Unit {0}
 Short (texts.Stored from len) = (from < 65536) × (len < 65536)
 Short texts.Lent = ⊥
 Short (texts.Fixed w) = ⊥
 Short (texts.WithAic from len) = ⊥
 
-abbrev ShortList : Features → Type 0
+abbrev pub ShortList : Features → Type 0
 ShortList lists.Absent = Unit {0}
 ShortList (lists.Words from len) = (from < 65536) × (len < 65536)
 ShortList (lists.Items place) = Unit {0}
@@ -200,6 +202,14 @@ below : (n : ℕ) → n < 65536 → n % 65536 ≡ n
 below n h = omega (arith, h)
 
 -- both are at their spots
+pub stored-short : (t : Text) → Short t → clashes.textAt (textSpot t) ≡ t
+unfolding clashes.textAt
+stored-short texts.Absent h = refl
+stored-short (texts.Stored from len) h = rw (below from (h .0), below len (h .1))
+stored-short texts.Lent h = absurd h
+stored-short (texts.Fixed w) h = absurd h
+stored-short (texts.WithAic from len) h = absurd h
+
 spotted-short : (store : List ℕ) (t : Text) → Short t → spotted store (textSpot t) ≡ packed store t
 unfolding spotted
 spotted-short store texts.Absent h = refl
@@ -208,7 +218,7 @@ spotted-short store texts.Lent h = absurd h
 spotted-short store (texts.Fixed w) h = absurd h
 spotted-short store (texts.WithAic from len) h = absurd h
 
-list-short : (f : Features) → ShortList f → listAt (listSpot f) ≡ f
+pub list-short : (f : Features) → ShortList f → listAt (listSpot f) ≡ f
 unfolding listAt
 list-short lists.Absent h = refl
 list-short (lists.Words from len) h = rw (below from (h .0), below len (h .1))
@@ -240,6 +250,21 @@ features-short room store made limit (read.Table place) h = tt
 short-one : (b : Bool) (f g : Features) → ShortList f → ShortList g → ShortList (pick b f g)
 short-one true f g h k = h
 short-one false f g h k = k
+
+-- a component's fields
+module _ (room store : List ℕ) (f : Fields) where
+  pub field-text-short : (key : List ℕ) → Short (textAt room store f key .text)
+  field-text-short key = text-short (field room store f key) (field-short room store f key)
+
+  pub field-list-short : (made limit : ℕ) (key : List ℕ) → ShortList (featuresRead room store made limit (field room store f key) .features)
+  field-list-short made limit key = features-short room store made limit (field room store f key) (field-short room store f key)
+
+  pub lists-short : (made limit : ℕ) → ShortList (component.lists room store made f limit .features) × ShortList (component.lists room store made f limit .«pbp_features»)
+  unfolding component.lists
+  lists-short made limit =
+      let all = featuresRead room store made limit (field room store f (ascii "features")) .features in
+      let own = featuresRead room store made limit (field room store f (ascii "pbp_features")) .features in
+      (field-list-short made limit (ascii "features"), short-one (nil? (pieces room store made own)) all own (field-list-short made limit (ascii "features")) (field-list-short made limit (ascii "pbp_features")))
 
 -- all of a component
 record ShortIn (c : Component) : Type 0 where
@@ -296,21 +321,16 @@ module _ (room store : List ℕ) (made : ℕ) where
 
     module _ (parts : List (List ℕ)) (n : ℕ) where
       component-uses : usesOf (componentOf room store made name 32 n) ≡ usesIn (componentAt room store made parts n .pair)
-      unfolding componentEntry parsed.componentAt componentRead headRead sources roleRead component.lists bootRead
+      unfolding componentEntry parsed.componentAt componentRead headRead sources roleRead bootRead
       component-uses =
           let f = parsed.tableAt room store made n .fields in
-          let all = featuresRead room store made 32 (field room store f (ascii "features")) .features in
-          let own = featuresRead room store made 32 (field room store f (ascii "pbp_features")) .features in
-          let short : (key : List ℕ) → ShortRead (field room store f key) = field-short room store f in
+          let both = lists-short room store f made 32 in
           uses-short (parsed.componentAt room store made n 32 .component)
           (record {
-            pack = text-short (field room store f (ascii "package")) (short (ascii "package"));
-            own = text-short (field room store f (ascii "pbp_package")) (short (ascii "pbp_package"));
-            features = features-short room store made 32 (field room store f (ascii "features")) (short (ascii "features"));
-            ownFeatures =
-                short-one (nil? (pieces room store made own)) all own
-                (features-short room store made 32 (field room store f (ascii "features")) (short (ascii "features")))
-                (features-short room store made 32 (field room store f (ascii "pbp_features")) (short (ascii "pbp_features")));
+            pack = field-text-short room store f (ascii "package");
+            own = field-text-short room store f (ascii "pbp_package");
+            features = both .0;
+            ownFeatures = both .1;
           })
 
       application-uses : useOf (applicationOf room store made name 32 n) ≡ usesIn (applicationAt room store made parts n .pair)
@@ -318,7 +338,7 @@ module _ (room store : List ℕ) (made : ℕ) where
       application-uses =
           let f = parsed.tableAt room store made n .fields in
           let list = parsed.applicationAt room store made n 32 .application .features in
-          rw (list-short list (features-short room store made 32 (field room store f (ascii "features")) (field-short room store f (ascii "features"))))
+          rw (list-short list (field-list-short room store f made 32 (ascii "features")))
 
 -- ---- 60
 

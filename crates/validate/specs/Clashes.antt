@@ -44,7 +44,10 @@ listSpot lists.Absent = noSpot
 listSpot (lists.Words from len) = bytesSpot from len
 listSpot (lists.Items place) = record { kind = 2; from = place; len = 0 }
 
--- the package, and the feature list, at a spot
+-- the text, the package, and the feature list, at a spot
+unfoldable pub textAt : Spot → Text
+textAt s = pick (eqb (s .kind) 1) (texts.Stored (s .from) (s .len)) texts.Absent
+
 unfoldable pub spotted : List ℕ → Spot → Option (List ℕ)
 spotted store s = pick (eqb (s .kind) 1) (some (clip (s .from) (s .len) store)) none
 

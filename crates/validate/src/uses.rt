@@ -48,7 +48,7 @@ fn bytes_spot(from: usize, len: usize) -> Spot
 }
 
 // No text of the store is longer.
-fn text_spot(t: Text) -> Spot
+pub fn text_spot(t: Text) -> Spot
     ensures { λ r. ⌜ r ≡ clashes.textSpot t ⌝ }
 {
     match t {
@@ -60,7 +60,7 @@ fn text_spot(t: Text) -> Spot
     }
 }
 
-fn list_spot(f: Features) -> Spot
+pub fn list_spot(f: Features) -> Spot
     ensures { λ r. ⌜ r ≡ clashes.listSpot f ⌝ }
 {
     match f {
@@ -75,7 +75,7 @@ fn list_spot(f: Features) -> Spot
 }
 
 // The feature list at a spot.
-fn list_at(s: Spot) -> Features
+pub fn list_at(s: Spot) -> Features
     ensures { λ r. ⌜ r ≡ clashes.listAt s ⌝ }
 {
     if s.kind == 1 {
@@ -88,6 +88,19 @@ fn list_at(s: Spot) -> Features
         return Features::Items(s.from);
     }
     Features::Absent
+}
+
+// The text at a spot.
+pub fn text_at(s: Spot) -> Text
+    ensures { λ r. ⌜ r ≡ clashes.textAt s ⌝ }
+{
+    if s.kind == 1 {
+        return Text::Stored {
+            from: s.from as usize,
+            len: s.len as usize,
+        };
+    }
+    Text::Absent
 }
 
 // Whether both are there and have the same bytes.
@@ -107,7 +120,7 @@ pub fn twice(store: &[u8], p: Text, q: Text) -> bool
 }
 
 // The same of two spots.
-fn agree(store: &[u8], p: Spot, q: Spot) -> bool
+pub fn agree(store: &[u8], p: Spot, q: Spot) -> bool
     ensures { λ r. ⌜ r ≡ meant.twice (clashes.spotted (now (store .entry)) p) (clashes.spotted (now (store .entry)) q) ⌝ }
 {
     if p.kind == 1 {
