@@ -2,7 +2,7 @@
 use Prim.Native.Nat.{ℕ, suc, _+_, _-_, _≤_, _<_}
 use mathlib.Core.Bool.{Bool, true, false}
 use mathlib.Core.List.{List as Seq, [], _∷_, _++_}
-use mathlib.Core.Path.{_≡_, sym, ap, _∙_}
+use mathlib.Core.Path.{_≡_, refl, sym, ap, _∙_}
 use native.Mathlib.Omega.{arith}
 use borrow.Author.Tests.{eq-eqb, ne-eqb}
 use lib.Dec.{eqb}
@@ -21,18 +21,18 @@ use Rattle.tree.specs.Laws.{found-below}
 use Rattle.schema.specs.declared.KindRead.{KindRead}
 use Rattle.schema.specs.declared.Text.{Text}
 use Rattle.schema.specs.declared.Text.the-variants as texts
-use Rattle.schema.specs.declared.Component.{Component}
 use Rattle.schema.specs.Texts.{clip, orText}
 use Rattle.parse.specs.declared.front.TableRead.{TableRead}
 use Rattle.parse.specs.declared.front.Front.{Front}
 use Rattle.parse.specs.declared.entry.List.{List}
-use Rattle.parse.specs.declared.component.ComponentRead.{ComponentRead}
+use Rattle.parse.specs.declared.component.Sources.{Sources}
 use Rattle.parse.specs.Fields.{kindAt}
-use Rattle.parse.specs.Component.{nameIn, componentRead, headRead}
+use Rattle.parse.specs.Component.{nameIn, sources, componentRead, headRead}
 use Rattle.parse.specs.Entries.{entryTable, componentAt}
 use Rattle.parse.specs.Front.{frontRead}
 use Rattle.parse.specs.Refused.{lentText}
 use Rattle.parse.specs.Views.{componentList}
+use Rattle.validate.specs.Entries.{there}
 use Rattle.plan.specs.declared.choice.Choice.{Choice}
 use Rattle.plan.specs.declared.choice.Choice.the-variants as choices
 use Rattle.plan.specs.Choices.{Standing}
@@ -91,9 +91,13 @@ module _ (store : Seq ℕ) (file t : Text) (e : t ≡ nameIn store file) where
   pub stem-none : (u : Text) → t ≡ u → texts.Absent ≡ shortened store u → texts.Absent ≡ stemOf store file
   stem-none u g q = rw (← e, g) q
 
-pub stem-own : (store : Seq ℕ) (c : Component) (t last r : Text) → t ≡ stemOf store (c .head .file) → last ≡ orText (c .head .bin) t → r ≡ orText (c .head .«package») last → r ≡ ownStem store c
-unfolding ownStem
-stem-own store c t last r e1 e2 e3 = rw (e3, e2, e1)
+-- the other only where the first is absent
+or-there : (t d : Text) → orText t d ≡ pick (there t) t d
+or-there texts.Absent d = refl
+or-there (texts.Stored from len) d = refl
+or-there texts.Lent d = refl
+or-there (texts.Fixed w) d = refl
+or-there (texts.WithAic from len) d = refl
 
 -- ---- the first `app` component with a partition
 
@@ -144,15 +148,24 @@ module _ (room store : Seq ℕ) (made : ℕ) where
           let b : n < made = found-below found made n (h .below) g in
           record { fits = record { fits = omega (arith, r .fits .fits) }; low = omega (arith, r .low) }
 
-      pub leading-is : (c : ComponentRead) (t : Text) → c ≡ componentAt room store made n 32 → t ≡ ownStem store (c .component) → t ≡ leading room store made
-      leading-is c t e q = rw (← h .is, g, ← e) q
+      pub leading-is : (v : Value) (t : TableRead) (s : Sources) (stem last r : Text) → v ≡ valueAt room store n → t ≡ entryTable room made v → s ≡ sources room store (t .fields)
+          → stem ≡ stemOf store (s .file) → last ≡ orText (s .bin) stem → r ≡ orText (s .«package») last → r ≡ leading room store made
+      unfolding ownStem componentAt componentRead headRead
+      leading-is v t s stem last r e1 e2 e3 e4 e5 e6 = rw (← h .is, g, e6, e5, e4, e3, e2, e1)
 
   -- ---- of a plan
 
-  pub boot-stem-is : (name : Seq ℕ) (root : Fields) (lent : Text) (f : Front) (t r : Text) → root ≡ fieldsOf room made 1 → lent ≡ lentText name → f ≡ frontRead room store made root lent
-      → t ≡ leading room store made → r ≡ orText t (f .board .name) → r ≡ bootStem room store made name
-  unfolding bootStem
-  boot-stem-is name root lent f t r e1 e2 e3 e4 e5 = rw (e5, e4, e3, e2, e1)
+  module _ (name : Seq ℕ) (t : Text) (b : Bool) (e : t ≡ leading room store made) (k : b ≡ there t) where
+    boot-stem-or : bootStem room store made name ≡ pick b t (frontRead room store made (fieldsOf room made 1) (lentText name) .board .name)
+    unfolding bootStem
+    boot-stem-or = rw (← e, k) (or-there t _)
+
+    pub boot-stem-led : b ≡ true → t ≡ bootStem room store made name
+    boot-stem-led y = sym (rw y at boot-stem-or)
+
+    pub boot-stem-board : b ≡ false → (root : Fields) (lent : Text) (f : Front) → root ≡ fieldsOf room made 1 → lent ≡ lentText name → f ≡ frontRead room store made root lent
+        → f .board .name ≡ bootStem room store made name
+    boot-stem-board y root lent f e1 e2 e3 = rw (e3, e2, e1) (sym (rw y at boot-stem-or))
 
   pub stem-is : (name : Seq ℕ) (c u : Choice) (r : Text) → c ≡ u → r ≡ stem room store made name u → r ≡ stem room store made name c
   stem-is name c u r e q = rw e q

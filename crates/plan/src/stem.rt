@@ -1,7 +1,6 @@
 // The stem of the files that a plan makes.
 
 use crate::choice::Choice;
-use schema::Component;
 use schema::Kind;
 use schema::Text;
 use tree::Found;
@@ -53,18 +52,6 @@ fn stem_of(store: &[u8], file: Text) -> Text
     }
 }
 
-// "The package, else `bin`, else file stem."
-fn own_stem(store: &[u8], c: Component) -> Text
-    ensures { λ r. ⌜ r ≡ stems.ownStem (now (store .entry)) c ⌝ }
-{
-    let head = c.head;
-    let package = head.package;
-    let bin = head.bin;
-    let file = head.file;
-    let last = bin.or(stem_of(store, file));
-    package.or(last)
-}
-
 fn is_app(k: Kind) -> bool
     ensures { λ r. ⌜ r ≡ stems.isApp k ⌝ }
 {
@@ -114,7 +101,7 @@ fn leader(tree: &[u8], store: &[u8], made: usize) -> Found
     Found::Nothing
 }
 
-// What the first `app` component with a partition is called, if there is one.
+// "The package, else `bin`, else file stem" of the first `app` component with a partition, if there is one.
 fn leading(tree: &[u8], store: &[u8], made: usize) -> Text
     requires { ⌜ Rooms (now tree) made ⌝ }
     ensures { λ r. ⌜ r ≡ stems.leading (now (tree .entry)) (now (store .entry)) made ⌝ }
@@ -123,9 +110,14 @@ fn leading(tree: &[u8], store: &[u8], made: usize) -> Text
     match found {
         Found::Nothing => Text::Absent,
         Found::At(n) => {
-            let r = parse::entry::component_at(tree, store, made, n, 32);
-            let c = r.component;
-            own_stem(store, c)
+            let t = parse::entry::entry_table(tree, made, tree::value_at(tree, store, n));
+            let f = t.fields;
+            let s = parse::component::read_sources(tree, store, f);
+            let package = s.package;
+            let bin = s.bin;
+            let file = s.file;
+            let last = bin.or(stem_of(store, file));
+            package.or(last)
         }
     }
 }
@@ -135,12 +127,14 @@ fn boot_stem(tree: &[u8], store: &[u8], made: usize, name: &[u8]) -> Text
     requires { ⌜ Rooms (now tree) made ⌝ }
     ensures { λ r. ⌜ r ≡ stems.bootStem (now (tree .entry)) (now (store .entry)) made (now (name .entry)) ⌝ }
 {
+    let t = leading(tree, store, made);
+    if validate::component::there(t) {
+        return t;
+    }
     let root = tree::fields_at(tree, made, 1);
     let f = parse::front::read_front(tree, store, made, root, parse::lent_name(name));
     let board = f.board;
-    let last = board.name;
-    let t = leading(tree, store, made);
-    t.or(last)
+    board.name
 }
 
 // The key of the application that value number n is.

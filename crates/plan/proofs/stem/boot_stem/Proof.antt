@@ -1,6 +1,6 @@
-use Rattle.parse.proofs.Judging.{root-spread}
-use Rattle.plan.proofs.Stemming.{boot-stem-is}
 use borrow.Author.Needs.{needs}
+use Rattle.parse.proofs.Judging.{root-spread}
+use Rattle.plan.proofs.Stemming.{boot-stem-led, boot-stem-board}
 use Rattle.plan.proofs.stem.boot_stem.Statement.{statement}
 use Rattle.plan.proofs.stem.boot_stem.Tie as tie
 use Rattle.plan.proofs.stem.boot_stem.Reads as reads
@@ -8,40 +8,45 @@ use Rattle.plan.proofs.stem.boot_stem.Lts as lts
 use Rattle.parse.proofs.front.read_front.Reads as read-front-reads
 use Rattle.parse.proofs.lent_name.Reads as lent-name-reads
 use Rattle.plan.proofs.stem.leading.Reads as leading-reads
-use Rattle.schema.proofs.Text.or.Reads as or-reads
 use Rattle.tree.proofs.fields_at.Reads as fields-at-reads
+use Rattle.validate.proofs.component.there.Reads as there-reads
 
--- src/stem.rt:139:9
-fields-at-requires : tie.Need-fields-at-requires
-fields-at-requires c κs = search needs
-
--- src/stem.rt:140:63
-lent-name-requires : tie.Need-lent-name-requires
-lent-name-requires c κs = search needs
-
--- src/stem.rt:140:9
-read-front-requires : tie.Need-read-front-requires
-read-front-requires c κs = search (needs, root-spread)
-
--- src/stem.rt:143:9
+-- src/stem.rt:130:9
 leading-requires : tie.Need-leading-requires
 leading-requires c κs = search needs
 
--- src/stem.rt:144:5
-or-requires : tie.Need-or-requires
-or-requires c κs = search needs
+-- src/stem.rt:131:8
+there-requires : tie.Need-there-requires
+there-requires c κs = search needs
 
--- src/stem.rt:135:1
+-- src/stem.rt:132:9
 returns : tie.Need-returns
-returns c = search (needs, boot-stem-is)
+returns c = search (needs, boot-stem-led)
+
+-- src/stem.rt:134:9
+fields-at-requires : tie.Need-fields-at-requires
+fields-at-requires c κs = search needs
+
+-- src/stem.rt:135:63
+lent-name-requires : tie.Need-lent-name-requires
+lent-name-requires c κs = search needs
+
+-- src/stem.rt:135:9
+read-front-requires : tie.Need-read-front-requires
+read-front-requires c κs = search (needs, root-spread)
+
+-- src/stem.rt:126:1
+returns-2 : tie.Need-returns-2
+returns-2 c = search (needs, boot-stem-board)
 
 pub boot-stem-spec : {M : Type 1} → statement M
 boot-stem-spec =
     tie.close
     (tie.spec
+    leading-requires
+    there-requires
+    returns
     fields-at-requires
     lent-name-requires
     read-front-requires
-    leading-requires
-    or-requires
-    returns)
+    returns-2)
