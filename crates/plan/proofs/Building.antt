@@ -9,9 +9,10 @@ use borrow.Author.Tests.{lt-ltb, le-ltb}
 use lib.Dec.{ltb}
 use lib.ListN.{length, take, getD, set, replicate, length-set, length-map, length-append}
 use lib.Seq.{length-take-le, getD-take, take-nil, take-suc, take-suc-set, slice, slice-cons, slice-empty}
-use Rattle.meaning.specs.Base.{pick}
+use Rattle.meaning.specs.Base.{pick, ascii}
 use Rattle.meaning.specs.Rules.{twice}
 use Rattle.laws.specs.Cases.{on, never}
+use Rattle.tree.specs.declared.Value.{Value}
 use Rattle.tree.specs.declared.Found.{Found}
 use Rattle.tree.specs.declared.Found.the-variants.{At, Nothing}
 use Rattle.tree.specs.Room.{Finds, child}
@@ -19,15 +20,16 @@ use Rattle.tree.specs.Doors as doors
 use Rattle.tree.specs.Doors.{Rooms, Stood}
 use Rattle.tree.specs.Spans.{items-step, items-end}
 use Rattle.tree.specs.Laws.{found-below}
-use Rattle.schema.specs.declared.Text.{Text}
 use Rattle.schema.specs.declared.Text.the-variants as texts
-use Rattle.schema.specs.declared.Features.{Features}
-use Rattle.schema.specs.declared.Component.{Component}
-use Rattle.schema.specs.Texts.{orText}
-use Rattle.parse.specs.declared.component.ComponentRead.{ComponentRead}
+use Rattle.parse.specs.declared.field.TextRead.{TextRead}
+use Rattle.parse.specs.declared.component.Sources.{Sources}
+use Rattle.parse.specs.declared.component.Lists.{Lists}
+use Rattle.parse.specs.declared.front.TableRead.{TableRead}
 use Rattle.parse.specs.declared.application.ApplicationRead.{ApplicationRead}
 use Rattle.parse.specs.declared.entry.List.{List}
-use Rattle.parse.specs.Entries.{componentAt, applicationAt}
+use Rattle.parse.specs.Fields.{textAt}
+use Rattle.parse.specs.Component.{sources, lists, headRead, roleRead, bootRead, componentRead}
+use Rattle.parse.specs.Entries.{entryTable, componentAt, applicationAt}
 use Rattle.parse.specs.Views.{componentList}
 use Rattle.parse.proofs.Judging.{components-among}
 use Rattle.layout.specs.Marks.{anyOf}
@@ -45,17 +47,12 @@ use Rattle.plan.specs.Builds.{blank, wanted, Used, Wanting, Room, fresh,
 
 -- ---- one use
 
-pub built-made : (p bin r : Text) (fs : Features) → r ≡ orText bin p → record { «package» = p; bin = r; features = fs } ≡ built p bin fs
-built-made p bin r fs e = rw e
-
-pub wanted-made : (c : Component) (own pbp : Build) → own ≡ built (c .head .«package») (c .head .bin) (c .role .features)
-    → pbp ≡ built (c .boot .«pbp_package») texts.Absent (c .role .«pbp_features») → record { own = own; pbp = pbp } ≡ wanted c
-unfolding wanted
-wanted-made c own pbp e f = rw (e, f)
-
-pub wanted-of : (room store : Seq ℕ) (made n : ℕ) (r : ComponentRead) (w : Wanted) → r ≡ componentAt room store made n 32 → w ≡ wanted (r .component)
-    → w ≡ wantedAt room store made n
-wanted-of room store made n r w e f = rw (← e) f
+pub wanted-read : (room store : Seq ℕ) (made n : ℕ) (v : Value) (t : TableRead) (s : Sources) (l : Lists) (o : TextRead) (own pbp : Build)
+    → v ≡ doors.valueAt room store n → t ≡ entryTable room made v → s ≡ sources room store (t .fields) → l ≡ lists room store made (t .fields) 32
+    → o ≡ textAt room store (t .fields) (ascii "pbp_package") → own ≡ built (s .«package») (s .bin) (l .features) → pbp ≡ built (o .text) texts.Absent (l .«pbp_features»)
+    → record { own = own; pbp = pbp } ≡ wantedAt room store made n
+unfolding wanted componentAt componentRead headRead roleRead bootRead
+wanted-read room store made n v t s l o own pbp e1 e2 e3 e4 e5 e6 e7 = rw (e6, e7, e3, e4, e5, e2, e1)
 
 -- ---- two more in an array
 

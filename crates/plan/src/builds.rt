@@ -3,7 +3,6 @@
 use crate::choice::Choice;
 use crate::component::Build;
 use crate::component::built;
-use schema::Component;
 use schema::Features;
 use schema::Text;
 use tree::Found;
@@ -45,30 +44,24 @@ fn no_builds() -> [Build; 129]
 }
 
 // "Each component's package, then its `pbp_package`", whose bin is the package itself.
-fn wanted_by(c: Component) -> Wanted
-    ensures { λ r. ⌜ r ≡ builds.wanted c ⌝ }
-{
-    let head = c.head;
-    let role = c.role;
-    let boot = c.boot;
-    let package = head.package;
-    let bin = head.bin;
-    let features = role.features;
-    let pbp_package = boot.pbp_package;
-    let pbp_features = role.pbp_features;
-    Wanted {
-        own: built(package, bin, features),
-        pbp: built(pbp_package, Text::Absent, pbp_features),
-    }
-}
-
 fn wanted_at(tree: &[u8], store: &[u8], made: usize, n: usize) -> Wanted
     requires { ⌜ Rooms (now tree) made × Stood (now tree) n ⌝ }
     ensures { λ r. ⌜ r ≡ builds.wantedAt (now (tree .entry)) (now (store .entry)) made n ⌝ }
 {
-    let r = parse::entry::component_at(tree, store, made, n, 32);
-    let c = r.component;
-    wanted_by(c)
+    let t = parse::entry::entry_table(tree, made, tree::value_at(tree, store, n));
+    let f = t.fields;
+    let s = parse::component::read_sources(tree, store, f);
+    let l = parse::component::read_lists(tree, store, made, f, 32);
+    let o = parse::field::text(tree, store, f, b"pbp_package");
+    let package = s.package;
+    let bin = s.bin;
+    let features = l.features;
+    let pbp_features = l.pbp_features;
+    let pbp_package = o.text;
+    Wanted {
+        own: built(package, bin, features),
+        pbp: built(pbp_package, Text::Absent, pbp_features),
+    }
 }
 
 // The uses of all components of a list; no more than 64 of them are asked.

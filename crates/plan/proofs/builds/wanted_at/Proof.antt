@@ -1,23 +1,63 @@
 use borrow.Author.Needs.{needs}
-use Rattle.plan.proofs.Building.{wanted-of}
+use Rattle.parse.proofs.Entering.{table-spread}
+use Rattle.plan.proofs.Building.{wanted-read}
 use Rattle.plan.proofs.builds.wanted_at.Statement.{statement}
 use Rattle.plan.proofs.builds.wanted_at.Tie as tie
 use Rattle.plan.proofs.builds.wanted_at.Reads as reads
 use Rattle.plan.proofs.builds.wanted_at.Lts as lts
-use Rattle.parse.proofs.entry.component_at.Reads as component-at-reads
-use Rattle.plan.proofs.builds.wanted_by.Reads as wanted-by-reads
+use Rattle.parse.proofs.component.read_lists.Reads as read-lists-reads
+use Rattle.parse.proofs.component.read_sources.Reads as read-sources-reads
+use Rattle.parse.proofs.entry.entry_table.Reads as entry-table-reads
+use Rattle.parse.proofs.field.text.Reads as text-reads
+use Rattle.plan.proofs.component.built.Reads as built-reads
+use Rattle.tree.proofs.value_at.Reads as value-at-reads
 
--- src/builds.rt:69:9
-component-at-requires : tie.Need-component-at-requires
-component-at-requires c κs = search needs
+-- src/builds.rt:51:51
+value-at-requires : tie.Need-value-at-requires
+value-at-requires c κs = search needs
 
--- src/builds.rt:71:5
-wanted-by-requires : tie.Need-wanted-by-requires
-wanted-by-requires c κs = search needs
+-- src/builds.rt:51:9
+entry-table-requires : tie.Need-entry-table-requires
+entry-table-requires c κs = search needs
 
--- src/builds.rt:65:1
+-- src/builds.rt:53:9
+read-sources-requires : tie.Need-read-sources-requires
+read-sources-requires c κs = search (needs, table-spread)
+
+-- src/builds.rt:54:9
+read-lists-requires : tie.Need-read-lists-requires
+read-lists-requires c κs = search (needs, table-spread)
+
+-- src/builds.rt:55:48
+slice-aggregate-text : tie.Need-slice-aggregate-text
+slice-aggregate-text c = search needs
+
+-- src/builds.rt:55:9
+text-requires : tie.Need-text-requires
+text-requires c κs = search (needs, table-spread)
+
+-- src/builds.rt:62:14
+built-requires : tie.Need-built-requires
+built-requires c κs = search needs
+
+-- src/builds.rt:63:14
+built-requires-2 : tie.Need-built-requires-2
+built-requires-2 c κs = search needs
+
+-- src/builds.rt:47:1
 returns : tie.Need-returns
-returns c = search (needs, wanted-of)
+returns c = search (needs, wanted-read)
 
 pub wanted-at-spec : {M : Type 1} → statement M
-wanted-at-spec = tie.close (tie.spec component-at-requires wanted-by-requires returns)
+wanted-at-spec =
+    tie.close
+    (tie.spec
+    value-at-requires
+    entry-table-requires
+    read-sources-requires
+    read-lists-requires
+    slice-aggregate-text
+    text-requires
+    built-requires
+    built-requires-2
+    returns)
