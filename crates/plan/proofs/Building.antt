@@ -1,26 +1,30 @@
 -- The uses of packages gathered, and the first of each: one law for each way on and out.
 use Prim.Native.Nat.{ℕ, zero, suc, _+_, _-_, _≤_, _<_}
-use mathlib.Core.Bool.{Bool, true, false, not}
-use mathlib.Core.List.{List as Seq, [], _∷_, _++_, map, append-assoc, append-nil}
+use mathlib.Core.Bool.{Bool, true, false}
+use mathlib.Core.List.{List as Seq, [], _∷_, _++_, map, append-assoc, append-nil, map-append}
 use mathlib.Core.Path.{_≡_, refl, sym, ap, _∙_}
 use native.Mathlib.Omega.{arith}
 use native.Mathlib.Numerals.{add-one}
-use borrow.Author.Tests.{lt-ltb, le-ltb}
-use lib.Dec.{ltb}
-use lib.ListN.{length, take, getD, set, replicate, length-set, length-map, length-append}
+use borrow.Author.Tests.{lt-ltb, le-ltb, ne-eqb}
+use lib.Dec.{eqb, ltb}
+use lib.ListN.{length, take, getD, set, replicate, length-set, length-map, length-append, List·getD-map}
 use lib.Seq.{length-take-le, getD-take, take-nil, take-suc, take-suc-set, slice, slice-cons, slice-empty}
 use Rattle.meaning.specs.Base.{pick, ascii}
 use Rattle.meaning.specs.Rules.{twice}
-use Rattle.laws.specs.Cases.{on, never}
+use Rattle.laws.specs.Cases.{on}
 use Rattle.tree.specs.declared.Value.{Value}
+use Rattle.tree.specs.declared.Slot.{Slot}
 use Rattle.tree.specs.declared.Found.{Found}
 use Rattle.tree.specs.declared.Found.the-variants.{At, Nothing}
-use Rattle.tree.specs.Room.{Finds, child}
+use Rattle.tree.specs.Room.{Finds, slotAt, child}
 use Rattle.tree.specs.Doors as doors
 use Rattle.tree.specs.Doors.{Rooms, Stood}
 use Rattle.tree.specs.Spans.{items-step, items-end}
 use Rattle.tree.specs.Laws.{found-below}
+use Rattle.schema.specs.declared.Text.{Text}
 use Rattle.schema.specs.declared.Text.the-variants as texts
+use Rattle.schema.specs.declared.Features.{Features}
+use Rattle.schema.specs.Texts.{orText}
 use Rattle.parse.specs.declared.field.TextRead.{TextRead}
 use Rattle.parse.specs.declared.component.Sources.{Sources}
 use Rattle.parse.specs.declared.component.Lists.{Lists}
@@ -29,13 +33,19 @@ use Rattle.parse.specs.declared.application.ApplicationRead.{ApplicationRead}
 use Rattle.parse.specs.declared.entry.List.{List}
 use Rattle.parse.specs.Fields.{textAt}
 use Rattle.parse.specs.Component.{sources, lists, headRead, roleRead, bootRead, componentRead}
-use Rattle.parse.specs.Entries.{entryTable, componentAt, applicationAt}
+use Rattle.parse.specs.Application.{loading, applicationRead}
+use Rattle.parse.specs.Entries.{entryTable, tableAt, componentAt, applicationAt}
 use Rattle.parse.specs.Views.{componentList}
 use Rattle.parse.proofs.Judging.{components-among}
 use Rattle.layout.specs.Marks.{anyOf}
 use Rattle.validate.specs.Entries.{there}
-use Rattle.validate.specs.Clashes.{packed}
+use Rattle.validate.specs.declared.uses.Spot.{Spot}
+use Rattle.validate.specs.declared.uses.Pair.{Pair}
+use Rattle.validate.specs.Clashes as spots
+use Rattle.validate.specs.Clashes.{packed, noSpot, textSpot, listSpot, spotted, listAt, single}
+use Rattle.validate.specs.ClashSaid.{Short, ShortList, stored-short, list-short, field-text-short, field-list-short, lists-short}
 use Rattle.plan.specs.declared.component.Build.{Build}
+use Rattle.plan.specs.declared.builds.Use.{Use}
 use Rattle.plan.specs.declared.builds.BuildList.{BuildList}
 use Rattle.plan.specs.declared.builds.Wanted.{Wanted}
 use Rattle.plan.specs.Planned.{built}
@@ -43,16 +53,58 @@ use Rattle.plan.specs.declared.builds.BuildFound.the-variants as results
 use Rattle.plan.specs.declared.choice.Choice.{Choice}
 use Rattle.plan.specs.declared.choice.Choice.the-variants as choices
 use Rattle.plan.specs.Choices.{Standing}
-use Rattle.plan.specs.Builds.{blank, wanted, Used, Wanting, Room, fresh, firstUses, wantedAt, usesOf, eachComponent, applicationUse, Followed, ownUses, uses, buildsOf, build}
+use Rattle.plan.specs.Builds.{blank, noUse, useOf, buildAt, bothAt, wanted, Used, Wanting, Room, fresh, firstUses, wantedAt, usesOf, eachComponent, applicationUse, Followed, ownUses, uses, buildsOf, build}
 
 -- ---- one use
 
-pub wanted-read : (room store : Seq ℕ) (made n : ℕ) (v : Value) (t : TableRead) (s : Sources) (l : Lists) (o : TextRead) (own pbp : Build)
+pub use-made : (p bin last : Text) (fs : Features) (x y z : Spot) → x ≡ textSpot p → last ≡ orText bin p → y ≡ textSpot last → z ≡ listSpot fs
+    → record { «package» = x; bin = y; features = z } ≡ useOf p bin fs
+unfolding useOf
+use-made p bin last fs x y z e1 e2 e3 e4 = rw (e1, e3, e2, e4)
+
+pub build-made : (u : Use) (p bin : Text) (fs : Features) → p ≡ spots.textAt (u .«package») → bin ≡ spots.textAt (u .bin) → fs ≡ listAt (u .features)
+    → record { «package» = p; bin = bin; features = fs } ≡ buildAt u
+unfolding buildAt
+build-made u p bin fs e1 e2 e3 = rw (e1, e2, e3)
+
+pub no-uses : (s : Spot) → s ≡ noSpot → replicate 129 (record { «package» = s; bin = s; features = s }) ≡ replicate 129 noUse
+no-uses s e = rw e
+
+short-or : (bin p : Text) → Short bin → Short p → Short (orText bin p)
+short-or texts.Absent p h k = k
+short-or (texts.Stored from len) p h k = h
+short-or texts.Lent p h k = absurd h
+short-or (texts.Fixed w) p h k = absurd h
+short-or (texts.WithAic from len) p h k = absurd h
+
+-- nothing is lost where the texts are short
+use-short : (p bin : Text) (fs : Features) → Short p → Short bin → ShortList fs → buildAt (useOf p bin fs) ≡ built p bin fs
+unfolding buildAt useOf
+use-short p bin fs h k l = rw (stored-short p h, stored-short (orText bin p) (short-or bin p k h), list-short fs l)
+
+pub wanted-read : (room store : Seq ℕ) (made n : ℕ) (v : Value) (t : TableRead) (s : Sources) (l : Lists) (o : TextRead) (own pbp : Use)
     → v ≡ doors.valueAt room store n → t ≡ entryTable room made v → s ≡ sources room store (t .fields) → l ≡ lists room store made (t .fields) 32
-    → o ≡ textAt room store (t .fields) (ascii "pbp_package") → own ≡ built (s .«package») (s .bin) (l .features) → pbp ≡ built (o .text) texts.Absent (l .«pbp_features»)
-    → record { own = own; pbp = pbp } ≡ wantedAt room store made n
-unfolding wanted componentAt componentRead headRead roleRead bootRead
-wanted-read room store made n v t s l o own pbp e1 e2 e3 e4 e5 e6 e7 = rw (e6, e7, e3, e4, e5, e2, e1)
+    → o ≡ textAt room store (t .fields) (ascii "pbp_package") → own ≡ useOf (s .«package») (s .bin) (l .features) → pbp ≡ useOf (o .text) texts.Absent (l .«pbp_features»)
+    → bothAt (record { own = own; pbp = pbp }) ≡ wantedAt room store made n
+unfolding wanted componentAt componentRead headRead sources roleRead bootRead
+wanted-read room store made n v t s l o own pbp e1 e2 e3 e4 e5 e6 e7 =
+    let f = tableAt room store made n .fields in
+    let short = field-text-short room store f in
+    let both = lists-short room store f made 32 in
+    let fs = lists room store made f 32 in
+    rw (e6, e7, e3, e4, e5, e2, e1)
+    (rw (
+      use-short (textAt room store f (ascii "package") .text) (textAt room store f (ascii "bin") .text) (fs .features) (short (ascii "package")) (short (ascii "bin")) (both .0),
+      use-short (textAt room store f (ascii "pbp_package") .text) texts.Absent (fs .«pbp_features») (short (ascii "pbp_package")) tt (both .1),
+    ))
+
+-- an application's package and bin are its key
+pub application-read : (room store : Seq ℕ) (made n : ℕ) (r : ApplicationRead) (v : Slot) (p : Pair) → r ≡ applicationAt room store made n 32 → v ≡ slotAt room n
+    → p ≡ single (v .key) (v .len) (r .application .features) → buildAt (record { «package» = p .«package»; bin = p .«package»; features = p .features }) ≡ applicationUse room store made n
+unfolding buildAt spots.textAt applicationUse applicationAt applicationRead loading
+application-read room store made n r v p e1 e2 e3 =
+    let list = applicationAt room store made n 32 .application .features in
+    rw (e3, e2, e1, list-short list (field-list-short room store (tableAt room store made n .fields) made 32 (ascii "features")))
 
 -- ---- two more in an array
 
@@ -64,27 +116,27 @@ module _ {X : Type 0} (xs : Seq X) (i : ℕ) (a b : X) where
       let g : take (suc i) (set xs i a) ≡ take i xs ++ (a ∷ []) = take-suc-set xs i a (omega (arith, l)) in
       rw (e, f, add-one i, g, append-assoc)
 
--- these stand at the head of an array
-pub used-by : (most i : ℕ) (us xs : Seq Build) → us ≡ take i xs → i ≤ length xs → i ≤ most → Used most us (record { count = i; items = xs })
+-- these are the uses at the head of an array
+pub used-by : (most i : ℕ) (us : Seq Build) (xs : Seq Use) → us ≡ map buildAt (take i xs) → i ≤ length xs → i ≤ most → Used most us (record { count = i; items = xs })
 used-by most i us xs e l m =
-    let n : length us ≡ i = ap length e ∙ length-take-le i xs l in
+    let n : length us ≡ i = ap length e ∙ length-map (take i xs) buildAt ∙ length-take-le i xs l in
     record { count = sym n; fits = omega (arith, n); items = rw n (sym e) }
 
 -- ---- components
 
 -- the uses of those that were met stand in the array; m more may come
-pub record Gathering (room store : Seq ℕ) (made place end : ℕ) (xs : Seq Build) (i from : ℕ) : Type 0 where
+pub record Gathering (room store : Seq ℕ) (made place end : ℕ) (xs : Seq Use) (i from : ℕ) : Type 0 where
   pub high : from ≤ end
   pub long : length xs ≡ 129
   pub more : ℕ
   pub few : i + more + more ≡ 128
-  pub left : eachComponent room store made place end ≡ take i xs ++ usesOf room store made (take more (doors.items room end place from))
+  pub left : eachComponent room store made place end ≡ map buildAt (take i xs) ++ usesOf room store made (take more (doors.items room end place from))
 
 module _ (room store : Seq ℕ) (made place end : ℕ) where
-  pub comps-start : (xs : Seq Build) → xs ≡ replicate 129 blank → Gathering room store made place end xs 0 0
+  pub comps-start : (xs : Seq Use) → xs ≡ replicate 129 noUse → Gathering room store made place end xs 0 0
   comps-start xs e = record { high = omega arith; long = ap length e; more = 64; few = refl; left = refl }
 
-  module _ (xs : Seq Build) (i from : ℕ) (k : Gathering room store made place end xs i from) where
+  module _ (xs : Seq Use) (i from : ℕ) (k : Gathering room store made place end xs i from) where
     -- no more are asked
     comps-done : take (k .more) (doors.items room end place from) ≡ [] → Used 128 (eachComponent room store made place end) (record { count = i; items = xs })
     comps-done g = used-by 128 i (eachComponent room store made place end) xs (rw (g, append-nil) at (k .left)) (omega (arith, k .few, k .long)) (omega (arith, k .few))
@@ -107,111 +159,118 @@ module _ (room store : Seq ℕ) (made place end : ℕ) where
         pub comps-room : i + 1 < 129
         comps-room = omega arith
 
-        pub comps-on : (w : Wanted) → w ≡ wantedAt room store made n
+        pub comps-on : (w : Wanted) → bothAt w ≡ wantedAt room store made n
             → Gathering room store made place end (set (set xs i (w .own)) (i + 1) (w .pbp)) (i + 2) (n + 1)
         comps-on w e = by (k .more) (k .few) (k .left)
           where
-            by : (m : ℕ) → i + m + m ≡ 128 → eachComponent room store made place end ≡ take i xs ++ usesOf room store made (take m (doors.items room end place from))
+            by : (m : ℕ) → i + m + m ≡ 128 → eachComponent room store made place end ≡ map buildAt (take i xs) ++ usesOf room store made (take m (doors.items room end place from))
                 → Gathering room store made place end (set (set xs i (w .own)) (i + 1) (w .pbp)) (i + 2) (n + 1)
             by zero f z = absurd (omega (arith, f))
             by (suc m) f z =
                 let s : doors.items room end place from ≡ n ∷ doors.items room end place (n + 1) = items-step room end place from n found h g in
-                let y : eachComponent room store made place end ≡ take i xs ++ (w .own ∷ w .pbp ∷ usesOf room store made (take m (doors.items room end place (n + 1)))) = rw (s, ← e) at z in
+                let y : eachComponent room store made place end ≡ map buildAt (take i xs) ++ (buildAt (w .own) ∷ buildAt (w .pbp) ∷ usesOf room store made (take m (doors.items room end place (n + 1)))) = rw (s, ← e) at z in
                 record {
                   high = omega (arith, found-below found end n (h .below) g);
                   long = length-set (set xs i (w .own)) (i + 1) (w .pbp) ∙ length-set xs i (w .own) ∙ k .long;
                   more = m;
                   few = omega (arith, f);
-                  left = rw (take-two-set xs i (w .own) (w .pbp) (omega (arith, f, k .long)), append-assoc) y;
+                  left = rw (take-two-set xs i (w .own) (w .pbp) (omega (arith, f, k .long)), map-append buildAt (take i xs) (w .own ∷ w .pbp ∷ []), append-assoc) y;
                 }
 
 -- ---- the application's use behind them
 
 -- an array in a struct is as long as its elements in the machine
-module _ {X : Type 0} (f : Build → X) (u : BuildList) (h : Room u) (w : length (map f (u .items)) ≡ 129) where
-  pub behind-room : u .count < 129
-  behind-room = omega (arith, h .few)
-
-  pub follows : (room store : Seq ℕ) (made n : ℕ) (r : ApplicationRead) (b : Build) → r ≡ applicationAt room store made n 32
-      → b ≡ built (r .application .«package») texts.Absent (r .application .features)
-      → Followed room store made n u (record { count = u .count + 1; items = set (u .items) (u .count) b })
-  unfolding applicationUse
-  follows room store made n r b e g =
-      record {
-        count = refl;
-        items = rw (add-one (u .count), take-suc-set (u .items) (u .count) b (omega (arith, h .few, w, length-map (u .items) f)), g, e);
-      }
+module _ {X : Type 0} (f : Use → X) (u : BuildList) (h : Room u) (w : length (map f (u .items)) ≡ 129) where
+  pub follows : (room store : Seq ℕ) (made n : ℕ) (x : Use) → buildAt x ≡ applicationUse room store made n
+      → Followed room store made n u (record { count = u .count + 1; items = set (u .items) (u .count) x })
+  follows room store made n x e =
+      let s : take (suc (u .count)) (set (u .items) (u .count) x) ≡ take (u .count) (u .items) ++ (x ∷ []) = take-suc-set (u .items) (u .count) x (omega (arith, h .few, w, length-map (u .items) f)) in
+      record { count = refl; items = rw (add-one (u .count), s, map-append buildAt (take (u .count) (u .items)) (x ∷ []), e) }
 
 -- ---- first uses
 
-not-true : (r : Bool) → not r ≡ true → r ≡ false
-not-true r e = on r (λ f. never {b = false} (rw f at e) refl) (λ f. f)
+abbrev same-package : Seq ℕ → Use → Use → Bool
+same-package store u v = twice (spotted store (u .«package»)) (spotted store (v .«package»))
 
-not-false : (r : Bool) → not r ≡ false → r ≡ true
-not-false r e = on r (λ f. f) (λ f. never {b = true} refl (rw f at e))
+module _ (store : Seq ℕ) where
+  packed-at : (s : Spot) → packed store (spots.textAt s) ≡ spotted store s
+  unfolding spots.textAt spotted
+  packed-at s = on (eqb (s .kind) 1) (λ e. rw e) (λ e. rw e)
 
-abbrev same-package : Seq ℕ → Build → Build → Bool
-same-package store u v = twice (packed store (u .«package»)) (packed store (v .«package»))
+  there-at : (s : Spot) → there (spots.textAt s) ≡ eqb (s .kind) 1
+  unfolding spots.textAt
+  there-at s = on (eqb (s .kind) 1) (λ e. rw e) (λ e. rw e)
+
+  any-at : (u : Use) (es : Seq Use) → anyOf (λ (v : Build). twice (packed store (spots.textAt (u .«package»))) (packed store (v .«package»))) (map buildAt es) ≡ anyOf (same-package store u) es
+  unfolding buildAt
+  any-at u [] = refl
+  any-at u (e ∷ es) = rw (any-at u es, packed-at (u .«package»), packed-at (e .«package»))
+
+  -- a use of a package that none of the earlier ones is of, by spots
+  fresh-at : (es : Seq Use) (u : Use) → fresh store (map buildAt es) (buildAt u) ≡ pick (eqb (u .«package» .kind) 1) (pick (anyOf (same-package store u) es) false true) false
+  unfolding fresh buildAt
+  fresh-at es u = rw (any-at u es, there-at (u .«package»))
 
 -- the first uses among those before number i stand in the array
-pub record Firsts (store : Seq ℕ) (uses : Seq Build) (count : ℕ) (xs : Seq Build) (n i : ℕ) : Type 0 where
+pub record Firsts (store : Seq ℕ) (uses : Seq Use) (count : ℕ) (xs : Seq Use) (n i : ℕ) : Type 0 where
   pub high : i ≤ count
   pub fits : count ≤ 129
   pub whole : length uses ≡ 129
   pub long : length xs ≡ 129
   pub few : n ≤ i
-  pub left : firstUses store [] (take count uses) ≡ take n xs ++ firstUses store (take i uses) (slice i count uses)
+  pub left : firstUses store [] (map buildAt (take count uses)) ≡ map buildAt (take n xs) ++ firstUses store (map buildAt (take i uses)) (map buildAt (slice i count uses))
 
 -- use number i₀ is of no package that one before number j is of; the inner loop leaves its number as it is
-pub record Unused (store : Seq ℕ) (uses : Seq Build) (u : Build) (i₀ i j : ℕ) : Type 0 where
+pub record Unused (store : Seq ℕ) (uses : Seq Use) (u : Use) (i₀ i j : ℕ) : Type 0 where
   pub is : i ≡ i₀
   pub high : j ≤ i₀
   pub whole : i₀ ≤ length uses
-  pub yes : there (u .«package») ≡ true
+  pub yes : u .«package» .kind ≡ 1
   pub left : anyOf (same-package store u) (take i₀ uses) ≡ anyOf (same-package store u) (slice j i₀ uses)
 
-module _ (store : Seq ℕ) (uses : Seq Build) (i i′ j : ℕ) (h : Unused store uses (getD uses i blank) i i′ j) (m : j < i′) where
-  unused-head : anyOf (same-package store (getD uses i blank)) (take i uses)
-      ≡ pick (same-package store (getD uses i blank) (getD uses j blank)) true (anyOf (same-package store (getD uses i blank)) (slice (j + 1) i uses))
+module _ (store : Seq ℕ) (uses : Seq Use) (i i′ j : ℕ) (h : Unused store uses (getD uses i noUse) i i′ j) (m : j < i′) where
+  unused-head : anyOf (same-package store (getD uses i noUse)) (take i uses)
+      ≡ pick (same-package store (getD uses i noUse) (getD uses j noUse)) true (anyOf (same-package store (getD uses i noUse)) (slice (j + 1) i uses))
   unused-head =
-      let a : slice j i uses ≡ getD uses j blank ∷ slice (suc j) i uses = slice-cons j i uses blank (omega (arith, m, h .is)) (h .whole) in
+      let a : slice j i uses ≡ getD uses j noUse ∷ slice (suc j) i uses = slice-cons j i uses noUse (omega (arith, m, h .is)) (h .whole) in
       rw (add-one j) (rw a at (h .left))
 
-  pub unused-on : (r : Bool) → r ≡ same-package store (getD uses i blank) (getD uses j blank) → r ≡ false → Unused store uses (getD uses i blank) i i′ (j + 1)
+  pub unused-on : (r : Bool) → r ≡ same-package store (getD uses i noUse) (getD uses j noUse) → r ≡ false → Unused store uses (getD uses i noUse) i i′ (j + 1)
   unused-on r t e = record { is = h .is; high = omega (arith, m, h .is); whole = h .whole; yes = h .yes; left = rw (← t, e) at unused-head }
 
-module _ (store : Seq ℕ) (uses : Seq Build) (count : ℕ) where
-  pub firsts-start : (xs : Seq Build) → xs ≡ replicate 129 blank → count ≤ 129 → length uses ≡ 129 → Firsts store uses count xs 0 0
+module _ (store : Seq ℕ) (uses : Seq Use) (count : ℕ) where
+  pub firsts-start : (xs : Seq Use) → xs ≡ replicate 129 noUse → count ≤ 129 → length uses ≡ 129 → Firsts store uses count xs 0 0
   firsts-start xs e l w = record { high = omega arith; fits = l; whole = w; long = ap length e; few = omega arith; left = refl }
 
-  module _ (xs : Seq Build) (n i : ℕ) (k : Firsts store uses count xs n i) where
-    pub firsts-end : count ≤ i → Used 129 (firstUses store [] (take count uses)) (record { count = n; items = xs })
+  module _ (xs : Seq Use) (n i : ℕ) (k : Firsts store uses count xs n i) where
+    pub firsts-end : count ≤ i → Used 129 (firstUses store [] (map buildAt (take count uses))) (record { count = n; items = xs })
     firsts-end l =
         let e : i ≡ count = omega (arith, k .high) in
-        used-by 129 n (firstUses store [] (take count uses)) xs (rw (e, slice-empty count uses, append-nil) at (k .left)) (omega (arith, k .few, k .high, k .fits, k .long)) (omega (arith, k .few, k .high, k .fits))
+        used-by 129 n (firstUses store [] (map buildAt (take count uses))) xs (rw (e, slice-empty count uses, append-nil) at (k .left)) (omega (arith, k .few, k .high, k .fits, k .long)) (omega (arith, k .few, k .high, k .fits))
 
     module _ (l : i < count) where
       -- use number i is the first of those that are left
-      firsts-head : firstUses store [] (take count uses)
-          ≡ take n xs ++ pick (fresh store (take i uses) (getD uses i blank)) (getD uses i blank ∷ firstUses store (take (i + 1) uses) (slice (i + 1) count uses)) (firstUses store (take (i + 1) uses) (slice (i + 1) count uses))
+      firsts-head : firstUses store [] (map buildAt (take count uses))
+          ≡ map buildAt (take n xs)
+          ++ pick (fresh store (map buildAt (take i uses)) (buildAt (getD uses i noUse)))
+          (buildAt (getD uses i noUse) ∷ firstUses store (map buildAt (take (i + 1) uses)) (map buildAt (slice (i + 1) count uses)))
+          (firstUses store (map buildAt (take (i + 1) uses)) (map buildAt (slice (i + 1) count uses)))
       firsts-head =
-          let a : slice i count uses ≡ getD uses i blank ∷ slice (suc i) count uses = slice-cons i count uses blank l (omega (arith, k .fits, k .whole)) in
-          let b : take (suc i) uses ≡ take i uses ++ (getD uses i blank ∷ []) = take-suc uses i blank (omega (arith, k .fits, k .whole)) in
-          rw (add-one i, b) (rw a at (k .left))
+          let a : slice i count uses ≡ getD uses i noUse ∷ slice (suc i) count uses = slice-cons i count uses noUse l (omega (arith, k .fits, k .whole)) in
+          let b : take (suc i) uses ≡ take i uses ++ (getD uses i noUse ∷ []) = take-suc uses i noUse (omega (arith, k .fits, k .whole)) in
+          rw (add-one i, b, map-append buildAt (take i uses) (getD uses i noUse ∷ [])) (rw a at (k .left))
 
-      skipped : fresh store (take i uses) (getD uses i blank) ≡ false → Firsts store uses count xs n (i + 1)
+      skipped : fresh store (map buildAt (take i uses)) (buildAt (getD uses i noUse)) ≡ false → Firsts store uses count xs n (i + 1)
       skipped e =
           record { high = omega arith; fits = k .fits; whole = k .whole; long = k .long; few = omega (arith, k .few); left = rw e at firsts-head }
 
-      module _ (r : Bool) (t : r ≡ there (getD uses i blank .«package»)) where
-        pub firsts-absent : not r ≡ true → Firsts store uses count xs n (i + 1)
-        unfolding fresh
-        firsts-absent e = skipped (rw (← t, not-true r e))
+      pub firsts-absent : (getD uses i noUse .«package» .kind ≡ 1 → ⊥) → Firsts store uses count xs n (i + 1)
+      firsts-absent e = skipped (rw (fresh-at store (take i uses) (getD uses i noUse), ne-eqb (getD uses i noUse .«package» .kind) 1 e))
 
-        pub unused-start : not r ≡ false → Unused store uses (getD uses i blank) i i 0
-        unused-start e = record { is = refl; high = omega arith; whole = omega (arith, k .fits, k .whole); yes = sym t ∙ not-false r e; left = refl }
+      pub unused-start : getD uses i noUse .«package» .kind ≡ 1 → Unused store uses (getD uses i noUse) i i 0
+      unused-start e = record { is = refl; high = omega arith; whole = omega (arith, k .fits, k .whole); yes = e; left = refl }
 
-      module _ (i′ j : ℕ) (h : Unused store uses (getD uses i blank) i i′ j) where
+      module _ (i′ j : ℕ) (h : Unused store uses (getD uses i noUse) i i′ j) where
         pub unused-low : j ≤ 129
         unused-low = omega (arith, h .high, k .fits, l)
 
@@ -221,27 +280,26 @@ module _ (store : Seq ℕ) (uses : Seq Build) (count : ℕ) where
         pub firsts-less : count - (i′ + 1) < count - i
         firsts-less = omega (arith, h .is, l)
 
-        pub firsts-again : (r : Bool) → r ≡ same-package store (getD uses i blank) (getD uses j blank) → j < i′ → r ≡ true → Firsts store uses count xs n (i′ + 1)
-        unfolding fresh
-        firsts-again r t m e = let a = rw (← t, e) at (unused-head store uses i i′ j h m) in rw (h .is) (skipped (rw (h .yes, a)))
+        pub firsts-again : (r : Bool) → r ≡ same-package store (getD uses i noUse) (getD uses j noUse) → j < i′ → r ≡ true → Firsts store uses count xs n (i′ + 1)
+        firsts-again r t m e = let a = rw (← t, e) at (unused-head store uses i i′ j h m) in rw (h .is) (skipped (rw (fresh-at store (take i uses) (getD uses i noUse), h .yes, a)))
 
         pub firsts-room : n < 129
         firsts-room = omega (arith, k .few, k .fits, l)
 
-        pub firsts-on : i′ ≤ j → Firsts store uses count (set xs n (getD uses i blank)) (n + 1) (i′ + 1)
-        unfolding fresh
+        pub firsts-on : i′ ≤ j → Firsts store uses count (set xs n (getD uses i noUse)) (n + 1) (i′ + 1)
         firsts-on m =
+            let u : Use = getD uses i noUse in
             let e : j ≡ i = omega (arith, h .high, h .is) in
-            let a : anyOf (same-package store (getD uses i blank)) (take i uses) ≡ false = rw (e, slice-empty i uses) at (h .left) in
-            let b : fresh store (take i uses) (getD uses i blank) ≡ true = rw (h .yes, a) in
-            let c : take (suc n) (set xs n (getD uses i blank)) ≡ take n xs ++ (getD uses i blank ∷ []) = take-suc-set xs n (getD uses i blank) (omega (arith, k .few, k .fits, k .long, l)) in
+            let a : anyOf (same-package store u) (take i uses) ≡ false = rw (e, slice-empty i uses) at (h .left) in
+            let b : fresh store (map buildAt (take i uses)) (buildAt u) ≡ true = rw (fresh-at store (take i uses) u, h .yes, a) in
+            let c : take (suc n) (set xs n u) ≡ take n xs ++ (u ∷ []) = take-suc-set xs n u (omega (arith, k .few, k .fits, k .long, l)) in
             record {
               high = omega (arith, h .is, l);
               fits = k .fits;
               whole = k .whole;
-              long = length-set xs n (getD uses i blank) ∙ k .long;
+              long = length-set xs n u ∙ k .long;
               few = omega (arith, k .few, h .is);
-              left = rw (h .is, add-one n, c, append-assoc) (rw b at firsts-head);
+              left = rw (h .is, add-one n, c, map-append buildAt (take n xs) (u ∷ []), append-assoc) (rw b at firsts-head);
             }
 
 -- ---- all uses
@@ -269,27 +327,35 @@ module _ (room store : Seq ℕ) (made : ℕ) (l : List) (e : l ≡ componentList
   uses-followed c place n r g f =
       let d : length (ownUses room store made ++ (applicationUse room store made n ∷ [])) ≡ u .count + 1
       = length-append (ownUses room store made) (applicationUse room store made n ∷ []) ∙ ap (λ (k : ℕ). k + 1) (sym (own .count)) in
-      let a : take (u .count) (u .items) ≡ ownUses room store made = rw (own .count) (own .items) in
+      let a : map buildAt (take (u .count) (u .items)) ≡ ownUses room store made = rw (own .count) (own .items) in
       rw g (record { count = f .count ∙ sym d; fits = omega (arith, d, own .count, own .fits); items = rw (d, f .items, a) })
 
-pub uses-undeclared : (room store : Seq ℕ) (made : ℕ) (c : Choice) (items : Seq Build) → c ≡ choices.Undeclared → Used 129 (uses room store made c) (record { count = 0; items = items })
+pub uses-undeclared : (room store : Seq ℕ) (made : ℕ) (c : Choice) (items : Seq Use) → c ≡ choices.Undeclared → Used 129 (uses room store made c) (record { count = 0; items = items })
 uses-undeclared room store made c items g = rw g (record { count = refl; fits = omega arith; items = refl })
 
 -- ---- builds
 
 pub builds-used : (room store : Seq ℕ) (made : ℕ) (c : Choice) (u r : BuildList) → Used 129 (uses room store made c) u
-    → Used 129 (firstUses store [] (take (u .count) (u .items))) r → Used 129 (buildsOf room store made c) r
+    → Used 129 (firstUses store [] (map buildAt (take (u .count) (u .items)))) r → Used 129 (buildsOf room store made c) r
 unfolding buildsOf
-builds-used room store made c u r h k = let a : take (u .count) (u .items) ≡ uses room store made c = rw (h .count) (h .items) in rw a at k
+builds-used room store made c u r h k = let a : map buildAt (take (u .count) (u .items)) ≡ uses room store made c = rw (h .count) (h .items) in rw a at k
+
+blank-at : buildAt noUse ≡ blank
+unfolding buildAt spots.textAt listAt
+blank-at = refl
+
+-- number i of those that an array's uses are
+pub used-at : (most : ℕ) (us : Seq Build) (b : BuildList) (i : ℕ) → Used most us b → i < b .count → getD us i blank ≡ buildAt (getD (b .items) i noUse)
+used-at most us b i h l =
+    let a : getD us i blank ≡ getD (map buildAt (take (length us) (b .items))) i (buildAt noUse) = rw (h .items, blank-at) in
+    a ∙ List·getD-map buildAt (take (length us) (b .items)) i noUse ∙ ap buildAt (getD-take (length us) (b .items) i noUse (omega (arith, l, h .count)))
 
 module _ (room store : Seq ℕ) (made : ℕ) (c : Choice) (i : ℕ) (b : BuildList) (h : Used 129 (buildsOf room store made c) b) where
-  pub build-at : (r : Build) → i < b .count → r ≡ getD (b .items) i blank → results.At r ≡ build room store made c i
+  pub build-found : (u : Use) (r : Build) → i < b .count → u ≡ getD (b .items) i noUse → r ≡ buildAt u → results.At r ≡ build room store made c i
   unfolding build
-  build-at r l e =
+  build-found u r l e k =
       let t : ltb i (length (buildsOf room store made c)) ≡ true = lt-ltb i (length (buildsOf room store made c)) (omega (arith, l, h .count)) in
-      let d : getD (buildsOf room store made c) i blank ≡ getD (b .items) i blank
-      = ap (λ (x : Seq Build). getD x i blank) (sym (h .items)) ∙ getD-take (length (buildsOf room store made c)) (b .items) i blank (omega (arith, l, h .count)) in
-      rw (t, d, e)
+      rw (t, used-at 129 (buildsOf room store made c) b i h l, k, e)
 
   pub build-none : b .count ≤ i → results.Nothing ≡ build room store made c i
   unfolding build

@@ -2,11 +2,11 @@
 
 use crate::choice::Choice;
 use crate::component::Build;
-use crate::component::built;
 use schema::Features;
 use schema::Text;
 use tree::Found;
-ghost use mathlib.Core.List.{[]};
+use validate::uses::Spot;
+ghost use mathlib.Core.List.{[], map};
 ghost use mathlib.Core.Path.{_≡_};
 ghost use Prim.Native.Nat.{_≤_};
 ghost use lib.ListN.{take, replicate};
@@ -18,13 +18,20 @@ ghost use Rattle.plan.specs.Builds.{Wanting, Used};
 // Uses of packages, or builds; one whose package is absent is none.
 pub struct BuildList {
     pub count: usize,
-    pub items: [Build; 129],
+    pub items: [Use; 129],
 }
 
 // A component's two packages.
 pub struct Wanted {
-    pub own: Build,
-    pub pbp: Build,
+    pub own: Use,
+    pub pbp: Use,
+}
+
+// A build by where its texts are, in few bytes, since tables of them are handed on.
+pub struct Use {
+    pub package: Spot,
+    pub bin: Spot,
+    pub features: Spot,
 }
 
 pub enum BuildFound {
@@ -32,13 +39,40 @@ pub enum BuildFound {
     At(Build),
 }
 
-fn no_builds() -> [Build; 129]
-    ensures { λ r. ⌜ r ≡ replicate 129 builds.blank ⌝ }
+// The use of a package: its bin is the package itself where none is given.
+fn using(package: Text, bin: Text, features: Features) -> Use
+    ensures { λ r. ⌜ r ≡ builds.useOf «package» bin features ⌝ }
 {
-    let blank = Build {
-        package: Text::Absent,
-        bin: Text::Absent,
-        features: Features::Absent,
+    Use {
+        package: validate::uses::text_spot(package),
+        bin: validate::uses::text_spot(bin.or(package)),
+        features: validate::uses::list_spot(features),
+    }
+}
+
+// The build of a use.
+pub fn build_at(u: Use) -> Build
+    ensures { λ r. ⌜ r ≡ builds.buildAt u ⌝ }
+{
+    let package = u.package;
+    let bin = u.bin;
+    let features = u.features;
+    Build {
+        package: validate::uses::text_at(package),
+        bin: validate::uses::text_at(bin),
+        features: validate::uses::list_at(features),
+    }
+}
+
+// An array of none.
+fn no_builds() -> [Use; 129]
+    ensures { λ r. ⌜ r ≡ replicate 129 builds.noUse ⌝ }
+{
+    let none = validate::uses::no_spot();
+    let blank = Use {
+        package: none,
+        bin: none,
+        features: none,
     };
     [blank; 129]
 }
@@ -46,7 +80,7 @@ fn no_builds() -> [Build; 129]
 // "Each component's package, then its `pbp_package`", whose bin is the package itself.
 fn wanted_at(tree: &[u8], store: &[u8], made: usize, n: usize) -> Wanted
     requires { ⌜ Rooms (now tree) made × Stood (now tree) n ⌝ }
-    ensures { λ r. ⌜ r ≡ builds.wantedAt (now (tree .entry)) (now (store .entry)) made n ⌝ }
+    ensures { λ r. ⌜ builds.bothAt r ≡ builds.wantedAt (now (tree .entry)) (now (store .entry)) made n ⌝ }
 {
     let t = parse::entry::entry_table(tree, made, tree::value_at(tree, store, n));
     let f = t.fields;
@@ -59,8 +93,8 @@ fn wanted_at(tree: &[u8], store: &[u8], made: usize, n: usize) -> Wanted
     let pbp_features = l.pbp_features;
     let pbp_package = o.text;
     Wanted {
-        own: built(package, bin, features),
-        pbp: built(pbp_package, Text::Absent, pbp_features),
+        own: using(package, bin, features),
+        pbp: using(pbp_package, Text::Absent, pbp_features),
     }
 }
 
@@ -97,18 +131,33 @@ fn each_component(tree: &[u8], store: &[u8], made: usize, place: u16, end: usize
     }
 }
 
-// "The application last": the use of the application that value number n is.
+// The use of the application that value number n is: its package and bin are its key.
+fn application_use(tree: &[u8], store: &[u8], made: usize, n: usize) -> Use
+    requires { ⌜ Rooms (now tree) made × Stood (now tree) n ⌝ }
+    ensures { λ r. ⌜ builds.buildAt r ≡ builds.applicationUse (now (tree .entry)) (now (store .entry)) made n ⌝ }
+{
+    let r = parse::entry::application_at(tree, store, made, n, 32);
+    let a = r.application;
+    let features = a.features;
+    let v = tree::get(tree, n);
+    let p = validate::uses::single(v.key, v.len, features);
+    let package = p.package;
+    let list = p.features;
+    Use {
+        package: package,
+        bin: package,
+        features: list,
+    }
+}
+
+// "The application last": that use behind those of the components.
 fn with_application(tree: &[u8], store: &[u8], made: usize, n: usize, u: BuildList) -> BuildList
     requires { ⌜ Rooms (now tree) made × Stood (now tree) n × builds.Room u ⌝ }
     ensures { λ r. ⌜ builds.Followed (now (tree .entry)) (now (store .entry)) made n u r ⌝ }
 {
-    let r = parse::entry::application_at(tree, store, made, n, 32);
-    let a = r.application;
-    let package = a.package;
-    let features = a.features;
     let count = u.count;
     let mut items = u.items;
-    items[count] = built(package, Text::Absent, features);
+    items[count] = application_use(tree, store, made, n);
     BuildList {
         count: count + 1,
         items: items,
@@ -116,22 +165,23 @@ fn with_application(tree: &[u8], store: &[u8], made: usize, n: usize, u: BuildLi
 }
 
 // Those of some uses that no earlier one is of the same package as.
-fn first_uses(store: &[u8], uses: [Build; 129], count: usize) -> BuildList
+fn first_uses(store: &[u8], uses: [Use; 129], count: usize) -> BuildList
     requires { ⌜ count ≤ 129 ⌝ }
-    ensures { λ r. ⌜ Used 129 (builds.firstUses (now (store .entry)) [] (take count uses)) r ⌝ }
+    ensures { λ r. ⌜ Used 129 (builds.firstUses (now (store .entry)) [] (map builds.buildAt (take count uses))) r ⌝ }
 {
     let mut items = no_builds();
     let mut n = 0;
     'next: for i in 0..count {
         let u = uses[i];
         let p = u.package;
-        if !validate::component::there(p) {
+        // no package
+        if p.kind != 1 {
             continue;
         }
         for j in 0..i {
             let v = uses[j];
             let q = v.package;
-            if validate::uses::twice(store, p, q) {
+            if validate::uses::agree(store, p, q) {
                 continue 'next;
             }
         }
@@ -180,7 +230,7 @@ pub fn build(tree: &[u8], store: &[u8], made: usize, c: Choice, i: usize) -> Bui
     let items = b.items;
     if i < b.count {
         let found = items[i];
-        return BuildFound::At(found);
+        return BuildFound::At(build_at(found));
     }
     BuildFound::Nothing
 }

@@ -45,7 +45,7 @@ pub enum PlannedFound {
 }
 
 // A package with the bin of one use: the package itself where none is given.
-pub fn built(package: Text, bin: Text, features: Features) -> Build
+fn built(package: Text, bin: Text, features: Features) -> Build
     ensures { λ r. ⌜ r ≡ plans.built «package» bin features ⌝ }
 {
     Build {

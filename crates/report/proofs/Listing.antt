@@ -5,7 +5,7 @@ use mathlib.Core.Path.{_≡_, refl, sym, ap, subst, _∙_}
 use native.Mathlib.Omega.{arith}
 use native.Mathlib.Numerals.{add-one}
 use lib.ListN.{length, drop, getD, drop-of-length-le}
-use lib.Seq.{drop-cons, getD-take}
+use lib.Seq.{drop-cons}
 use Rattle.meaning.specs.Listing.{each, stemLine}
 use Rattle.tree.specs.declared.Found.{Found}
 use Rattle.tree.specs.declared.Found.the-variants.{At, Nothing}
@@ -20,11 +20,13 @@ use Rattle.parse.specs.declared.entry.PartitionRead.{PartitionRead}
 use Rattle.parse.specs.Entries.{partitionAt, walk}
 use Rattle.parse.specs.Views.{partitionList}
 use Rattle.parse.proofs.Judging.{partitions-among}
+use Rattle.plan.specs.declared.builds.Use.{Use}
 use Rattle.plan.specs.declared.builds.BuildList.{BuildList}
 use Rattle.plan.specs.declared.choice.Choice.the-variants.{BootChain}
 use Rattle.plan.specs.declared.component.Build.{Build}
-use Rattle.plan.specs.Builds.{Used, blank, buildsOf}
+use Rattle.plan.specs.Builds.{Used, blank, noUse, buildAt, buildsOf}
 use Rattle.plan.specs.Stems.{stem}
+use Rattle.plan.proofs.Building.{used-at}
 use Rattle.report.specs.Page.{Wrote}
 use Rattle.report.specs.Shown as shown
 use Rattle.report.proofs.Pages.{wrote-nil, wrote-then}
@@ -125,10 +127,10 @@ module _ (room store : Seq ℕ) (made : ℕ) (name : Seq ℕ) (b : BuildList) (u
       let l : length bs ≤ i = omega (arith, u .count, h) in
       left-end (shown.build room store made name) bs out at (drop i bs) out′ at′ k (drop-of-length-le bs l)
 
-  pub builds-on : i < b .count → (x : Build) → x ≡ getD (b .items) i blank → (out″ : Seq ℕ) (at″ : ℕ) → Wrote (shown.build room store made name x) out′ at′ out″ at″
+  pub builds-on : i < b .count → (y : Use) (x : Build) → y ≡ getD (b .items) i noUse → x ≡ buildAt y → (out″ : Seq ℕ) (at″ : ℕ) → Wrote (shown.build room store made name x) out′ at′ out″ at″
       → Left (shown.build room store made name) bs (drop (i + 1) bs) out at out″ at″
-  builds-on h x e out″ at″ w =
-      let d : getD bs i blank ≡ x = ap (λ (xs : Seq Build). getD xs i blank) (sym (u .items)) ∙ getD-take (length bs) (b .items) i blank (omega (arith, h, u .count)) ∙ sym e in
+  builds-on h y x e g out″ at″ w =
+      let d : getD bs i blank ≡ x = used-at 129 bs b i u h ∙ sym (g ∙ ap buildAt e) in
       left-on (shown.build room store made name) bs out at (drop i bs) out′ at′ k x (drop (i + 1) bs)
       (rw (add-one i, ← d) (drop-cons bs i blank (omega (arith, h, u .count)))) out″ at″ w
 

@@ -109,7 +109,8 @@ pub fn builds(
     let count = b.count;
     let mut to = at;
     for i in 0..count {
-        let x = items[i];
+        let u = items[i];
+        let x = plan::builds::build_at(u);
         to = crate::line::build(out, to, tree, store, made, name, x);
     }
     to

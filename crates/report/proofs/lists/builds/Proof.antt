@@ -9,6 +9,7 @@ use Rattle.report.proofs.lists.builds.Statement.{statement}
 use Rattle.report.proofs.lists.builds.Tie as tie
 use Rattle.report.proofs.lists.builds.Reads as reads
 use Rattle.report.proofs.lists.builds.Lts as lts
+use Rattle.plan.proofs.builds.build_at.Reads as build-at-reads
 use Rattle.plan.proofs.builds.builds.Reads as builds-reads
 use Rattle.report.proofs.line.build.Reads as build-reads
 
@@ -27,14 +28,18 @@ loop-holds : tie.Need-loop-holds Inv-loop μ-loop
 loop-holds c = search (needs, left-start)
 
 -- src/lists.rt:115:17
-mul-x : tie.Need-mul-x Inv-loop μ-loop
-mul-x c = search needs
+mul-u : tie.Need-mul-u Inv-loop μ-loop
+mul-u c = search needs
 
 -- src/lists.rt:115:17
-array-copy-out-x : tie.Need-array-copy-out-x Inv-loop μ-loop
-array-copy-out-x c = search needs
+array-copy-out-u : tie.Need-array-copy-out-u Inv-loop μ-loop
+array-copy-out-u c = search needs
 
--- src/lists.rt:116:9
+-- src/lists.rt:116:13
+build-at-requires : tie.Need-build-at-requires Inv-loop μ-loop
+build-at-requires c κs = search needs
+
+-- src/lists.rt:117:9
 build-requires : tie.Need-build-requires Inv-loop μ-loop
 build-requires c κs = search needs
 
@@ -66,8 +71,9 @@ builds-spec =
     μ-loop
     builds-requires
     loop-holds
-    mul-x
-    array-copy-out-x
+    mul-u
+    array-copy-out-u
+    build-at-requires
     build-requires
     add-i
     loop-less

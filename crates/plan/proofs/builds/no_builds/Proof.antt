@@ -1,0 +1,18 @@
+use borrow.Author.Needs.{needs}
+use Rattle.plan.proofs.Building.{no-uses}
+use Rattle.plan.proofs.builds.no_builds.Statement.{statement}
+use Rattle.plan.proofs.builds.no_builds.Tie as tie
+use Rattle.plan.proofs.builds.no_builds.Reads as reads
+use Rattle.plan.proofs.builds.no_builds.Lts as lts
+use Rattle.validate.proofs.uses.no_spot.Reads as no-spot-reads
+
+-- src/builds.rt:71:9
+no-spot-requires : tie.Need-no-spot-requires
+no-spot-requires c κs = search needs
+
+-- src/builds.rt:68:1
+returns : tie.Need-returns
+returns c = search (needs, no-uses)
+
+pub no-builds-spec : {M : Type 1} → statement M
+no-builds-spec = tie.close (tie.spec no-spot-requires returns)
