@@ -114,12 +114,5 @@ pub extern "C" fn tree_next(
         return told(Found::Nothing);
     }
     let low = tree::skip_up(tree, made, parent, 0);
-    told(tree::next(
-        tree,
-        store,
-        low,
-        made,
-        parent,
-        behind(begun, after),
-    ))
+    told(tree::next(tree, store, low, made, parent, behind(begun, after)))
 }

@@ -345,14 +345,7 @@ fn better(tree: &[u8], store: &[u8], parent: u16, after: Found, best: Found, m: 
 }
 
 // One pass from the newest down: of values with one key the first met stays.
-fn nearest(
-    tree: &[u8],
-    store: &[u8],
-    low: usize,
-    made: usize,
-    parent: u16,
-    after: Found,
-) -> Found
+fn nearest(tree: &[u8], store: &[u8], low: usize, made: usize, parent: u16, after: Found) -> Found
     requires { ⌜ Holds (now tree) made × Clear (now tree) parent 0 low × Stands (now tree) after ⌝ }
     ensures { λ r. ⌜ Finds 0 made (order.nearest (slotAt (now (tree .entry))) (now (store .entry)) parent after made Found.Nothing) r ⌝ }
 {
@@ -376,14 +369,7 @@ fn is_made(made: usize, after: Found) -> bool
 
 // The next key under the parent behind that of the value found before, from nothing the first: of the keys above it the least, and of its values the newest.
 // Behind a value that is not made, or whose key runs past the store, comes nothing. Below a number that the caller knows of nothing hangs under the parent, so a walk over all keys looks there once.
-pub fn next(
-    tree: &[u8],
-    store: &[u8],
-    low: usize,
-    made: usize,
-    parent: u16,
-    after: Found,
-) -> Found
+pub fn next(tree: &[u8], store: &[u8], low: usize, made: usize, parent: u16, after: Found) -> Found
     requires { ⌜ Holds (now tree) made × Clear (now tree) parent 0 low ⌝ }
     ensures { λ r. ⌜ Finds 0 made (order.next (slotAt (now (tree .entry))) (now (store .entry)) made parent after) r ⌝ }
 {
