@@ -11,11 +11,6 @@ pub fn stride() -> usize {
     if emulated() { 5 } else { 1 }
 }
 
-/// How often a number is to be met in them: as it says, or a tenth of it there.
-pub fn least(often: usize) -> usize {
-    often / if emulated() { 10 } else { 1 }
-}
-
 fn emulated() -> bool {
     std::env::var_os("PRESET_EMULATED").is_some()
 }

@@ -2,7 +2,7 @@
 use differ::document::compare::Judge;
 use differ::record::DOCUMENT;
 use replay::document::{random, vector};
-use replay::random::{Rng, least, turns};
+use replay::random::Rng;
 
 // Every text of these letters up to that many of them.
 fn up_to(most: usize, letters: &[&str], judge: &mut Judge) -> usize {
@@ -65,10 +65,10 @@ const LEAST: usize = 100;
 #[test]
 fn random_presets() {
     let (mut r, mut judge) = (Rng::new(SEED), Judge::default());
-    for _ in 0..turns(COUNT) {
+    for _ in 0..COUNT {
         judge.check(&random::text(&mut r));
     }
     println!("{}", judge.met.summary());
-    let seldom = judge.met.seldom(0..=16, least(LEAST));
+    let seldom = judge.met.seldom(0..=16, LEAST);
     assert_eq!(seldom, None, "met too seldom: {}", judge.met.summary());
 }

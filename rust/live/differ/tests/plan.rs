@@ -7,7 +7,7 @@ use replay::met::Met;
 use replay::plan::cases::CASES;
 use replay::plan::model::NUMBERS;
 use replay::plan::random;
-use replay::random::{Rng, least, stride, turns};
+use replay::random::{Rng, stride, turns};
 use replay::records::random::{NAMES, name};
 use replay::records::spelling::paths;
 use replay::validate::spelled;
@@ -35,7 +35,8 @@ fn around_every_boundary() {
         println!("{name}: {}", judge.met.summary());
         all.add(&judge.met);
     }
-    assert_eq!(all.seldom(NUMBERS, least(100)), None, "{}", all.summary());
+    let least = 100 / stride();
+    assert_eq!(all.seldom(NUMBERS, least), None, "{}", all.summary());
 }
 
 const SEED: u64 = 20_241_118;
@@ -58,7 +59,7 @@ fn definitions_against_the_original() {
         numbers.for_each(|number| met.count(number));
     }
     println!("{}", met.summary());
-    assert_eq!(met.seldom(NUMBERS, least(100)), None, "{}", met.summary());
+    assert_eq!(met.seldom(NUMBERS, 100), None, "{}", met.summary());
 }
 
 // Every path up to seven characters of the one component, which leads.

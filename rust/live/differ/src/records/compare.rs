@@ -4,7 +4,7 @@ use crate::shorten::shortest_difference;
 use port::preset::Preset;
 use replay::met::Met;
 use replay::plan::keys::Answered;
-use replay::random::{Rng, least, turns};
+use replay::random::{Rng, turns};
 use replay::records::answer::{Read, Refusal};
 use replay::records::ask::{Host, difference};
 use replay::records::model::{self, LIMITS, Limits, UNLIMITED};
@@ -185,5 +185,5 @@ pub fn check_random(judge: fn() -> Judge, seed: u64, count: usize) {
     }
     let summary = all.met.summary();
     println!("{summary}");
-    assert_eq!(all.seldom(least(LEAST)), None, "met too seldom: {summary}");
+    assert_eq!(all.seldom(LEAST), None, "met too seldom: {summary}");
 }
