@@ -82,39 +82,43 @@ module _ (tree : List ℕ) (made place to : ℕ) (e : to ≡ newest tree made pl
     unfolding fieldsOf
     fields-none f = let c : child tree to place 0 ≡ Nothing = sym (h .is) ∙ f in rw (← e, c)
 
--- ---- among
+-- ---- seek
 pub record Seeking (tree store key : List ℕ) (from to place i : ℕ) : Type 0 where
   pub low : from ≤ i
   pub high : i ≤ to
   pub left : lookIn tree store from (i - from) place key ≡ lookIn tree store from (to - from) place key
 
-module _ (tree store key : List ℕ) (f : Fields) where
-  pub seek-start : Spread tree f → Seeking tree store key (f .from) (f .to) (f .place) (f .to)
-  seek-start h = record { low = h .order; high = omega arith; left = refl }
+module _ (tree store key : List ℕ) (from to place : ℕ) where
+  pub seek-start : from ≤ to → Seeking tree store key from to place to
+  seek-start h = record { low = h; high = omega arith; left = refl }
 
-  module _ (i : ℕ) (k : Seeking tree store key (f .from) (f .to) (f .place) i) where
-    pub seek-room : Spread tree f → f .from < i → Holds tree (i - 1 + 1)
-    seek-room h l = record { fits = omega (arith, h .fits .fits) }
+  module _ (i : ℕ) (k : Seeking tree store key from to place i) where
+    pub seek-room : Holds tree to → from < i → Holds tree (i - 1 + 1)
+    seek-room h l = record { fits = omega (arith, h .fits) }
 
-    pub seek-end : i ≤ f .from → Finds (f .from) (f .to) (among tree store f key) Nothing
-    unfolding among
+    pub seek-end : i ≤ from → Finds from to (lookIn tree store from (to - from) place key) Nothing
     seek-end l =
-        let d : i - f .from ≡ 0 = omega arith in
+        let d : i - from ≡ 0 = omega arith in
         record { is = rw d at (k .left); from = tt; below = tt }
 
-    module _ (l : f .from < i) (r : Bool) (e : r ≡ mine tree store (i - 1) (f .place) key) where
-      there : i - f .from ≡ suc (i - 1 - f .from)
+    module _ (l : from < i) (r : Bool) (e : r ≡ mine tree store (i - 1) place key) where
+      there : i - from ≡ suc (i - 1 - from)
       there = omega arith
 
-      here : f .from + (i - 1 - f .from) ≡ i - 1
+      here : from + (i - 1 - from) ≡ i - 1
       here = omega arith
 
-      pub seek-on : r ≡ false → Seeking tree store key (f .from) (f .to) (f .place) (i - 1)
+      pub seek-on : r ≡ false → Seeking tree store key from to place (i - 1)
       seek-on t = record { low = omega arith; high = omega arith; left = rw (there, here, ← e, t) at (k .left) }
 
-      pub seek-hit : r ≡ true → Finds (f .from) (f .to) (among tree store f key) (At (i - 1))
-      unfolding among
+      pub seek-hit : r ≡ true → Finds from to (lookIn tree store from (to - from) place key) (At (i - 1))
       seek-hit t = record { is = rw (there, here, ← e, t) at (k .left); from = omega arith; below = omega arith }
+
+-- ---- among
+pub among-is : (tree store key : List ℕ) (f : Fields) (r : Found) → Finds (f .from) (f .to) (lookIn tree store (f .from) (f .to - f .from) (f .place) key) r
+    → Finds (f .from) (f .to) (among tree store f key) r
+unfolding among
+among-is tree store key f r h = h
 
 -- ---- field
 module _ (tree store key : List ℕ) (f : Fields) (r : Found) (h : Finds (f .from) (f .to) (among tree store f key) r) where

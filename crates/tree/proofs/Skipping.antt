@@ -8,9 +8,11 @@ use native.Mathlib.Nat.{add-zero}
 use borrow.Author.Tests.{ltb-true, ltb-false}
 use lib.Dec.{ltb}
 use Rattle.laws.specs.Cases.{on, never}
-use Rattle.tree.specs.Room.{Holds, Clear, under, idle, first, child}
-use Rattle.tree.specs.Doors.{newest}
-use Rattle.tree.proofs.Walks.{Walking}
+use Rattle.tree.specs.declared.Found.{Found}
+use Rattle.tree.specs.declared.Found.the-variants.{At, Nothing}
+use Rattle.tree.specs.Room.{Holds, Clear, Finds, under, mine, idle, first, child, look}
+use Rattle.tree.specs.Doors.{newest, lookIn}
+use Rattle.tree.proofs.Walks.{Walking, mine-not}
 use Rattle.tree.proofs.Opening.{Sinking}
 
 -- ---- idle
@@ -134,3 +136,82 @@ sink-skipped tree made parent i c =
       high = c .order;
       left = sym (rw e at (newest-over tree parent i d (λ (j : ℕ). λ (h : i ≤ j). λ (l : j < i + d). c .none j h (omega arith))));
     }
+
+-- ---- seek_block
+module _ (tree store key : List ℕ) (parent : ℕ) where
+  seek-clear : (k i : ℕ) → ((j : ℕ) → i ≤ j → j < i + k → under tree j parent ≡ false) → lookIn tree store i k parent key ≡ Nothing
+  seek-clear zero i h = refl
+  seek-clear (suc k) i h =
+      rw (sym (mine-not tree store key (i + k) parent false (sym (h (i + k) (omega arith) (omega arith))) refl))
+      (seek-clear k i (λ (j : ℕ). λ (g : i ≤ j). λ (l : j < i + k). h j g (omega arith)))
+
+  pub seek-idle : (i : ℕ) (r : Bool) → r ≡ idle tree parent 8 i → r ≡ true → Finds i (i + 8) (lookIn tree store i 8 parent key) Nothing
+  seek-idle i r e t =
+      record { is = sym (seek-clear 8 i (λ (j : ℕ). λ (h : i ≤ j). λ (l : j < i + 8). clear-idle tree parent 8 i j (sym e ∙ t) h l)); from = tt; below = tt }
+
+  pub seek-eight : (i : ℕ) (r : Found) → Finds i (i + 8) (lookIn tree store i (i + 8 - i) parent key) r → Finds i (i + 8) (lookIn tree store i 8 parent key) r
+  seek-eight i r h = let d : i + 8 - i ≡ 8 = omega arith in rw d at h
+
+-- ---- find
+pub record Looking (tree store key : List ℕ) (made parent i : ℕ) : Type 0 where
+  pub high : i ≤ made
+  pub left : look tree store i parent key ≡ look tree store made parent key
+
+-- the first, where it found something
+abbrev orFound : Found → Found → Found
+orFound (At n) d = At n
+orFound Nothing d = d
+
+-- nothing behind it
+none-left : (r : Found) → orFound r Nothing ≡ r
+none-left (At n) = refl
+none-left Nothing = refl
+
+module _ (tree store key : List ℕ) (parent : ℕ) where
+  look-seek : (k i : ℕ) → look tree store (i + k) parent key ≡ orFound (lookIn tree store i k parent key) (look tree store i parent key)
+  look-seek zero i = rw (add-zero i)
+  look-seek (suc k) i =
+      let d : i + suc k ≡ suc (i + k) = omega arith in
+      rw d (on (mine tree store (i + k) parent key) (λ e. rw e) (λ e. rw e (look-seek k i)))
+
+module _ (tree store key : List ℕ) (made parent : ℕ) where
+  pub look-start : Looking tree store key made parent made
+  look-start = record { high = omega arith; left = refl }
+
+  module _ (i : ℕ) (k : Looking tree store key made parent i) where
+    pub look-room : Holds tree made → 8 ≤ i → Holds tree (i - 8 + 8)
+    look-room h l = record { fits = omega (arith, h .fits, k .high) }
+
+    module _ (r : Found) (h : Finds (i - 8) (i - 8 + 8) (lookIn tree store (i - 8) 8 parent key) r) (l : 8 ≤ i) where
+      both : look tree store i parent key ≡ orFound r (look tree store (i - 8) parent key)
+      both =
+          let d : i - 8 + 8 ≡ i = omega arith in
+          rw (d, ← h .is) at (look-seek tree store key parent 8 (i - 8))
+
+      pub look-on : r ≡ Nothing → Looking tree store key made parent (i - 8)
+      look-on e = record { high = omega (arith, k .high); left = sym (rw e at both) ∙ k .left }
+
+      pub look-hit : (n : ℕ) → r ≡ At n → Finds 0 made (look tree store made parent key) (At n)
+      look-hit n e =
+          let b : n < i - 8 + 8 = rw e at (h .below) in
+          record { is = sym (rw e at both) ∙ k .left; from = omega arith; below = omega (arith, k .high) }
+
+    pub look-few : Holds tree made → Holds tree i
+    look-few h = record { fits = omega (arith, h .fits, k .high) }
+
+    pub look-end : (r : Found) → Finds 0 i (lookIn tree store 0 (i - 0) parent key) r → Finds 0 made (look tree store made parent key) r
+    look-end r h = by r h
+      where
+        d : i - 0 ≡ i
+        d = omega arith
+
+        whole : look tree store i parent key ≡ lookIn tree store 0 i parent key
+        whole =
+            let z : 0 + i ≡ i = omega arith in
+            rw z at (look-seek tree store key parent i 0) ∙ none-left (lookIn tree store 0 i parent key)
+
+        by : (q : Found) → Finds 0 i (lookIn tree store 0 (i - 0) parent key) q → Finds 0 made (look tree store made parent key) q
+        by Nothing g = record { is = rw d at (g .is) ∙ sym whole ∙ k .left; from = tt; below = tt }
+        by (At n) g =
+            let b : n < i = g .below in
+            record { is = rw d at (g .is) ∙ sym whole ∙ k .left; from = omega arith; below = omega (arith, k .high) }

@@ -1,8 +1,8 @@
 -- Searching and counting: what each test says, what each loop keeps, and one law for each way on and out of it.
-use Prim.Native.Nat.{ℕ, zero, suc, _+_, _*_, _-_, _≤_, _<_}
+use Prim.Native.Nat.{ℕ, suc, _+_, _*_, _-_, _≤_, _<_}
 use mathlib.Core.Bool.{Bool, true, false}
-use mathlib.Core.List.{List, [], _∷_}
-use mathlib.Core.Path.{_≡_, refl, sym, ap, _∙_}
+use mathlib.Core.List.{List}
+use mathlib.Core.Path.{_≡_, sym, ap, _∙_}
 use native.Mathlib.Omega.{arith}
 use native.Mathlib.Numerals.{add-one}
 use borrow.Author.Tests.{le-leb, lt-leb}
@@ -11,9 +11,8 @@ use lib.ListN.{length, take, drop}
 use Rattle.meaning.specs.Base.{same}
 use Rattle.slices.specs.Numbers.{number}
 use Rattle.tree.specs.declared.Slot.{Slot}
-use Rattle.tree.specs.declared.Found.{Found}
 use Rattle.tree.specs.declared.Found.the-variants.{At, Nothing}
-use Rattle.tree.specs.Room.{Holds, slotAt, under, keyed, mine, look, first, child, count, Finds, Counts}
+use Rattle.tree.specs.Room.{Holds, slotAt, under, keyed, mine, first, child, count, Finds, Counts}
 
 -- ---- one value
 pub under-is : (tree : List ℕ) (n parent q : ℕ) → q ≡ number 2 tree (32 * n + 2) → eqb q parent ≡ under tree n parent
@@ -41,38 +40,6 @@ module _ (tree store key : List ℕ) (n parent : ℕ) (r : Bool) where
 -- there is room for fewer
 pub holds-next : (room : List ℕ) (made i : ℕ) → Holds room made → i < made → Holds room (i + 1)
 holds-next room made i h l = record { fits = omega (arith, h .fits) }
-
--- ---- find
-pub record Looking (tree store key : List ℕ) (made parent i : ℕ) : Type 0 where
-  pub high : i ≤ made
-  pub left : look tree store i parent key ≡ look tree store made parent key
-
-module _ (tree store key : List ℕ) (made parent : ℕ) where
-  pub look-start : Looking tree store key made parent made
-  look-start = record { high = omega arith; left = refl }
-
-  pub look-room : (i : ℕ) → Holds tree made → Looking tree store key made parent i → 0 < i → Holds tree (i - 1 + 1)
-  look-room i h k l = record { fits = omega (arith, h .fits) }
-
-  pub look-on : (i : ℕ) (r : Bool) → Looking tree store key made parent i → 0 < i → r ≡ mine tree store (i - 1) parent key → r ≡ false
-      → Looking tree store key made parent (i - 1)
-  look-on zero r k h e f = absurd (omega arith)
-  look-on (suc i) r k h e f =
-      let d : suc i - 1 ≡ i = omega arith in
-      let m : mine tree store i parent key ≡ false = sym (rw d at e) ∙ f in
-      record { high = omega arith; left = rw d (rw m at (k .left)) }
-
-  pub look-hit : (i : ℕ) (r : Bool) → Looking tree store key made parent i → 0 < i → r ≡ mine tree store (i - 1) parent key → r ≡ true
-      → Finds 0 made (look tree store made parent key) (At (i - 1))
-  look-hit zero r k h e f = absurd (omega arith)
-  look-hit (suc i) r k h e f =
-      let d : suc i - 1 ≡ i = omega arith in
-      let m : mine tree store i parent key ≡ true = sym (rw d at e) ∙ f in
-      record { is = rw d (rw m at (k .left)); from = omega arith; below = omega arith }
-
-  pub look-end : (i : ℕ) → Looking tree store key made parent i → i ≤ 0 → Finds 0 made (look tree store made parent key) Nothing
-  look-end zero k h = record { is = k .left; from = tt; below = tt }
-  look-end (suc i) k h = absurd (omega arith)
 
 -- ---- child
 pub record Walking (tree : List ℕ) (made parent from i : ℕ) : Type 0 where

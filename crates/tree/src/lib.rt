@@ -2,7 +2,7 @@
 
 ghost use mathlib.Core.Path.{_≡_};
 ghost use mathlib.Core.List.{[], _∷_};
-ghost use Prim.Native.Nat.{_+_, _*_, _/_, _≤_};
+ghost use Prim.Native.Nat.{_+_, _*_, _/_, _-_, _≤_};
 ghost use lib.ListN.{length};
 ghost use Rattle.laws.specs.Stored.{stored};
 ghost use Rattle.tree.specs.Room as room;
@@ -215,19 +215,47 @@ fn mine(tree: &[u8], store: &[u8], n: usize, parent: u16, key: &[u8]) -> bool
     false
 }
 
-// The newest of the values made that hangs under the parent with the key.
-pub fn find(tree: &[u8], store: &[u8], made: usize, parent: u16, key: &[u8]) -> Found
-    requires { ⌜ Holds (now tree) made ⌝ }
-    ensures { λ r. ⌜ Finds 0 made (room.look (now (tree .entry)) (now (store .entry)) made parent (now (key .entry))) r ⌝ }
+// The newest of the values from one number to before another that hangs under the parent with the key.
+fn seek(tree: &[u8], store: &[u8], from: usize, to: usize, parent: u16, key: &[u8]) -> Found
+    requires { ⌜ (from ≤ to) × Holds (now tree) to ⌝ }
+    ensures { λ r. ⌜ Finds from to (doors.lookIn (now (tree .entry)) (now (store .entry)) from (to - from) parent (now (key .entry))) r ⌝ }
 {
-    let mut i = made;
-    while 0 < i {
+    let mut i = to;
+    while from < i {
         i -= 1;
         if mine(tree, store, i, parent, key) {
             return Found::At(i);
         }
     }
     Found::Nothing
+}
+
+// The same of 8 values: where none of them hangs under the parent, no key is looked at.
+fn seek_block(tree: &[u8], store: &[u8], from: usize, parent: u16, key: &[u8]) -> Found
+    requires { ⌜ Holds (now tree) (from + 8) ⌝ }
+    ensures { λ r. ⌜ Finds from (from + 8) (doors.lookIn (now (tree .entry)) (now (store .entry)) from 8 parent (now (key .entry))) r ⌝ }
+{
+    if idle(tree, from, parent) {
+        return Found::Nothing;
+    }
+    seek(tree, store, from, from + 8, parent, key)
+}
+
+// The newest of the values made that hangs under the parent with the key.
+pub fn find(tree: &[u8], store: &[u8], made: usize, parent: u16, key: &[u8]) -> Found
+    requires { ⌜ Holds (now tree) made ⌝ }
+    ensures { λ r. ⌜ Finds 0 made (room.look (now (tree .entry)) (now (store .entry)) made parent (now (key .entry))) r ⌝ }
+{
+    let mut i = made;
+    while 8 <= i {
+        i -= 8;
+        let found = seek_block(tree, store, i, parent, key);
+        match found {
+            Found::At(n) => return Found::At(n),
+            Found::Nothing => {}
+        }
+    }
+    seek(tree, store, 0, i, parent, key)
 }
 
 // The first of the values made that hangs under the parent, from a number on.
@@ -479,16 +507,7 @@ fn among(tree: &[u8], store: &[u8], f: Fields, key: &[u8]) -> Found
     requires { ⌜ Spread (now tree) f ⌝ }
     ensures { λ r. ⌜ Finds (f .from) (f .to) (doors.among (now (tree .entry)) (now (store .entry)) f (now (key .entry))) r ⌝ }
 {
-    let from = f.from;
-    let place = f.place;
-    let mut i = f.to;
-    while from < i {
-        i -= 1;
-        if mine(tree, store, i, place, key) {
-            return Found::At(i);
-        }
-    }
-    Found::Nothing
+    seek(tree, store, f.from, f.to, f.place, key)
 }
 
 // A table's field.

@@ -1,10 +1,11 @@
-use Rattle.tree.proofs.Walks.{Looking, look-start, look-room, look-on, look-hit, look-end}
+use Rattle.tree.proofs.Skipping.{Looking, look-start, look-room, look-hit, look-on, look-few, look-end}
 use borrow.Author.Needs.{needs}
 use Rattle.tree.proofs.find.Statement.{statement}
 use Rattle.tree.proofs.find.Tie as tie
 use Rattle.tree.proofs.find.Reads as reads
 use Rattle.tree.proofs.find.Lts as lts
-use Rattle.tree.proofs.mine.Reads as mine-reads
+use Rattle.tree.proofs.seek.Reads as seek-reads
+use Rattle.tree.proofs.seek_block.Reads as seek-block-reads
 
 abbrev Inv-loop : tie.InvT-loop
 Inv-loop tree store made parent key i₀ i = Looking tree store key made parent i
@@ -15,20 +16,26 @@ abbrev μ-loop : tie.MeasureT-loop
 loop-holds : tie.Need-loop-holds Inv-loop μ-loop
 loop-holds c = search (needs, look-start)
 
-sub-i : tie.Need-sub-i Inv-loop μ-loop
-sub-i c = search needs
+seek-block-requires : tie.Need-seek-block-requires Inv-loop μ-loop
+seek-block-requires c κs = search (needs, look-room)
 
-mine-requires : tie.Need-mine-requires Inv-loop μ-loop
-mine-requires c κs = search (needs, look-room)
+enum-known-found : tie.Need-enum-known-found Inv-loop μ-loop
+enum-known-found c = search needs
 
 returns : tie.Need-returns Inv-loop μ-loop
 returns c = search (needs, look-hit)
+
+enum-told : tie.Need-enum-told Inv-loop μ-loop
+enum-told c = search needs
 
 loop-less : tie.Need-loop-less Inv-loop μ-loop
 loop-less c = search needs
 
 loop-again : tie.Need-loop-again Inv-loop μ-loop
 loop-again c = search (needs, look-on)
+
+seek-requires : tie.Need-seek-requires Inv-loop μ-loop
+seek-requires c κs = search (needs, look-few)
 
 returns-2 : tie.Need-returns-2 Inv-loop μ-loop
 returns-2 c = search (needs, look-end)
@@ -40,9 +47,11 @@ find-spec =
     Inv-loop
     μ-loop
     loop-holds
-    sub-i
-    mine-requires
+    seek-block-requires
+    enum-known-found
     returns
+    enum-told
     loop-less
     loop-again
+    seek-requires
     returns-2)
