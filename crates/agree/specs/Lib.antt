@@ -20,4 +20,8 @@ pub mod Reads
 pub mod Order
 pub mod Rooms
 pub mod Doors
+pub mod Fields
+pub mod Groups
+pub mod Fronts
+pub mod Presets
 pub mod Examples

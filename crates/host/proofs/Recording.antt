@@ -42,7 +42,8 @@ use Rattle.parse.specs.Verdict as verdicts
 use Rattle.ways.specs.Settled as settled
 use Rattle.parse.specs.Filed.{file-named, file-inside}
 use Rattle.parse.specs.Answers.{Says, says-after, says-made, says-accepted, says-refused, earlier-clear}
-use Rattle.parse.specs.Whole.{presetMeant, preset-says, lent-is}
+use Rattle.parse.specs.Whole.{presetMeant, lent-is}
+use Rattle.agree.specs.Presets.{preset-says}
 use Rattle.validate.specs.Faults as faults
 use Rattle.validate.specs.Validated.{validating}
 use Rattle.validate.specs.Said.{rules-say}

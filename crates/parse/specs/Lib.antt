@@ -12,7 +12,6 @@ pub mod Views
 pub mod Verdict
 pub mod Meant
 pub mod Reads
-pub mod Groups
 pub mod Answers
 pub mod Whole
 pub mod Given

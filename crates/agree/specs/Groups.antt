@@ -28,21 +28,22 @@ use Rattle.schema.specs.declared.Features.{Features}
 use Rattle.schema.specs.declared.Chip.{Chip}
 use Rattle.schema.specs.declared.Chip.the-variants.{D13x, D21x}
 use Rattle.schema.specs.declared.Word.the-variants as words
-use Rattle.schema.specs.Words.{word, chipMeant, mediaMeant, chipWord, targetWord, mediaChoice, media-choice}
+use Rattle.schema.specs.Words.{word, chipMeant, chipWord, targetWord, mediaChoice, media-choice}
 use Rattle.schema.specs.Texts.{clip, spelled, optional, orText, aicOf, amount, orNumber}
 use Rattle.features.specs.Pieces.{pieces, featuresRead}
 use Rattle.features.specs.Ordered.{nil-pieces}
 use Rattle.agree.specs.Doors.{Sees, Told}
 use Rattle.parse.specs.declared.file.Piece.{Piece}
 use Rattle.parse.specs.declared.file.Piece.the-variants as found
 use Rattle.parse.specs.File.{pieceOf, Inside, fileAt}
 use Rattle.parse.specs.Fields.{textAt, numberAt, flagAt}
 use Rattle.parse.specs.Front.{boardRead, imageRead, imageNames, imageRest}
 use Rattle.parse.specs.Meant.{featureList, boardMeant, imageMeant, partitionMeant, headMeant, roleMeant, bootMeant, loadMeant, componentMeant, applicationMeant}
 use Rattle.parse.specs.Component.{headRead, roleRead, bootRead, loadRead, componentRead, sources, lists, filenameFor, nameIn, pieceIn}
 use Rattle.parse.specs.Application.{names, loading, applicationRead}
 use Rattle.parse.specs.Entries.{partitionRead}
-use Rattle.parse.specs.Reads.{clip-none, Kept, text-kept, else-spelled, Gives, gives-via, gives-made, gives-by, first-two, first-three, first-four, text-got, text-or-got, text-need-got, text-place-got, number-got, number-or-got, number-need-got, flag-got, kind-field-got, media-field-got, features-got}
+use Rattle.parse.specs.Reads.{clip-none, Kept, text-kept, else-spelled, Gives, gives-via, gives-made, gives-by, first-two, first-three, first-four}
+use Rattle.agree.specs.Fields.{text-got, text-or-got, text-need-got, text-place-got, number-got, number-or-got, number-need-got, flag-got, kind-field-got, media-field-got, features-got}
 
 target-is : (chip : Chip) → word (targetWord chip) ≡ meant.targetFor (chipMeant chip)
 unfolding word meant.targetFor
