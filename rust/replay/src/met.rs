@@ -50,6 +50,11 @@ impl Met {
         all.filter(|&number| self.of(number) == 0).collect()
     }
 
+    /// Says so on standard output; `.ci/run` shows these lines.
+    pub fn print(&self, what: &str) {
+        println!("met, {what}: {}", self.summary());
+    }
+
     /// In one line.
     pub fn summary(&self) -> String {
         let met = self.0.iter().enumerate().skip(1).filter(|(_, n)| **n > 0);

@@ -106,7 +106,6 @@ fn random_presets() {
         let name = name(&mut r);
         met.count(judged(&mut host, &random::text(&mut r), &name));
     }
-    println!("{}", met.summary());
     assert!(met.of(0) > 3_000 && met.numbers() > 40, "{}", met.summary());
 }
 

@@ -27,7 +27,7 @@ fn all_texts_up_to_five_characters() {
     ];
     let mut judge = Judge::default();
     assert_eq!(up_to(5, &letters, &mut judge), 271_453);
-    println!("{}", judge.met.summary());
+    judge.met.print("all texts up to five characters");
 }
 
 // All ways of making, walking and replacing.
@@ -45,7 +45,7 @@ fn all_texts_up_to_five_lines() {
     ];
     let mut judge = Judge::default();
     assert_eq!(up_to(5, &letters, &mut judge), 37_449);
-    println!("{}", judge.met.summary());
+    judge.met.print("all texts up to five lines");
 }
 
 #[test]
@@ -68,7 +68,6 @@ fn random_presets() {
     for _ in 0..COUNT {
         judge.check(&random::text(&mut r));
     }
-    println!("{}", judge.met.summary());
-    let seldom = judge.met.seldom(0..=16, LEAST);
-    assert_eq!(seldom, None, "met too seldom: {}", judge.met.summary());
+    judge.met.print("random texts");
+    assert_eq!(judge.met.seldom(0..=16, LEAST), None, "met too seldom");
 }

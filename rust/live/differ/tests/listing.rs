@@ -15,7 +15,6 @@ fn corners() {
         judge.name = NAMES[i % NAMES.len()].to_vec();
         judge.check(&vector::joined(&text));
     }
-    println!("{}", judge.met.summary());
     assert_eq!(judge.met.unmet(), [80, 81], "{}", judge.met.summary());
 }
 
@@ -40,6 +39,6 @@ fn random_presets() {
         seed: SEED,
     };
     let met = run.go(|_| ()).unwrap_or_else(|e| panic!("{}", e.told));
-    println!("{}", met.summary());
+    met.print("random presets, listed");
     assert_eq!(met.unmet(), [80, 81], "{}", met.summary());
 }

@@ -14,7 +14,6 @@ const RUN: Run = Run {
 #[test]
 fn few_texts_of_all_sorts() {
     let met = RUN.go(|_| ()).unwrap_or_else(|e| panic!("{}", e.told));
-    println!("{}", met.summary());
     assert!(met.of(0) > 100 && met.numbers() > 40, "{}", met.summary());
     assert_eq!(enough(&RUN, &met), Ok(()));
     let many = Run {

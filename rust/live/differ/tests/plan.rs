@@ -19,7 +19,6 @@ fn corners() {
         judge.name = NAMES[i % NAMES.len()].to_vec();
         judge.check(&vector::joined(&text));
     }
-    println!("{}", judge.met.summary());
     assert_eq!(judge.seldom(5), None, "{}", judge.met.summary());
 }
 
@@ -32,7 +31,7 @@ fn around_every_boundary() {
         for preset in presets().into_iter().step_by(stride()) {
             judge.check(spelled::text(&mut r, &preset).as_bytes());
         }
-        println!("{name}: {}", judge.met.summary());
+        judge.met.print(&format!("planned, {name}"));
         all.add(&judge.met);
     }
     let least = 100 / stride();
@@ -44,7 +43,7 @@ const COUNT: usize = 30_000;
 
 #[test]
 fn random_presets() {
-    check_random(judge, SEED, COUNT);
+    check_random("random presets, planned", judge, SEED, COUNT);
 }
 
 // The second derivation alone, on other presets than above.
@@ -58,8 +57,8 @@ fn definitions_against_the_original() {
         let numbers = told.iter().map(|one| one.refusal.map_or(0, |e| e.number));
         numbers.for_each(|number| met.count(number));
     }
-    println!("{}", met.summary());
-    assert_eq!(met.seldom(NUMBERS, 100), None, "{}", met.summary());
+    met.print("random presets, planned by definitions and original alone");
+    assert_eq!(met.seldom(NUMBERS, 100), None, "met too seldom");
 }
 
 // Every path up to seven characters of the one component, which leads.

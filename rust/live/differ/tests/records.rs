@@ -16,7 +16,7 @@ fn every_field_in_every_spelling() {
             judge.check(edited(&base, &edit).as_bytes());
         }
     }
-    println!("{}", judge.met.summary());
+    judge.met.print("read, every field in every spelling");
     assert_eq!(judge.seldom(10), None, "{}", judge.met.summary());
 }
 
@@ -31,7 +31,7 @@ fn faults_in_pairs() {
             }
         }
     }
-    println!("{}", judge.met.summary());
+    judge.met.print("read, faults in pairs");
     assert_eq!(judge.seldom(LEAST), None, "{}", judge.met.summary());
 }
 
@@ -82,7 +82,7 @@ const LEAST: usize = 100;
 
 #[test]
 fn random_presets() {
-    check_random(Judge::records, SEED, COUNT);
+    check_random("random presets, read", Judge::records, SEED, COUNT);
 }
 
 // The second derivation alone, on other presets than above.

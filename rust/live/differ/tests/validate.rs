@@ -17,7 +17,6 @@ fn corners() {
         judge.name = NAMES[i % NAMES.len()].to_vec();
         judge.check(&vector::joined(&text));
     }
-    println!("{}", judge.met.summary());
     assert_eq!(judge.seldom(3), None, "{}", judge.met.summary());
 }
 
@@ -30,7 +29,7 @@ fn around_every_boundary() {
         for preset in presets() {
             judge.check(spelled::text(&mut r, &preset).as_bytes());
         }
-        println!("{name}: {}", judge.met.summary());
+        judge.met.print(&format!("validated, {name}"));
         all.add(&judge.met);
     }
     assert_eq!(all.seldom(NUMBERS, 10), None, "{}", all.summary());
@@ -40,5 +39,5 @@ const SEED: u64 = 20_241_115;
 
 #[test]
 fn random_presets() {
-    check_random(judge, SEED, 100_000);
+    check_random("random presets, validated", judge, SEED, 100_000);
 }

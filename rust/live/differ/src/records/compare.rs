@@ -170,7 +170,7 @@ impl Judge {
 
 /// Checks so many random presets, side by side in parts with a seed each; all numbers of the
 /// question are met often.
-pub fn check_random(judge: fn() -> Judge, seed: u64, count: usize) {
+pub fn check_random(what: &str, judge: fn() -> Judge, seed: u64, count: usize) {
     const PARTS: u64 = 4;
     const LEAST: usize = 100;
     let part = move |i| {
@@ -183,7 +183,6 @@ pub fn check_random(judge: fn() -> Judge, seed: u64, count: usize) {
     for part in parts {
         all.met.add(&part.join().expect("no difference"));
     }
-    let summary = all.met.summary();
-    println!("{summary}");
-    assert_eq!(all.seldom(LEAST), None, "met too seldom: {summary}");
+    all.met.print(what);
+    assert_eq!(all.seldom(LEAST), None, "met too seldom");
 }
