@@ -377,6 +377,16 @@ pub fn clean(s: &[u8]) -> bool
     false
 }
 
+// What a text comes to that ends behind the LFs of m - 1 lines.
+fn ending(m: usize) -> Joint
+    ensures { λ r. ⌜ r ≡ walk.ending m ⌝ }
+{
+    if m == 1 {
+        return Joint::Nothing;
+    }
+    Joint::Open
+}
+
 // What the joined line at the head of a laid text comes to: the state is carried onward, so each byte is looked at once.
 fn join_line(s: &[u8]) -> Joint
     ensures { λ r. ⌜ walk.Joined (now (s .entry)) r ⌝ }
@@ -389,6 +399,11 @@ fn join_line(s: &[u8]) -> Joint
         closes: 0,
     };
     while i < s.len() {
+        let n = run(&s[i..], c.st);
+        i += n;
+        if s.len() <= i {
+            return ending(m);
+        }
         let b = s[i];
         if b == 10 {
             let f = fate(c);
@@ -408,14 +423,9 @@ fn join_line(s: &[u8]) -> Joint
         } else {
             c = step(c, b);
             i += 1;
-            let n = run(&s[i..], c.st);
-            i += n;
         }
     }
-    if m == 1 {
-        return Joint::Nothing;
-    }
-    Joint::Open
+    ending(m)
 }
 
 // Whether a line that begins with b is surely not blank.
