@@ -1,4 +1,4 @@
--- Trimming where at most one space stands at either end, and what is blank: one law for each way out.
+-- Trimming where nothing but spaces stand at either end, and what is blank: one law for each way on and out.
 use Prim.Native.Nat.{ℕ, _+_, _-_, _≤_, _<_}
 use mathlib.Core.Bool.{Bool, true, false}
 use mathlib.Core.List.{List, [], _∷_}
@@ -16,7 +16,7 @@ use Rattle.laws.specs.Trim.{blank-is}
 use Rattle.chars.specs.Ascii.{space-white, high-plain}
 use Rattle.chars.specs.Trimmed.{Starting, Ending, Trimmed, Dark, Snug}
 use Rattle.chars.specs.declared.Span.{Span}
-use Rattle.chars.proofs.Spaces.{start-ascii, start-plain, start-end, ending-start, end-ascii, end-plain, both, all-white}
+use Rattle.chars.proofs.Spaces.{start-ascii, start-plain, start-end, end-ascii, end-plain, both, all-white}
 
 pub dark-so : (b : ℕ) → 32 < b → ltb b 128 ≡ true → Dark b
 dark-so b h e =
@@ -27,16 +27,16 @@ module _ (s : List ℕ) where
   pub lead-none : Starting s 0
   lead-none = record { high = omega arith; left = refl }
 
+  pub lead-on : (i : ℕ) → Starting s i → i < length s → getD s i 0 ≡ 32 → Starting s (i + 1)
+  lead-on i k h e = start-ascii s i k h (omega arith) true (space-white (getD s i 0) e) refl
+
+  pub tail-on : (n : ℕ) → Ending s n → 0 < n → getD s (n - 1) 0 ≡ 32 → Ending s (n - 1)
+  tail-on n k h e = end-ascii s n k h (omega arith) true (space-white (getD s (n - 1) 0) e) refl
+
   pub blank-none : length s ≡ 0 → true ≡ blank s
   blank-none z = sym (eq-eqb 0 (length s) (sym z)) ∙ all-white s 0 (start-end s 0 lead-none (omega arith))
 
   module _ (z : length s ≡ 0 → ⊥) where
-    pub lead-space : getD s 0 0 ≡ 32 → Starting s 1
-    lead-space e = start-ascii s 0 lead-none (omega arith) (omega arith) true (space-white (getD s 0 0) e) refl
-
-    pub tail-space : getD s (length s - 1) 0 ≡ 32 → Ending s (length s - 1)
-    tail-space e = end-ascii s (length s) (ending-start s) (omega arith) (omega arith) true (space-white (getD s (length s - 1) 0) e) refl
-
     module _ (r : Bool) (d : r ≡ true → Dark (getD s 0 0)) (t : r ≡ true) where
       pub snug-so : (q : Bool) → (q ≡ true → Dark (getD s (length s - 1) 0)) → q ≡ true → Snug s
       snug-so q f u = record { some = omega arith; first = d t; final = f u }

@@ -345,28 +345,35 @@ fn snug(s: &[u8]) -> bool
     false
 }
 
-// Past one space at the head.
+// Past the spaces at the head.
 fn lead(s: &[u8]) -> usize
     ensures { λ r. ⌜ Starting (now (s .entry)) r ⌝ }
 {
-    if s.len() == 0 {
-        return 0;
+    let mut i = 0;
+    while i < s.len() {
+        if s[i] != 32 {
+            return i;
+        }
+        i += 1;
     }
-    if s[0] == 32 { 1 } else { 0 }
+    i
 }
 
-// Back over one space at the end.
+// Back over the spaces at the end.
 fn tail(s: &[u8]) -> usize
     ensures { λ r. ⌜ Ending (now (s .entry)) r ⌝ }
 {
-    let n = s.len();
-    if n == 0 {
-        return n;
+    let mut e = s.len();
+    while 0 < e {
+        if s[e - 1] != 32 {
+            return e;
+        }
+        e -= 1;
     }
-    if s[n - 1] == 32 { n - 1 } else { n }
+    e
 }
 
-// Where s lies without white space at both ends. Most texts have at most one space there.
+// Where s lies without white space at both ends. Most texts have nothing but spaces there.
 pub fn trim(s: &[u8]) -> Span
     ensures { λ r. ⌜ Trimmed (now (s .entry)) r ⌝ }
 {

@@ -1,42 +1,74 @@
 -- What each loop keeps, and one law for each way on and out of it.
-use Prim.Native.Nat.{ℕ, suc, _+_, _-_, _≤_, _<_}
+use Prim.Native.Nat.{ℕ, zero, suc, _+_, _-_, _≤_, _<_}
 use mathlib.Core.Bool.{Bool, true, false}
 use mathlib.Core.List.{List, [], _∷_, _++_, append-assoc}
 use mathlib.Core.Path.{_≡_, refl, sym, ap, _∙_}
 use native.Mathlib.Omega.{arith}
 use native.Mathlib.Numerals.{add-one}
-use borrow.Author.Tests.{eq-eqb, ne-eqb, lt-ltb, le-ltb, ltb-true, ltb-false}
+use native.Mathlib.Nat.{add-zero}
+use borrow.Author.Tests.{eq-eqb, ne-eqb, lt-ltb, le-ltb, ltb-true, ltb-false, eqb-true}
+use lib.Bits.{bitOr, or-add-and, and-le-l, and-le-r}
 use lib.Dec.{eqb, ltb}
 use lib.ListN.{length, getD, take, drop, set, length-set, length-drop, drop-of-length-le, List·getD-eq-default}
 use lib.Seq.{drop-cons, take-suc, take-length, set-at, length-take-le}
 use Rattle.meaning.specs.Base.{before, same, less}
 use Rattle.laws.specs.Cases.{on}
-use Rattle.slices.specs.Found.{Found}
+use Rattle.slices.specs.Found.{Other, Free, Passed, Found}
 use Rattle.slices.specs.Heads.{Ranked}
 
 pub past : (s : List ℕ) (i : ℕ) → length s ≤ i → 0 ≡ getD s i 0
 past s i h = sym (List·getD-eq-default s 0 h)
 
 -- ---- find
-pub record Finding (s : List ℕ) (c i : ℕ) : Type 0 where
-  pub high : i ≤ length s
-  pub left : i + before c (drop i s) ≡ before c s
+pub record Freeing (s : List ℕ) (at c k r : ℕ) : Type 0 where
+  pub high : k ≤ 16
+  pub all : r ≡ 0 → Free c s at k
+
+pub free-start : (s : List ℕ) (at c : ℕ) → Freeing s at c 0 0
+free-start s at c = record { high = omega arith; all = λ z. record { all = λ k l. absurd (omega arith) } }
+
+module _ (s : List ℕ) (at c k r : ℕ) (a : Freeing s at c k r) where
+  pub free-on : (x : ℕ) → k < 16 → (x ≡ 0 → Other c (getD s (at + k) 0)) → Freeing s at c (k + 1) (bitOr r x)
+  free-on x h b = record { high = omega arith; all = λ z. record { all = go z } }
+    where
+      go : bitOr r x ≡ 0 → (i : ℕ) → i < k + 1 → Other c (getD s (at + i) 0)
+      go z i l =
+          on (ltb i k)
+          (λ t. a .all (omega (arith, or-add-and r x, and-le-r r x)) .all i (ltb-true i k t))
+          (λ t.
+          let e : i ≡ k = omega (arith, ltb-false i k t) in
+          rw e (b (omega (arith, or-add-and r x, and-le-l r x))))
+
+  pub free-end : 16 ≤ k → eqb r 0 ≡ true → Free c s at 16
+  free-end h e =
+      let n : k ≡ 16 = omega (arith, a .high) in
+      rw n at (a .all (eqb-true r 0 e))
 
 module _ (s : List ℕ) (c i : ℕ) where
-  pub find-on : Finding s c i → i < length s → (getD s i 0 ≡ c → ⊥) → Finding s c (i + 1)
+  pub find-on : Passed c s i → i < length s → (getD s i 0 ≡ c → ⊥) → Passed c s (i + 1)
   find-on a h n =
       let k : before c (drop i s) ≡ suc (before c (drop (i + 1) s)) = rw (drop-cons s i 0 h, ne-eqb (getD s i 0) c n, add-one) in
       record { high = omega arith; left = omega arith }
 
-  pub find-hit : Finding s c i → i < length s → getD s i 0 ≡ c → Found c s i
+  pub find-hit : Passed c s i → i < length s → getD s i 0 ≡ c → Found c s i
   find-hit a h e =
       let k : before c (drop i s) ≡ 0 = rw (drop-cons s i 0 h, eq-eqb (getD s i 0) c e) in
       record { is = omega arith; fits = a .high }
 
-  pub find-end : Finding s c i → length s ≤ i → Found c s i
+  pub find-end : Passed c s i → length s ≤ i → Found c s i
   find-end a h =
       let k : before c (drop i s) ≡ 0 = rw (drop-of-length-le s h) in
       record { is = omega arith; fits = a .high }
+
+passed : (n : ℕ) (s : List ℕ) (c i : ℕ) → Passed c s i → i + n ≤ length s → Free c s i n → Passed c s (i + n)
+passed zero s c i a h f = rw (add-zero i) a
+passed (suc n) s c i a h f =
+    let e : i + n + 1 ≡ i + suc n = omega arith in
+    rw e at (find-on s c (i + n) (passed n s c i a (omega arith) (record { all = λ k l. f .all k (omega arith) })) (omega arith) (f .all n (omega arith) .not))
+
+-- a block passed over
+pub past-on : (s : List ℕ) (c i : ℕ) (r : Bool) → Passed c s i → 16 ≤ length s - i → (r ≡ true → Free c s i 16) → r ≡ true → Passed c s (i + 16)
+past-on s c i r a h f t = passed 16 s c i a (omega (arith, a .high)) (f t)
 
 -- ---- same
 pub same-lengths : (a b : List ℕ) → (length a ≡ length b → ⊥) → false ≡ same a b

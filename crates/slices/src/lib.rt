@@ -1,5 +1,6 @@
 // Byte strings: what every crate above needs of one, written once.
 
+ghost use mathlib.Core.Bool.{true};
 ghost use mathlib.Core.Path.{_≡_};
 ghost use mathlib.Core.List.{_++_};
 ghost use Prim.Native.Nat.{_+_, _≤_};
@@ -7,7 +8,7 @@ ghost use lib.ListN.{length, getD, drop};
 ghost use Rattle.meaning.specs.Base as base;
 ghost use Rattle.laws.specs.Stored.{stored};
 ghost use Rattle.slices.specs.Clear.{clear};
-ghost use Rattle.slices.specs.Found.{Found};
+ghost use Rattle.slices.specs.Found.{Other, Free, Passed, Found};
 ghost use Rattle.slices.specs.Heads.{Ranked, xors};
 ghost use Rattle.slices.specs.Numbers.{Reading, Read, little, number};
 
@@ -18,11 +19,47 @@ pub fn peek(s: &[u8], i: usize) -> u8
     if i < s.len() { s[i] } else { 0 }
 }
 
+// 0 only for a byte that is not c.
+fn hit(b: u8, c: u8) -> u8
+    ensures { λ r. ⌜ (r ≡ 0 → Other c b) ⌝ }
+{
+    if b == c { 1 } else { 0 }
+}
+
+// Whether none of the 16 bytes at a place is c. No byte ends the loop, so that the machine takes them at once.
+fn free(s: &[u8], at: usize, c: u8) -> bool
+    requires { ⌜ at + 16 ≤ length (now s) ⌝ }
+    ensures { λ r. ⌜ (r ≡ true → Free c (now (s .entry)) at 16) ⌝ }
+{
+    let mut k = 0;
+    let mut r: u8 = 0;
+    while k < 16 {
+        r = r | hit(s[at + k], c);
+        k += 1;
+    }
+    r == 0
+}
+
+// How many bytes stand before the first c at least, as far as blocks of 16 go.
+fn past(s: &[u8], c: u8) -> usize
+    ensures { λ r. ⌜ Passed c (now (s .entry)) r ⌝ }
+{
+    let mut i = 0;
+    while 16 <= s.len() - i {
+        if free(s, i, c) {
+            i += 16;
+        } else {
+            return i;
+        }
+    }
+    i
+}
+
 // How many bytes stand before the first c, or all of them.
 pub fn find(s: &[u8], c: u8) -> usize
     ensures { λ r. ⌜ Found c (now (s .entry)) r ⌝ }
 {
-    let mut i = 0;
+    let mut i = past(s, c);
     while i < s.len() {
         if s[i] == c {
             return i;

@@ -5,7 +5,7 @@ use mathlib.Core.List.{List, [], _∷_, _++_, append-assoc, append-nil}
 use mathlib.Core.Path.{_≡_, refl, sym, ap, _∙_}
 use native.Mathlib.Omega.{arith}
 use native.Mathlib.Numerals.{add-one}
-use borrow.Author.Tests.{lt-ltb, le-ltb, ltb-true, ltb-false, ne-eqb, eq-eqb}
+use borrow.Author.Tests.{lt-ltb, ltb-true, ltb-false, ne-eqb}
 use lib.Dec.{eqb, ltb, leb·suc-suc}
 use lib.ListN.{length, getD, take, drop, length-drop, drop-of-length-le, take-append-drop}
 use lib.Seq.{drop-cons, drop-drop, take-suc, take-add, length-take-le}
@@ -22,20 +22,16 @@ use Rattle.text.specs.declared.Joint.{Joint}
 use Rattle.text.specs.declared.Joint.the-variants as joints
 use Rattle.text.specs.Laid.{linesOf}
 use Rattle.text.specs.Runs.{Quiets, Run}
-use Rattle.text.specs.Walk.{byFate, gather, jointIn, joint, Joined}
+use Rattle.text.specs.Walk.{byFate, gather, jointIn, joint, ending, Fit, Joined}
 use Rattle.text.proofs.Cuts.{before-fits, lines-there, lines-none}
 use Rattle.text.proofs.Runs.{scan-quiet}
 
--- the text ends behind the LF of m - 1 lines
-unfoldable pub none : ℕ → Joint
-none m = pick (eqb m 1) joints.Nothing joints.Open
-
 -- in the midst of a line: t is read of the joined line, m lines make it so far, and f is left
 unfoldable pub mid : List ℕ → ℕ → List ℕ → Joint
-mid t m f = pick (ltb (before 10 f) (length f)) (gather (t ++ take (before 10 f) f) m (linesOf (drop (before 10 f + 1) f))) (none m)
+mid t m f = pick (ltb (before 10 f) (length f)) (gather (t ++ take (before 10 f) f) m (linesOf (drop (before 10 f + 1) f))) (ending m)
 
 mid-start : (s : List ℕ) → mid [] 1 s ≡ joint s
-unfolding mid joint none
+unfolding mid joint ending
 mid-start s =
     on (ltb (before 10 s) (length s))
     (λ p. rw (p, lines-there s (before 10 s) refl (ltb-true (before 10 s) (length s) p)))
@@ -56,7 +52,7 @@ mid-lf : (t : List ℕ) (m : ℕ) (f : List ℕ) → mid t m (10 ∷ f) ≡ gath
 unfolding mid
 mid-lf t m f = rw (lt-ltb 0 (suc (length f)) (omega arith), append-nil)
 
-mid-end : (t : List ℕ) (m : ℕ) → mid t m [] ≡ none m
+mid-end : (t : List ℕ) (m : ℕ) → mid t m [] ≡ ending m
 unfolding mid
 mid-end t m = refl
 
@@ -70,7 +66,7 @@ module _ (t : List ℕ) (m : ℕ) where
   gather-whole (l ∷ ls) e = rw e
 
   gather-more : (f : List ℕ) → 0 < m → fate (scan fresh t) ≡ Unended → gather t m (linesOf f) ≡ mid (t ++ (10 ∷ [])) (m + 1) f
-  unfolding mid none
+  unfolding mid ending
   gather-more f h e =
       on (ltb (before 10 f) (length f))
       (λ p. rw (p, lines-there f (before 10 f) refl (ltb-true (before 10 f) (length f) p), e, append-assoc))
@@ -132,12 +128,8 @@ module _ (s : List ℕ) (i m : ℕ) (x : Scan) (k : Gathering s i m x) where
           left = g;
         }
 
-    gather-byte : (y : Scan) → (getD s i 0 ≡ 10 → ⊥) → y ≡ step x (getD s i 0) → Gathering s (i + 1) m y
-    gather-byte y n e = further m y (k .some, omega (arith, k .lines)) e (rw taken (sym (mid-byte (take i s) m (getD s i 0) (drop (i + 1) s) n) ∙ here))
-
-    pub gather-past : (y : Scan) (n : ℕ) → (getD s i 0 ≡ 10 → ⊥) → y ≡ step x (getD s i 0) → Run (y .st) (take (length s - (i + 1)) (drop (i + 1) s)) n
-        → Gathering s (i + 1 + n) m y
-    gather-past y n z e p = gather-run s (i + 1) m y n (gather-byte y z e) p
+    byte-on : (y : Scan) → (getD s i 0 ≡ 10 → ⊥) → y ≡ step x (getD s i 0) → Gathering s (i + 1) m y
+    byte-on y n e = further m y (k .some, omega (arith, k .lines)) e (rw taken (sym (mid-byte (take i s) m (getD s i 0) (drop (i + 1) s) n) ∙ here))
 
     module _ (b : getD s i 0 ≡ 10) (f : Fate) (e : f ≡ fate x) where
       told : (v : Fate) → f ≡ v → fate (scan fresh (take i s)) ≡ v
@@ -146,30 +138,46 @@ module _ (s : List ℕ) (i m : ℕ) (x : Scan) (k : Gathering s i m x) where
       at-lf : gather (take i s) m (linesOf (drop (i + 1) s)) ≡ joint s
       at-lf = sym (mid-lf (take i s) m (drop (i + 1) s)) ∙ rw b at here
 
-      pub gather-on : (y : Scan) → f ≡ Unended → y ≡ step x (getD s i 0) → Gathering s (i + 1) (m + 1) y
-      gather-on y g q =
+      lf-on : (y : Scan) → f ≡ Unended → y ≡ step x (getD s i 0) → Gathering s (i + 1) (m + 1) y
+      lf-on y g q =
           further (m + 1) y (omega arith, omega (arith, k .lines)) q
           (rw (taken, b) (sym (gather-more (take i s) m (drop (i + 1) s) (k .some) (told Unended g)) ∙ at-lf))
 
-      pub over-here : f ≡ Over → Joined s joints.Over
-      over-here g = record { is = sym (gather-over (take i s) m (linesOf (drop (i + 1) s)) (told Over g)) ∙ at-lf; fit = tt }
+      lf-over : f ≡ Over → Joined s joints.Over
+      lf-over g = record { is = sym (gather-over (take i s) m (linesOf (drop (i + 1) s)) (told Over g)) ∙ at-lf; fit = tt }
 
-      pub whole-here : f ≡ Whole → Joined s (joints.Whole i m)
-      whole-here g =
+      lf-whole : f ≡ Whole → Joined s (joints.Whole i m)
+      lf-whole g =
           let l : length (take i s) ≡ i = length-take-le i s (k .high) in
           record {
             is = ap (λ (n : ℕ). joints.Whole n m) (sym l) ∙ sym (gather-whole (take i s) m (linesOf (drop (i + 1) s)) (told Whole g)) ∙ at-lf;
             fit = record { fits = h; lines = k .lines };
           }
 
-  module _ (h : length s ≤ i) where
-    out-of : none m ≡ joint s
-    out-of = sym (mid-end (take i s) m) ∙ rw (drop-of-length-le s h) at (k .left)
+  pub end-here : (r : Joint) → length s ≤ i → r ≡ ending m → Joined s r
+  unfolding ending
+  end-here r h e =
+      let f : Fit s (pick (eqb m 1) joints.Nothing joints.Open) = on (eqb m 1) (λ p. rw p tt) (λ p. rw p tt) in
+      rw e (record { is = sym (mid-end (take i s) m) ∙ rw (drop-of-length-le s h) at (k .left); fit = f })
 
-    pub nothing-here : m ≡ 1 → Joined s joints.Nothing
-    unfolding none
-    nothing-here e = record { is = rw (eq-eqb m 1 e) at out-of; fit = tt }
+-- ---- the ways on and out, each behind a run
+module _ (s : List ℕ) (i m : ℕ) (x : Scan) (k : Gathering s i m x) (n : ℕ) (p : Run (x .st) (take (length s - i) (drop i s)) n) where
+  at-run : Gathering s (i + n) m x
+  at-run = gather-run s i m x n k p
 
-    pub open-here : (m ≡ 1 → ⊥) → Joined s joints.Open
-    unfolding none
-    open-here e = record { is = rw (ne-eqb m 1 e) at out-of; fit = tt }
+  pub end-there : (r : Joint) → length s ≤ i + n → r ≡ ending m → Joined s r
+  end-there r = end-here s (i + n) m x at-run r
+
+  module _ (h : i + n < length s) where
+    pub gather-byte : (y : Scan) → (getD s (i + n) 0 ≡ 10 → ⊥) → y ≡ step x (getD s (i + n) 0) → Gathering s (i + n + 1) m y
+    gather-byte = byte-on s (i + n) m x at-run h
+
+    module _ (b : getD s (i + n) 0 ≡ 10) (f : Fate) (e : f ≡ fate x) where
+      pub gather-on : (y : Scan) → f ≡ Unended → y ≡ step x (getD s (i + n) 0) → Gathering s (i + n + 1) (m + 1) y
+      gather-on = lf-on s (i + n) m x at-run h b f e
+
+      pub over-here : f ≡ Over → Joined s joints.Over
+      over-here = lf-over s (i + n) m x at-run h b f e
+
+      pub whole-here : f ≡ Whole → Joined s (joints.Whole (i + n) m)
+      whole-here = lf-whole s (i + n) m x at-run h b f e

@@ -1,6 +1,5 @@
 -- Laying kept lines into the scratch: one law for each way on and out.
 use Prim.Native.Nat.{ℕ, zero, suc, _+_, _-_, _^_, _≤_, _<_}
-use mathlib.Core.Bool.{Bool, true, false}
 use mathlib.Core.List.{List, [], _∷_, _++_, append-assoc, append-nil}
 use mathlib.Core.Path.{_≡_, refl, sym, ap, _∙_}
 use native.Mathlib.Omega.{arith}
@@ -11,15 +10,14 @@ use mir.Syntax.{w64}
 use mir.Val.{Fits}
 use lib.Dec.{eqb, ltb}
 use lib.ListN.{length, getD, take, drop, set, length-drop, length-append, length-take, drop-of-length-le}
-use lib.Seq.{length-take-le, take-all, take-nil, take-take, take-at, drop-at, drop-drop, getD-take, drop-cons, set-at}
-use Rattle.meaning.specs.Base.{pick, before}
-use Rattle.meaning.specs.Quote.{quote, hits, upTo}
+use lib.Seq.{length-take-le, take-all, take-take, take-at, drop-at, drop-drop, getD-take, drop-cons, set-at}
+use Rattle.meaning.specs.Base.{before}
+use Rattle.meaning.specs.Quote.{upTo}
 use Rattle.meaning.specs.Lines.{dropCr, kept, physical}
 use Rattle.laws.specs.Cases.{on, picked}
 use Rattle.laws.specs.Parts.{rest-of, back-of}
 use Rattle.laws.specs.Scans.{up-to-fits}
-use Rattle.slices.specs.Found.{Found}
-use Rattle.text.specs.Laid.{flat, laid, over, ended, firstLine, laidLine, Begins, Code, Keeps, Fitting, Lays1, Lays}
+use Rattle.text.specs.Laid.{laid, over, ended, firstLine, laidLine, Begins, Fitting, Lays1, Lays}
 use Rattle.text.specs.declared.Piece.{Piece}
 use Rattle.text.proofs.Cuts.{before-fits, laid-there, laid-last}
 
@@ -54,22 +52,13 @@ module _ (s : List ℕ) (n : ℕ) where
     plain-line z e =
         record { fits = omega arith; is = rw (lt-ltb n (length s) l, ends-so z, ne-eqb (getD s (n - 1) 0) 13 e) }
 
--- ---- its kept bytes
-module _ (c : ℕ) where
-  up-short : (st m : ℕ) (s : List ℕ) → m ≤ upTo c st s → upTo c st (take m s) ≡ m
-  up-short st zero s h = refl
-  up-short st (suc m) [] h = absurd (omega arith)
-  up-short st (suc m) (b ∷ s) h =
-      on (hits c st b)
-      (λ e. absurd (omega (arith, rw e at h)))
-      (λ e. let k : suc m ≤ suc (upTo c (quote st b) s) = rw e at h in rw e (ap suc (up-short (quote st b) m s (omega arith))))
+pub line-count : (s : List ℕ) (n m : ℕ) → n ≤ length s → Begins n s m → m ≡ length (take m s)
+line-count s n m h b = sym (length-take-le m s (omega (arith, b .fits)))
 
-  up-long : (st m : ℕ) (s : List ℕ) → upTo c st s ≤ m → upTo c st (take m s) ≡ upTo c st s
-  up-long st m [] h = rw (take-nil m)
-  up-long st zero (b ∷ s) h = omega arith
-  up-long st (suc m) (b ∷ s) h =
-      on (hits c st b) (λ e. rw e)
-      (λ e. let k : suc (upTo c (quote st b) s) ≤ suc m = rw e at h in rw e (ap suc (up-long (quote st b) m s (omega arith))))
+-- ---- its kept bytes
+pub record Keeps (n : ℕ) (s : List ℕ) (r : ℕ) : Type 0 where
+  pub fits : r ≤ n
+  pub is : take r s ≡ kept (firstLine n s)
 
 pub keeps : (s : List ℕ) (n m r : ℕ) → n ≤ length s → Begins n s m → r ≡ upTo 35 0 (take m s) → Keeps n s r
 unfolding kept
@@ -80,20 +69,6 @@ keeps s n m r h b e =
       fits = omega (arith, b .fits);
       is = sym (rw (← (b .is), ← e) (take-take r m s f));
     }
-
-module _ (s : List ℕ) (n e m : ℕ) (f : Found 10 s n) (c : Code s e) (b : Begins n s m) where
-  code-is : e ≡ upTo 35 0 (take n s)
-  code-is = rw (f .is) (c .is)
-
-  part-is : take m (take n s) ≡ take m s
-  part-is = take-take m n s (b .fits)
-
-  -- the line has no comment, and the CR goes
-  pub keeps-line : m < e → Keeps n s m
-  keeps-line l = keeps s n m m (f .fits) b (sym (rw part-is at (up-short 35 0 m (take n s) (omega (arith, code-is)))))
-
-  pub keeps-code : e ≤ m → Keeps n s e
-  keeps-code l = keeps s n m e (f .fits) b (code-is ∙ sym (rw part-is at (up-long 35 0 m (take n s) (omega (arith, code-is)))))
 
 -- ---- a line and its LF
 pub put : (l o d : List ℕ) → length l < length o → d ≡ l ++ drop (length l) o → set d (length l) 10 ≡ over (ended l) o
@@ -148,8 +123,11 @@ laid-short (suc k) s h = go s h (laid-short k)
         let a : length (l ++ (10 ∷ [])) ≡ length l + 1 = length-append l (10 ∷ []) in
         rw (laid-last (b ∷ s) n refl m (omega arith)) (omega (arith, first-fits n (b ∷ s) (before-fits 10 (b ∷ s)))))
 
--- ---- one line of n bytes, of which k are kept
-module _ (s o : List ℕ) (n k : ℕ) (e : n ≡ before 10 s) (h : n ≤ length s) (p : Keeps n s k) where
+-- ---- one line of n bytes, m without a CR before LF, of which k are kept
+module _ (s o : List ℕ) (n m k : ℕ) (e : n ≡ before 10 s) (h : n ≤ length s) (b : Begins n s m) (g : k ≡ upTo 35 0 (take m s)) where
+  p : Keeps n s k
+  p = keeps s n m k h b g
+
   pub kept-count : k ≡ length (take k s)
   kept-count = sym (length-take-le k s (omega (arith, p .fits)))
 
@@ -173,6 +151,9 @@ module _ (s o : List ℕ) (n k : ℕ) (e : n ≡ before 10 s) (h : n ≤ length 
       on (ltb n (length s))
       (λ q. omega (arith, ap length (goes-there (ltb-true n (length s) q)), length-append (laidLine s) (laid (drop (n + 1) s)), line-size, kept-count))
       (λ q. omega (arith, ap length (goes-last (ltb-false n (length s) q) z), length-append (laidLine s) (laid (drop n s)), line-size, kept-count))
+
+  pub line-within : 0 < length s → length (laid s) ≤ length o → length o < 2 ^ 64 → Fits w64 (k + 1)
+  line-within z r w = record { fits = lt-of-le-of-lt (omega (arith, line-room z r, kept-count)) w }
 
   module _ (o' : List ℕ) (q : o' ≡ over (ended (take k s)) o) where
     pub piece-there : n < length s → Lays1 s o o' (record { taken = n + 1; written = k + 1 })

@@ -1,7 +1,6 @@
 pub mod Scans
 pub mod Runs
 pub mod Cuts
-pub mod Coding
 pub mod Laying
 pub mod Joining
 pub mod Walking

@@ -15,26 +15,25 @@ use Rattle.text.specs.Runs.{Quiet, Quiets, Run}
 
 -- ---- which bytes are quiet
 module _ (st b : ℕ) (z : st ≡ 0) where
-  bare : (b ≡ 10 → ⊥) → (b ≡ 34 → ⊥) → (b ≡ 35 → ⊥) → (b ≡ 91 → ⊥) → (b ≡ 93 → ⊥) → Quiet st b
+  bare : (b ≡ 10 → ⊥) → (b ≡ 34 → ⊥) → (b ≡ 91 → ⊥) → (b ≡ 93 → ⊥) → Quiet st b
   unfolding quote hits
-  bare l q c o k = record {
+  bare l q o k = record {
     line = l;
     same = rw (z, ne-eqb b 34 q);
-    comment = rw (z, ne-eqb b 35 c);
     opens = rw (z, ne-eqb b 91 o);
     closes = rw (z, ne-eqb b 93 k);
   }
 
   pub bare-space : b ≡ 32 → true ≡ true → Quiet st b
-  bare-space h e = bare (λ q. omega arith) (λ q. omega arith) (λ q. omega arith) (λ q. omega arith) (λ q. omega arith)
+  bare-space h e = bare (λ q. omega arith) (λ q. omega arith) (λ q. omega arith) (λ q. omega arith)
 
   pub bare-high : 93 < b → true ≡ true → Quiet st b
-  bare-high h e = bare (λ q. omega arith) (λ q. omega arith) (λ q. omega arith) (λ q. omega arith) (λ q. omega arith)
+  bare-high h e = bare (λ q. omega arith) (λ q. omega arith) (λ q. omega arith) (λ q. omega arith)
 
   pub bare-low : 35 < b → ltb b 91 ≡ true → Quiet st b
   bare-low h e =
       let l : b < 91 = ltb-true b 91 e in
-      bare (λ q. omega arith) (λ q. omega arith) (λ q. omega arith) (λ q. omega arith) (λ q. omega arith)
+      bare (λ q. omega arith) (λ q. omega arith) (λ q. omega arith) (λ q. omega arith)
 
 module _ (st b : ℕ) (z : st ≡ 1) where
   held : (b ≡ 10 → ⊥) → (b ≡ 34 → ⊥) → (b ≡ 92 → ⊥) → Quiet st b
@@ -42,7 +41,6 @@ module _ (st b : ℕ) (z : st ≡ 1) where
   held l q k = record {
     line = l;
     same = rw (z, ne-eqb b 92 k, ne-eqb b 34 q);
-    comment = rw z;
     opens = rw z;
     closes = rw z;
   }

@@ -1,16 +1,21 @@
 -- The string state along a text: what each loop keeps, and one law for each way on and out.
 use Prim.Native.Nat.{ℕ, suc, _+_, _-_, _≤_, _<_}
-use mathlib.Core.List.{List}
-use mathlib.Core.Path.{_≡_, refl}
+use mathlib.Core.Bool.{false}
+use mathlib.Core.List.{List, [], _∷_}
+use mathlib.Core.Path.{_≡_, refl, sym, ap, _∙_}
 use native.Mathlib.Omega.{arith}
 use native.Mathlib.Numerals.{add-one}
 use borrow.Author.Tests.{eq-eqb, ne-eqb}
+use lib.Dec.{eqb}
 use lib.ListN.{length, getD, take, drop, length-drop, drop-of-length-le}
 use lib.Seq.{drop-cons, drop-drop}
 use Rattle.meaning.specs.declared.Scan.{Scan}
+use Rattle.meaning.specs.Base.{pick, before}
 use Rattle.meaning.specs.Quote.{quote, hits, tally, step, scan, fresh, upTo}
+use Rattle.laws.specs.Cases.{on}
 use Rattle.laws.specs.Parts.{rest-of}
 use Rattle.laws.specs.Scans.{step-opens, step-closes}
+use Rattle.slices.specs.Found.{Found}
 use Rattle.text.specs.Runs.{Quoted}
 
 pub step-is : (c : Scan) (b n o k : ℕ) → n ≡ quote (c .st) b → o ≡ tally 91 (c .st) b (c .opens) → k ≡ tally 93 (c .st) b (c .closes)
@@ -106,3 +111,17 @@ module _ (s : List ℕ) (c i : ℕ) (k : Seeking s c i) where
   seek-end h =
       let t : upTo c 0 (drop i s) ≡ 0 = rw (drop-of-length-le s h) in
       omega (arith, k .left)
+
+-- a list without c has none outside a string
+seek-none : (c st : ℕ) (s : List ℕ) → before c s ≡ length s → length s ≡ upTo c st s
+unfolding hits
+seek-none c st [] h = refl
+seek-none c st (b ∷ s) h =
+    on (eqb b c) (λ e. absurd (omega (arith, rw e at h)))
+    (λ e.
+    let k : suc (before c s) ≡ suc (length s) = rw e at h in
+    let n : pick (eqb st 0) (eqb b c) false ≡ false = on (eqb st 0) (λ z. rw (z, e)) (λ z. rw z) in
+    rw n (ap suc (seek-none c (quote st b) s (omega arith))))
+
+pub found-none : (c : ℕ) (s : List ℕ) (n : ℕ) → Found c s n → n ≡ length s → length s ≡ upTo c 0 s
+found-none c s n f e = seek-none c 0 s (sym (f .is) ∙ e)

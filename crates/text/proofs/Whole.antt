@@ -22,10 +22,10 @@ use Rattle.text.specs.declared.Checked.{Checked}
 use Rattle.text.specs.declared.Checked.the-variants as checks
 use Rattle.text.specs.declared.Reading.{Reading}
 use Rattle.text.specs.declared.Reading.the-variants as readings
-use Rattle.text.specs.Laid.{linesOf, laid, over, firstLine, Begins, Keeps, Lays}
+use Rattle.text.specs.Laid.{linesOf, laid, over, firstLine, Begins, Lays}
 use Rattle.text.specs.Answers.{answerOf, checkedOf, counted, measured, Most, Between, Checks, Small, Roomy, Reads}
 use Rattle.text.proofs.Cuts.{before-fits, physical-there, physical-last, laid-there, laid-last, lines-there, lines-none}
-use Rattle.text.proofs.Laying.{whole-line, empty-line, cr-line, plain-line, keeps, laid-short}
+use Rattle.text.proofs.Laying.{whole-line, empty-line, cr-line, plain-line, Keeps, keeps, laid-short}
 
 -- ---- no LF stands in a kept line
 record Kept (n : ℕ) (s : List ℕ) : Type 0 where

@@ -6,7 +6,6 @@ use mathlib.Core.Path.{_≡_}
 use lib.Dec.{ltb}
 use lib.ListN.{length, getD, take, drop}
 use Rattle.meaning.specs.Base.{pick, before, cut}
-use Rattle.meaning.specs.Quote.{upTo}
 use Rattle.meaning.specs.Lines.{dropCr, physical, kept, keptLines}
 use Rattle.text.specs.declared.Piece.{Piece}
 
@@ -44,17 +43,6 @@ ended l = l ++ (10 ∷ [])
 pub record Begins (n : ℕ) (s : List ℕ) (r : ℕ) : Type 0 where
   pub fits : r ≤ n
   pub is : take r s ≡ firstLine n s
-
--- the first line of s has r bytes before its comment, or before its LF or the end of s where there is none
-pub record Code (s : List ℕ) (r : ℕ) : Type 0 where
-  pub high : r ≤ length s
-  pub fits : r ≤ before 10 s
-  pub is : r ≡ upTo 35 0 (take (before 10 s) s)
-
--- its first r bytes are kept
-pub record Keeps (n : ℕ) (s : List ℕ) (r : ℕ) : Type 0 where
-  pub fits : r ≤ n
-  pub is : take r s ≡ kept (firstLine n s)
 
 -- the first line of s as it is laid
 unfoldable pub laidLine : List ℕ → List ℕ

@@ -6,11 +6,10 @@ use mathlib.Core.Path.{_≡_}
 use lib.ListN.{length, take, drop}
 use Rattle.meaning.specs.Quote.{quote, hits, upTo}
 
--- in string state st the byte b ends no line, begins no comment, opens and closes nothing
+-- in string state st the byte b ends no line, opens and closes nothing
 pub record Quiet (st b : ℕ) : Type 0 where
   pub line : b ≡ 10 → ⊥
   pub same : quote st b ≡ st
-  pub comment : hits 35 st b ≡ false
   pub opens : hits 91 st b ≡ false
   pub closes : hits 93 st b ≡ false
 

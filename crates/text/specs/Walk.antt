@@ -3,7 +3,7 @@ use Prim.Native.Nat.{ℕ, _+_, _≤_, _<_}
 use mathlib.Core.Bool.{Bool, false}
 use mathlib.Core.List.{List, [], _∷_, _++_}
 use mathlib.Core.Path.{_≡_}
-use lib.Dec.{ltb}
+use lib.Dec.{eqb, ltb}
 use lib.ListN.{length, drop}
 use Rattle.meaning.specs.declared.Fate.{Fate}
 use Rattle.meaning.specs.declared.Fate.the-variants.{Over, Unended, Whole}
@@ -37,6 +37,10 @@ jointIn (l ∷ ls) = gather l 1 ls
 
 unfoldable pub joint : List ℕ → Joint
 joint s = jointIn (linesOf s)
+
+-- a text that ends behind the LFs of m - 1 lines
+unfoldable pub ending : ℕ → Joint
+ending m = pick (eqb m 1) joints.Nothing joints.Open
 
 -- the same, told by the place where it starts and the number n of its first line
 abbrev pub placed : ℕ → ℕ → Joint → Next

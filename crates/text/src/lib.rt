@@ -10,8 +10,7 @@ ghost use lib.ListN.{length};
 ghost use Rattle.meaning.specs.Quote as quotes;
 ghost use Rattle.meaning.specs.Lines as meant;
 ghost use Rattle.meaning.specs.Values as values;
-ghost use Rattle.slices.specs.Found.{Found};
-ghost use Rattle.text.specs.Laid.{Begins, Code, Keeps, Fitting, Lays1, Lays, Bare, Bares, laid, ended, over};
+ghost use Rattle.text.specs.Laid.{Begins, Fitting, Lays1, Lays, Bare, Bares, laid, ended, over};
 ghost use Rattle.text.specs.Walk as walk;
 ghost use Rattle.text.specs.Answers.{Between, Checks, Roomy, Reads};
 ghost use Rattle.text.specs.Item.{Item};
@@ -282,44 +281,14 @@ fn line_bytes(s: &[u8], n: usize) -> usize
     n
 }
 
-// How many bytes of the first line of s stand before its comment or its LF, or all of s. A string does not go on behind the LF.
-fn code(s: &[u8]) -> usize
-    ensures { λ r. ⌜ Code (now (s .entry)) r ⌝ }
+// How many bytes of a line stand before its comment, or all of them. Most lines have no `#`, and a search for one is quick.
+fn kept(line: &[u8]) -> usize
+    ensures { λ r. ⌜ r ≡ quotes.upTo 35 0 (now (line .entry)) ⌝ }
 {
-    let mut i = 0;
-    let mut st: u8 = 0;
-    while i < s.len() {
-        let b = s[i];
-        if b == 10 {
-            return i;
-        }
-        if hits(35, st, b) {
-            return i;
-        }
-        st = quote(st, b);
-        i += 1;
-        let n = run(&s[i..], st);
-        i += n;
+    if slices::find(line, 35) == line.len() {
+        return line.len();
     }
-    i
-}
-
-// How many bytes stand before the LF of that line, or all of s; it is not among the e bytes of its code.
-fn line_end(s: &[u8], e: usize) -> usize
-    requires { ⌜ Code (now s) e ⌝ }
-    ensures { λ r. ⌜ Found 10 (now (s .entry)) r ⌝ }
-{
-    let d = slices::find(&s[e..], 10);
-    e + d
-}
-
-// How many bytes of that line are kept: those before its comment.
-fn keep(s: &[u8], n: usize, e: usize) -> usize
-    requires { ⌜ (Found 10 (now s) n) × (Code (now s) e) ⌝ }
-    ensures { λ r. ⌜ Keeps n (now (s .entry)) r ⌝ }
-{
-    let m = line_bytes(s, n);
-    if m < e { m } else { e }
+    outside(line, 35)
 }
 
 // Lays a line and an LF at the head of out.
@@ -337,9 +306,9 @@ fn lay_line(rest: &[u8], out: &mut [u8]) -> Piece
     requires { ⌜ Fitting (now rest) (now out) ⌝ }
     ensures { λ r. ⌜ Lays1 (now (rest .entry)) (now (out .entry)) (now (out .exit)) r ⌝ }
 {
-    let e = code(rest);
-    let n = line_end(rest, e);
-    let k = keep(rest, n, e);
+    let n = slices::find(rest, 10);
+    let m = line_bytes(rest, n);
+    let k = kept(&rest[..m]);
     put_line(&rest[..k], out);
     if n < rest.len() {
         return Piece {
@@ -408,6 +377,16 @@ pub fn clean(s: &[u8]) -> bool
     false
 }
 
+// What a text comes to that ends behind the LFs of m - 1 lines.
+fn ending(m: usize) -> Joint
+    ensures { λ r. ⌜ r ≡ walk.ending m ⌝ }
+{
+    if m == 1 {
+        return Joint::Nothing;
+    }
+    Joint::Open
+}
+
 // What the joined line at the head of a laid text comes to: the state is carried onward, so each byte is looked at once.
 fn join_line(s: &[u8]) -> Joint
     ensures { λ r. ⌜ walk.Joined (now (s .entry)) r ⌝ }
@@ -420,6 +399,11 @@ fn join_line(s: &[u8]) -> Joint
         closes: 0,
     };
     while i < s.len() {
+        let n = run(&s[i..], c.st);
+        i += n;
+        if s.len() <= i {
+            return ending(m);
+        }
         let b = s[i];
         if b == 10 {
             let f = fate(c);
@@ -439,14 +423,9 @@ fn join_line(s: &[u8]) -> Joint
         } else {
             c = step(c, b);
             i += 1;
-            let n = run(&s[i..], c.st);
-            i += n;
         }
     }
-    if m == 1 {
-        return Joint::Nothing;
-    }
-    Joint::Open
+    ending(m)
 }
 
 // Whether a line that begins with b is surely not blank.

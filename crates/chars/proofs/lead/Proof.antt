@@ -1,19 +1,48 @@
+use Prim.Native.Nat.{_-_}
 use borrow.Author.Needs.{needs}
-use Rattle.chars.proofs.Ends.{lead-none, lead-space}
+use lib.ListN.{length}
+use Rattle.chars.specs.Trimmed.{Starting}
+use Rattle.chars.proofs.Ends.{lead-none, lead-on}
 use Rattle.chars.proofs.lead.Statement.{statement}
 use Rattle.chars.proofs.lead.Tie as tie
 
-returns : tie.Need-returns
-returns c = search (needs, lead-none)
+abbrev Inv-loop : tie.InvT-loop
+Inv-loop s i₀ i = Starting s i
 
-shared-slice-read-if2 : tie.Need-shared-slice-read-if2
-shared-slice-read-if2 c = search needs
+abbrev μ-loop : tie.MeasureT-loop
+μ-loop s i₀ i = length s - i
 
-returns-2 : tie.Need-returns-2
-returns-2 c = search (needs, lead-space)
+loop-holds : tie.Need-loop-holds Inv-loop μ-loop
+loop-holds c = search (needs, lead-none)
 
-returns-3 : tie.Need-returns-3
-returns-3 c = search (needs, lead-none)
+shared-slice-read-if1 : tie.Need-shared-slice-read-if1 Inv-loop μ-loop
+shared-slice-read-if1 c = search needs
+
+returns : tie.Need-returns Inv-loop μ-loop
+returns c = search needs
+
+add-i : tie.Need-add-i Inv-loop μ-loop
+add-i c = search needs
+
+loop-less : tie.Need-loop-less Inv-loop μ-loop
+loop-less c = search needs
+
+loop-again : tie.Need-loop-again Inv-loop μ-loop
+loop-again c = search (needs, lead-on)
+
+returns-2 : tie.Need-returns-2 Inv-loop μ-loop
+returns-2 c = search needs
 
 pub lead-spec : {M : Type 1} → statement M
-lead-spec = tie.close (tie.spec returns shared-slice-read-if2 returns-2 returns-3)
+lead-spec =
+    tie.close
+    (tie.spec
+    Inv-loop
+    μ-loop
+    loop-holds
+    shared-slice-read-if1
+    returns
+    add-i
+    loop-less
+    loop-again
+    returns-2)

@@ -1,27 +1,51 @@
 use borrow.Author.Needs.{needs}
+use Rattle.chars.specs.Trimmed.{Ending}
 use Rattle.chars.proofs.Spaces.{ending-start}
-use Rattle.chars.proofs.Ends.{tail-space}
+use Rattle.chars.proofs.Ends.{tail-on}
 use Rattle.chars.proofs.tail.Statement.{statement}
 use Rattle.chars.proofs.tail.Tie as tie
 
-returns : tie.Need-returns
-returns c = search (needs, ending-start)
+abbrev Inv-loop : tie.InvT-loop
+Inv-loop s e₀ e = Ending s e
 
-sub-if2 : tie.Need-sub-if2
-sub-if2 c = search needs
+abbrev μ-loop : tie.MeasureT-loop
+μ-loop s e₀ e = e
 
-shared-slice-read-if2 : tie.Need-shared-slice-read-if2
-shared-slice-read-if2 c = search needs
+loop-holds : tie.Need-loop-holds Inv-loop μ-loop
+loop-holds c = search (needs, ending-start)
 
-sub-result : tie.Need-sub-result
-sub-result c = search needs
+sub-if1 : tie.Need-sub-if1 Inv-loop μ-loop
+sub-if1 c = search needs
 
-returns-2 : tie.Need-returns-2
-returns-2 c = search (needs, tail-space)
+shared-slice-read-if1 : tie.Need-shared-slice-read-if1 Inv-loop μ-loop
+shared-slice-read-if1 c = search needs
 
-returns-3 : tie.Need-returns-3
-returns-3 c = search (needs, ending-start)
+returns : tie.Need-returns Inv-loop μ-loop
+returns c = search needs
+
+sub-e : tie.Need-sub-e Inv-loop μ-loop
+sub-e c = search needs
+
+loop-less : tie.Need-loop-less Inv-loop μ-loop
+loop-less c = search needs
+
+loop-again : tie.Need-loop-again Inv-loop μ-loop
+loop-again c = search (needs, tail-on)
+
+returns-2 : tie.Need-returns-2 Inv-loop μ-loop
+returns-2 c = search needs
 
 pub tail-spec : {M : Type 1} → statement M
 tail-spec =
-    tie.close (tie.spec returns sub-if2 shared-slice-read-if2 sub-result returns-2 returns-3)
+    tie.close
+    (tie.spec
+    Inv-loop
+    μ-loop
+    loop-holds
+    sub-if1
+    shared-slice-read-if1
+    returns
+    sub-e
+    loop-less
+    loop-again
+    returns-2)

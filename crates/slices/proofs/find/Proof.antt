@@ -1,15 +1,19 @@
 use borrow.Author.Needs.{needs}
-use Rattle.slices.proofs.Bytes.{Finding, find-on, find-hit, find-end}
+use Rattle.slices.proofs.Bytes.{find-on, find-hit, find-end}
 use lib.ListN.{length}
+use Rattle.slices.specs.Found.{Passed}
 use Prim.Native.Nat.{_-_}
 use Rattle.slices.proofs.find.Statement.{statement}
 use Rattle.slices.proofs.find.Tie as tie
 
 abbrev Inv-loop : tie.InvT-loop
-Inv-loop s c i₀ i = Finding s c i
+Inv-loop s c i₀ i = Passed c s i
 
 abbrev μ-loop : tie.MeasureT-loop
 μ-loop s c i₀ i = length s - i
+
+past-requires : tie.Need-past-requires Inv-loop μ-loop
+past-requires c κs = search needs
 
 loop-holds : tie.Need-loop-holds Inv-loop μ-loop
 loop-holds c = search needs
@@ -38,6 +42,7 @@ find-spec =
     (tie.spec
     Inv-loop
     μ-loop
+    past-requires
     loop-holds
     shared-slice-read-if1
     returns

@@ -1,7 +1,7 @@
-use borrow.Author.Needs.{needs}
-use Rattle.text.proofs.Joining.{Gathering, gather-start, gather-past, gather-on, over-here, whole-here, nothing-here, open-here}
-use lib.ListN.{length}
 use Prim.Native.Nat.{_-_}
+use borrow.Author.Needs.{needs}
+use lib.ListN.{length}
+use Rattle.text.proofs.Joining.{Gathering, gather-start, end-there, gather-byte, gather-on, over-here, whole-here, end-here}
 use Rattle.text.proofs.join_line.Statement.{statement}
 use Rattle.text.proofs.join_line.Tie as tie
 
@@ -13,48 +13,6 @@ abbrev μ-loop : tie.MeasureT-loop
 
 loop-holds : tie.Need-loop-holds Inv-loop μ-loop
 loop-holds c = search (needs, gather-start)
-
-shared-slice-read-b : tie.Need-shared-slice-read-b Inv-loop μ-loop
-shared-slice-read-b c = search needs
-
-fate-requires : tie.Need-fate-requires Inv-loop μ-loop
-fate-requires c κs = search needs
-
-enum-told : tie.Need-enum-told Inv-loop μ-loop
-enum-told c = search needs
-
-returns : tie.Need-returns Inv-loop μ-loop
-returns c = search (needs, over-here)
-
-enum-told-2 : tie.Need-enum-told-2 Inv-loop μ-loop
-enum-told-2 c = search needs
-
-returns-2 : tie.Need-returns-2 Inv-loop μ-loop
-returns-2 c = search (needs, whole-here)
-
-enum-told-3 : tie.Need-enum-told-3 Inv-loop μ-loop
-enum-told-3 c = search needs
-
-add-m : tie.Need-add-m Inv-loop μ-loop
-add-m c = search needs
-
-step-requires : tie.Need-step-requires Inv-loop μ-loop
-step-requires c κs = search needs
-
-add-i : tie.Need-add-i Inv-loop μ-loop
-add-i c = search needs
-
-loop-less : tie.Need-loop-less Inv-loop μ-loop
-loop-less c = search needs
-
-loop-again : tie.Need-loop-again Inv-loop μ-loop
-loop-again c = search (needs, gather-on)
-
-step-requires-2 : tie.Need-step-requires-2 Inv-loop μ-loop
-step-requires-2 c κs = search needs
-
-add-i-2 : tie.Need-add-i-2 Inv-loop μ-loop
-add-i-2 c = search needs
 
 sub-run : tie.Need-sub-run Inv-loop μ-loop
 sub-run c = search needs
@@ -68,6 +26,54 @@ part-run-end c = search needs
 run-requires : tie.Need-run-requires Inv-loop μ-loop
 run-requires c κs = search needs
 
+add-i : tie.Need-add-i Inv-loop μ-loop
+add-i c = search needs
+
+ending-requires : tie.Need-ending-requires Inv-loop μ-loop
+ending-requires c κs = search needs
+
+returns : tie.Need-returns Inv-loop μ-loop
+returns c = search (needs, end-there)
+
+shared-slice-read-b : tie.Need-shared-slice-read-b Inv-loop μ-loop
+shared-slice-read-b c = search needs
+
+fate-requires : tie.Need-fate-requires Inv-loop μ-loop
+fate-requires c κs = search needs
+
+enum-told : tie.Need-enum-told Inv-loop μ-loop
+enum-told c = search needs
+
+returns-2 : tie.Need-returns-2 Inv-loop μ-loop
+returns-2 c = search (needs, over-here)
+
+enum-told-2 : tie.Need-enum-told-2 Inv-loop μ-loop
+enum-told-2 c = search needs
+
+returns-3 : tie.Need-returns-3 Inv-loop μ-loop
+returns-3 c = search (needs, whole-here)
+
+enum-told-3 : tie.Need-enum-told-3 Inv-loop μ-loop
+enum-told-3 c = search needs
+
+add-m : tie.Need-add-m Inv-loop μ-loop
+add-m c = search needs
+
+step-requires : tie.Need-step-requires Inv-loop μ-loop
+step-requires c κs = search needs
+
+add-i-2 : tie.Need-add-i-2 Inv-loop μ-loop
+add-i-2 c = search needs
+
+loop-less : tie.Need-loop-less Inv-loop μ-loop
+loop-less c = search needs
+
+loop-again : tie.Need-loop-again Inv-loop μ-loop
+loop-again c = search (needs, gather-on)
+
+step-requires-2 : tie.Need-step-requires-2 Inv-loop μ-loop
+step-requires-2 c κs = search needs
+
 add-i-3 : tie.Need-add-i-3 Inv-loop μ-loop
 add-i-3 c = search needs
 
@@ -75,13 +81,13 @@ loop-less-2 : tie.Need-loop-less-2 Inv-loop μ-loop
 loop-less-2 c = search needs
 
 loop-again-2 : tie.Need-loop-again-2 Inv-loop μ-loop
-loop-again-2 c = search (needs, gather-past)
+loop-again-2 c = search (needs, gather-byte)
 
-returns-3 : tie.Need-returns-3 Inv-loop μ-loop
-returns-3 c = search (needs, nothing-here)
+ending-requires-2 : tie.Need-ending-requires-2 Inv-loop μ-loop
+ending-requires-2 c κs = search needs
 
 returns-4 : tie.Need-returns-4 Inv-loop μ-loop
-returns-4 c = search (needs, open-here)
+returns-4 c = search (needs, end-here)
 
 pub join-line-spec : {M : Type 1} → statement M
 join-line-spec =
@@ -90,26 +96,28 @@ join-line-spec =
     Inv-loop
     μ-loop
     loop-holds
-    shared-slice-read-b
-    fate-requires
-    enum-told
-    returns
-    enum-told-2
-    returns-2
-    enum-told-3
-    add-m
-    step-requires
-    add-i
-    loop-less
-    loop-again
-    step-requires-2
-    add-i-2
     sub-run
     part-run-start
     part-run-end
     run-requires
+    add-i
+    ending-requires
+    returns
+    shared-slice-read-b
+    fate-requires
+    enum-told
+    returns-2
+    enum-told-2
+    returns-3
+    enum-told-3
+    add-m
+    step-requires
+    add-i-2
+    loop-less
+    loop-again
+    step-requires-2
     add-i-3
     loop-less-2
     loop-again-2
-    returns-3
+    ending-requires-2
     returns-4)

@@ -1,0 +1,19 @@
+use borrow.Author.Needs.{needs}
+use Rattle.text.proofs.Scans.{found-none}
+use Rattle.text.proofs.kept.Statement.{statement}
+use Rattle.text.proofs.kept.Tie as tie
+
+find-requires : tie.Need-find-requires
+find-requires c κs = search needs
+
+returns : tie.Need-returns
+returns c = search (needs, found-none)
+
+outside-requires : tie.Need-outside-requires
+outside-requires c κs = search needs
+
+returns-2 : tie.Need-returns-2
+returns-2 c = search needs
+
+pub kept-spec : {M : Type 1} → statement M
+kept-spec = tie.close (tie.spec find-requires returns outside-requires returns-2)
