@@ -1,19 +1,24 @@
 -- Quiet bytes: which there are, and that a pass may leave them out.
 use Prim.Native.Nat.{ℕ, _+_, _<_}
-use mathlib.Core.Bool.{Bool, true}
+use mathlib.Core.Bool.{Bool, true, not}
 use mathlib.Core.List.{List, [], _∷_, _++_}
-use mathlib.Core.Path.{_≡_, refl}
+use mathlib.Core.Path.{_≡_, refl, ap, _∙_}
 use native.Mathlib.Omega.{arith}
 use native.Mathlib.Numerals.{add-one}
-use borrow.Author.Tests.{ne-eqb, eqb-true, ltb-true}
-use lib.Dec.{eqb, ltb}
+use borrow.Author.Tests.{ne-eqb}
 use lib.ListN.{length, getD, take}
 use lib.Seq.{take-suc}
 use Rattle.meaning.specs.declared.Scan.{Scan}
 use Rattle.meaning.specs.Quote.{quote, hits, tally, step, scan}
-use Rattle.text.specs.Runs.{Quiet, Quiets, Run}
+use Rattle.laws.specs.Cases.{never}
+use Rattle.text.specs.Runs.{marked, Quiet, Quiets, Run}
 
 -- ---- which bytes are quiet
+
+-- a byte whose bit is down is none of those whose bits are up
+unmarked : (set b : ℕ) (r : Bool) → r ≡ marked set b → not r ≡ true → (n : ℕ) → marked set n ≡ true → b ≡ n → ⊥
+unmarked set b r e h n m q = let t : r ≡ true = rw q at e ∙ m in never {b = not r} h (ap not t)
+
 module _ (st b : ℕ) (z : st ≡ 0) where
   bare : (b ≡ 10 → ⊥) → (b ≡ 34 → ⊥) → (b ≡ 91 → ⊥) → (b ≡ 93 → ⊥) → Quiet st b
   unfolding quote hits
@@ -24,16 +29,11 @@ module _ (st b : ℕ) (z : st ≡ 0) where
     closes = rw (z, ne-eqb b 93 k);
   }
 
-  pub bare-space : b ≡ 32 → true ≡ true → Quiet st b
-  bare-space h e = bare (λ q. omega arith) (λ q. omega arith) (λ q. omega arith) (λ q. omega arith)
-
-  pub bare-high : 93 < b → true ≡ true → Quiet st b
-  bare-high h e = bare (λ q. omega arith) (λ q. omega arith) (λ q. omega arith) (λ q. omega arith)
-
-  pub bare-low : 35 < b → ltb b 91 ≡ true → Quiet st b
-  bare-low h e =
-      let l : b < 91 = ltb-true b 91 e in
-      bare (λ q. omega arith) (λ q. omega arith) (λ q. omega arith) (λ q. omega arith)
+  pub bare-quiet : (r : Bool) → r ≡ marked 0x428000400 b → not r ≡ true → Quiet st b
+  bare-quiet r e h = bare (stops 10 refl) (stops 34 refl) (stops 91 refl) (stops 93 refl)
+    where
+      stops : (n : ℕ) → marked 0x428000400 n ≡ true → b ≡ n → ⊥
+      stops = unmarked 0x428000400 b r e h
 
 module _ (st b : ℕ) (z : st ≡ 1) where
   held : (b ≡ 10 → ⊥) → (b ≡ 34 → ⊥) → (b ≡ 92 → ⊥) → Quiet st b
@@ -45,14 +45,11 @@ module _ (st b : ℕ) (z : st ≡ 1) where
     closes = rw z;
   }
 
-  pub held-space : eqb b 32 ≡ true → Quiet st b
-  held-space e = let h : b ≡ 32 = eqb-true b 32 e in held (λ q. omega arith) (λ q. omega arith) (λ q. omega arith)
-
-  pub held-high : 92 < b → true ≡ true → Quiet st b
-  held-high h e = held (λ q. omega arith) (λ q. omega arith) (λ q. omega arith)
-
-  pub held-low : 34 < b → ltb b 92 ≡ true → Quiet st b
-  held-low h e = let l : b < 92 = ltb-true b 92 e in held (λ q. omega arith) (λ q. omega arith) (λ q. omega arith)
+  pub held-quiet : (r : Bool) → r ≡ marked 0x410000400 b → not r ≡ true → Quiet st b
+  held-quiet r e h = held (stops 10 refl) (stops 34 refl) (stops 92 refl)
+    where
+      stops : (n : ℕ) → marked 0x410000400 n ≡ true → b ≡ n → ⊥
+      stops = unmarked 0x410000400 b r e h
 
 -- ---- a run of them
 quiets-more : (st : ℕ) (s : List ℕ) (b : ℕ) → Quiets st s → Quiet st b → Quiets st (s ++ (b ∷ []))

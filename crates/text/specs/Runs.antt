@@ -1,8 +1,9 @@
 -- Bytes that a pass over a text need not look at one by one.
-use Prim.Native.Nat.{ℕ, _+_, _≤_}
-use mathlib.Core.Bool.{false}
+use Prim.Native.Nat.{ℕ, _+_, _/_, _%_, _^_, _≤_}
+use mathlib.Core.Bool.{Bool, false}
 use mathlib.Core.List.{List, [], _∷_}
 use mathlib.Core.Path.{_≡_}
+use lib.Dec.{eqb}
 use lib.ListN.{length, take, drop}
 use Rattle.meaning.specs.Quote.{quote, hits, upTo}
 
@@ -12,6 +13,10 @@ pub record Quiet (st b : ℕ) : Type 0 where
   pub same : quote st b ≡ st
   pub opens : hits 91 st b ≡ false
   pub closes : hits 93 st b ≡ false
+
+-- the bit of b's number modulo 64 is up in a set of 64
+abbrev pub marked : ℕ → ℕ → Bool
+marked set b = eqb (set / 2 ^ (b % 64) % 2) 1
 
 abbrev pub Quiets : ℕ → List ℕ → Type 0
 Quiets st [] = Unit

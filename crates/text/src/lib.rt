@@ -14,6 +14,7 @@ ghost use Rattle.text.specs.Laid.{Begins, Fitting, Lays1, Lays, Bare, Ba
 ghost use Rattle.text.specs.Walk as walk;
 ghost use Rattle.text.specs.Answers.{Between, Checks, Roomy, Reads};
 ghost use Rattle.text.specs.Item.{Item};
+ghost use Rattle.text.specs.Runs as runs;
 ghost use Rattle.text.specs.Runs.{Quiet, Run, Quoted};
 
 // A place between joined lines of a laid text: an offset, and the number of the line there.
@@ -118,30 +119,28 @@ fn step(c: Scan, b: u8) -> Scan
     }
 }
 
-// Whether b is surely one that a pass may leave out. Most bytes are letters, digits and spaces.
+// Bytes that a pass outside a string stops at, as bits at their numbers modulo 64: LF, `"`, `[` and `]`.
+const OUTSIDE: u64 = 0x428000400;
+
+// The same inside a string: LF, `"` and `\`.
+const INSIDE: u64 = 0x410000400;
+
+// Whether the bit of b's number modulo 64 is up.
+fn marked(set: u64, b: u8) -> bool
+    ensures { λ r. ⌜ r ≡ runs.marked set b ⌝ }
+{
+    (set >> (b % 64)) % 2 == 1
+}
+
+// Whether b is surely one that a pass may leave out: a few more share the bit of one that it stops at.
 fn quiet(st: u8, b: u8) -> bool
     ensures { λ r. ⌜ (r ≡ true → Quiet st b) ⌝ }
 {
     if st == 0 {
-        if b == 32 {
-            return true;
-        }
-        if 93 < b {
-            return true;
-        }
-        if 35 < b {
-            return b < 91;
-        }
-        return false;
+        return !marked(OUTSIDE, b);
     }
     if st == 1 {
-        if 92 < b {
-            return true;
-        }
-        if 34 < b {
-            return b < 92;
-        }
-        return b == 32;
+        return !marked(INSIDE, b);
     }
     false
 }
