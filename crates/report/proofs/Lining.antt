@@ -18,11 +18,16 @@ use Rattle.schema.specs.declared.Component.{Component}
 use Rattle.schema.specs.declared.Application.{Application}
 use Rattle.schema.specs.Words.{word, chipMeant, mediaMeant, kindMeant, chipWord, mediaWord, kindWord}
 use Rattle.schema.specs.Texts.{clip, spelled}
+use Rattle.tree.specs.Room.{Holds, Counts as Counted}
+use Rattle.tree.specs.Doors.{Rooms}
+use Rattle.parse.specs.declared.entry.List.{List as Places}
 use Rattle.parse.specs.declared.view.Counts.{Counts}
 use Rattle.parse.specs.declared.view.Device.{Device}
+use Rattle.parse.specs.Entries.{Keyed}
 use Rattle.parse.specs.Front.{boardRead, frontOf}
 use Rattle.parse.specs.Meant.{featureList}
 use Rattle.parse.specs.Views.{countsOf, deviceOf}
+use Rattle.parse.proofs.Judging.{partitions-hold, components-hold, applications-hold, counts-are}
 use Rattle.plan.specs.declared.component.Build.{Build}
 use Rattle.report.specs.declared.brief.ComponentBrief.{ComponentBrief}
 use Rattle.report.specs.declared.brief.ApplicationBrief.{ApplicationBrief}
@@ -30,6 +35,21 @@ use Rattle.report.specs.Page.{Wrote}
 use Rattle.report.specs.Shown as shown
 use Rattle.report.proofs.Pages.{wrote-then}
 use Rattle.report.proofs.Writing.{field-by}
+
+-- ---- where the lists stand
+module _ (room store : List ℕ) (made : ℕ) (p c a : Places) (h : Rooms room made) (l : shown.Listed room store made p c a) where
+  pub partitions-stand : Holds room (p .end)
+  partitions-stand = partitions-hold room store made p h (l .partitions)
+
+  pub components-stand : Holds room (c .end)
+  components-stand = components-hold room store made c h (l .components)
+
+  pub applications-stand : Holds room (a .end)
+  applications-stand = applications-hold room store made a h (l .applications)
+
+  pub counts-stand : (i j k : ℕ) → Counted room (p .end) (p .place) i → Counted room (c .end) (c .place) j → Keyed room store a 64 k
+      → record { partitions = i; components = j; applications = k } ≡ countsOf room store made
+  counts-stand i j k = counts-are room store made p c a i j k (l .partitions) (l .components) (l .applications)
 
 -- ---- words
 chip-said : (c : Chip) (w : Word) → w ≡ chipWord c → word w ≡ meant.chipWord (chipMeant c)

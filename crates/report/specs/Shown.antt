@@ -1,6 +1,7 @@
 -- Level 2 of the listing: its lines, by what stands in the rooms.
 use Prim.Native.Nat.{ℕ, _+_}
 use mathlib.Core.List.{List as Seq, [], _∷_, _++_}
+use mathlib.Core.Path.{_≡_}
 use lib.ListN.{length}
 use Rattle.meaning.specs.Base.{ascii}
 use Rattle.meaning.specs.Schema as schemas
@@ -13,6 +14,7 @@ use Rattle.schema.specs.declared.Component.{Component}
 use Rattle.schema.specs.declared.Application.{Application}
 use Rattle.schema.specs.Words.{chipMeant, mediaMeant, kindMeant}
 use Rattle.schema.specs.Texts.{clip, spelled}
+use Rattle.parse.specs.declared.entry.List.{List}
 use Rattle.parse.specs.Entries.{partitionAt, componentAt, applicationAt, walk}
 use Rattle.parse.specs.Views.{partitionList, componentList, applicationList, countsOf}
 use Rattle.parse.specs.Front.{frontRead}
@@ -45,6 +47,12 @@ comp store name c =
 unfoldable pub app : Seq ℕ → Seq ℕ → Application → Seq ℕ
 app store name a =
     line (ascii "app") (spelled store name (a .«package») ∷ spelled store name (a .name) ∷ dashed (spelled store name (a .partition)) ∷ [])
+
+-- where the lists stand
+pub record Listed (room store : Seq ℕ) (made : ℕ) (p c a : List) : Type 0 where
+  pub partitions : p ≡ partitionList room store made
+  pub components : c ≡ componentList room store made
+  pub applications : a ≡ applicationList room store made
 
 module _ (room store : Seq ℕ) (made : ℕ) where
   -- how many entries there are, and values made

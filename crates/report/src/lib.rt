@@ -5,20 +5,43 @@ pub mod line;
 pub mod lists;
 pub mod page;
 
+use parse::entry::List;
 use plan::choice::Choice;
 ghost use Rattle.tree.specs.Doors.{Rooms};
 ghost use Rattle.report.specs.Page.{Wrote};
 ghost use Rattle.report.specs.Shown as shown;
+ghost use Rattle.report.specs.Shown.{Listed};
 
-// `ok`, and a line for each entry of the lists.
+// `ok`, and a line for each entry of these lists.
+fn entry_lines(
+    out: &mut [u8],
+    at: usize,
+    tree: &[u8],
+    store: &[u8],
+    made: usize,
+    name: &[u8],
+    p: List,
+    c: List,
+    a: List,
+) -> usize
+    requires { ⌜ Rooms (now tree) made × Listed (now tree) (now store) made p c a ⌝ }
+    ensures { λ r. ⌜ Wrote (shown.entries (now (tree .entry)) (now (store .entry)) made (now (name .entry))) (now (out .entry)) at (now (out .exit)) r ⌝ }
+{
+    let i = line::ok(out, at, tree, store, made, name, p, c, a);
+    let j = lists::parts(out, i, tree, store, made, name, p);
+    let k = lists::comps(out, j, tree, store, made, name, c);
+    lists::apps(out, k, tree, store, made, name, a)
+}
+
+// `ok`, and a line for each entry of the lists, which are looked up once for both.
 fn entries(out: &mut [u8], at: usize, tree: &[u8], store: &[u8], made: usize, name: &[u8]) -> usize
     requires { ⌜ Rooms (now tree) made ⌝ }
     ensures { λ r. ⌜ Wrote (shown.entries (now (tree .entry)) (now (store .entry)) made (now (name .entry))) (now (out .entry)) at (now (out .exit)) r ⌝ }
 {
-    let a = line::ok(out, at, tree, store, made, name);
-    let b = lists::parts(out, a, tree, store, made, name);
-    let c = lists::comps(out, b, tree, store, made, name);
-    lists::apps(out, c, tree, store, made, name)
+    let p = parse::view::partition_list(tree, store, made);
+    let c = parse::view::component_list(tree, store, made);
+    let a = parse::view::application_list(tree, store, made);
+    entry_lines(out, at, tree, store, made, name, p, c, a)
 }
 
 // What is built, and the stem.

@@ -1,11 +1,14 @@
 // The lines of the listing, one function for each.
 
 use crate::page;
+use parse::entry::List;
+use parse::view::Counts;
 use plan::component::Build;
 use schema::Chip;
 use schema::Media;
 use schema::Partition;
 use schema::Text;
+ghost use mathlib.Core.Path.{_≡_};
 ghost use mathlib.Core.List.{[], _∷_, _++_};
 ghost use Rattle.meaning.specs.Base.{ascii};
 ghost use Rattle.meaning.specs.Schema as schemas;
@@ -13,18 +16,41 @@ ghost use Rattle.meaning.specs.Listing as meant;
 ghost use Rattle.schema.specs.Texts.{spelled};
 ghost use Rattle.schema.specs.Words.{chipMeant, mediaMeant};
 ghost use Rattle.tree.specs.Doors.{Rooms, Stood};
+ghost use Rattle.parse.specs.Views.{countsOf};
 ghost use Rattle.report.specs.Page.{Wrote};
 ghost use Rattle.report.specs.Shown as shown;
+ghost use Rattle.report.specs.Shown.{Listed};
 
-// How many entries there are, and how many values were made.
-fn counts(out: &mut [u8], at: usize, tree: &[u8], store: &[u8], made: usize) -> usize
-    requires { ⌜ Rooms (now tree) made ⌝ }
+// How many entries the lists have.
+fn counted(tree: &[u8], store: &[u8], made: usize, p: List, c: List, a: List) -> Counts
+    requires { ⌜ Rooms (now tree) made × Listed (now tree) (now store) made p c a ⌝ }
+    ensures { λ r. ⌜ r ≡ countsOf (now (tree .entry)) (now (store .entry)) made ⌝ }
+{
+    Counts {
+        partitions: tree::count(tree, p.end, p.place),
+        components: tree::count(tree, c.end, c.place),
+        applications: parse::entry::count_keys(tree, store, a, 64),
+    }
+}
+
+// The same, and how many values were made.
+fn counts(
+    out: &mut [u8],
+    at: usize,
+    tree: &[u8],
+    store: &[u8],
+    made: usize,
+    p: List,
+    c: List,
+    a: List,
+) -> usize
+    requires { ⌜ Rooms (now tree) made × Listed (now tree) (now store) made p c a ⌝ }
     ensures { λ r. ⌜ Wrote (shown.counts (now (tree .entry)) (now (store .entry)) made) (now (out .entry)) at (now (out .exit)) r ⌝ }
 {
-    let c = parse::view::counts_of(tree, store, made);
-    let p = page::number(out, at, c.partitions as u64);
-    let q = page::number(out, p, c.components as u64);
-    let s = page::number(out, q, c.applications as u64);
+    let n = counted(tree, store, made, p, c, a);
+    let q = page::number(out, at, n.partitions as u64);
+    let r = page::number(out, q, n.components as u64);
+    let s = page::number(out, r, n.applications as u64);
     let t = page::number(out, s, made as u64);
     page::put(out, t, b"\n")
 }
@@ -39,15 +65,25 @@ fn device(out: &mut [u8], at: usize, chip: Chip, media: Media) -> usize
 }
 
 // `ok`: chip, media, partitions, components, applications, values made.
-pub fn ok(out: &mut [u8], at: usize, tree: &[u8], store: &[u8], made: usize, name: &[u8]) -> usize
-    requires { ⌜ Rooms (now tree) made ⌝ }
+pub fn ok(
+    out: &mut [u8],
+    at: usize,
+    tree: &[u8],
+    store: &[u8],
+    made: usize,
+    name: &[u8],
+    p: List,
+    c: List,
+    a: List,
+) -> usize
+    requires { ⌜ Rooms (now tree) made × Listed (now tree) (now store) made p c a ⌝ }
     ensures { λ r. ⌜ Wrote (shown.ok (now (tree .entry)) (now (store .entry)) made (now (name .entry))) (now (out .entry)) at (now (out .exit)) r ⌝ }
 {
     let d = parse::view::device_of(tree, store, made);
     let chip = d.chip;
     let media = d.media;
-    let a = device(out, at, chip, media);
-    counts(out, a, tree, store, made)
+    let to = device(out, at, chip, media);
+    counts(out, to, tree, store, made, p, c, a)
 }
 
 // `part`: name, start, end.

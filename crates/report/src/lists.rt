@@ -1,8 +1,11 @@
 // A line for each entry of a preset's lists, and for each build.
 
+use parse::entry::List;
 use plan::choice::Choice;
 use tree::Found;
+ghost use mathlib.Core.Path.{_≡_};
 ghost use Rattle.tree.specs.Doors.{Rooms};
+ghost use Rattle.parse.specs.Views.{partitionList, componentList, applicationList};
 ghost use Rattle.report.specs.Page.{Wrote};
 ghost use Rattle.report.specs.Shown as shown;
 
@@ -14,11 +17,11 @@ pub fn parts(
     store: &[u8],
     made: usize,
     name: &[u8],
+    l: List,
 ) -> usize
-    requires { ⌜ Rooms (now tree) made ⌝ }
+    requires { ⌜ Rooms (now tree) made × (l ≡ partitionList (now tree) (now store) made) ⌝ }
     ensures { λ r. ⌜ Wrote (shown.parts (now (tree .entry)) (now (store .entry)) made (now (name .entry))) (now (out .entry)) at (now (out .exit)) r ⌝ }
 {
-    let l = parse::view::partition_list(tree, store, made);
     let place = l.place;
     let end = l.end;
     let mut to = at;
@@ -46,11 +49,11 @@ pub fn comps(
     store: &[u8],
     made: usize,
     name: &[u8],
+    l: List,
 ) -> usize
-    requires { ⌜ Rooms (now tree) made ⌝ }
+    requires { ⌜ Rooms (now tree) made × (l ≡ componentList (now tree) (now store) made) ⌝ }
     ensures { λ r. ⌜ Wrote (shown.comps (now (tree .entry)) (now (store .entry)) made (now (name .entry))) (now (out .entry)) at (now (out .exit)) r ⌝ }
 {
-    let l = parse::view::component_list(tree, store, made);
     let place = l.place;
     let end = l.end;
     let mut to = at;
@@ -69,11 +72,18 @@ pub fn comps(
 }
 
 // The applications, in byte order of key.
-pub fn apps(out: &mut [u8], at: usize, tree: &[u8], store: &[u8], made: usize, name: &[u8]) -> usize
-    requires { ⌜ Rooms (now tree) made ⌝ }
+pub fn apps(
+    out: &mut [u8],
+    at: usize,
+    tree: &[u8],
+    store: &[u8],
+    made: usize,
+    name: &[u8],
+    l: List,
+) -> usize
+    requires { ⌜ Rooms (now tree) made × (l ≡ applicationList (now tree) (now store) made) ⌝ }
     ensures { λ r. ⌜ Wrote (shown.apps (now (tree .entry)) (now (store .entry)) made (now (name .entry))) (now (out .entry)) at (now (out .exit)) r ⌝ }
 {
-    let l = parse::view::application_list(tree, store, made);
     let place = l.place;
     let end = l.end;
     let low = tree::skip_up(tree, end, place, 0);

@@ -3,8 +3,8 @@ use Rattle.report.proofs.Lining.{counts-line}
 use Rattle.report.proofs.line.counts.Statement.{statement}
 use Rattle.report.proofs.line.counts.Tie as tie
 
-counts-of-requires : tie.Need-counts-of-requires
-counts-of-requires c κs = search needs
+counted-requires : tie.Need-counted-requires
+counted-requires c κs = search needs
 
 number-requires : tie.Need-number-requires
 number-requires c κs = search needs
@@ -34,7 +34,7 @@ pub counts-spec : {M : Type 1} → statement M
 counts-spec =
     tie.close
     (tie.spec
-    counts-of-requires
+    counted-requires
     number-requires
     number-requires-2
     number-requires-3

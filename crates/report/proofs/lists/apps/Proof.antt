@@ -9,7 +9,6 @@ use Rattle.report.proofs.lists.apps.Statement.{statement}
 use Rattle.report.proofs.lists.apps.Tie as tie
 use Rattle.report.proofs.lists.apps.Reads as reads
 use Rattle.report.proofs.lists.apps.Lts as lts
-use Rattle.parse.proofs.view.application_list.Reads as application-list-reads
 use Rattle.report.proofs.line.app.Reads as app-reads
 use Rattle.tree.proofs.next.Reads as next-reads
 use Rattle.tree.proofs.skip_up.Reads as skip-up-reads
@@ -19,9 +18,6 @@ Inv-loop out₀ at tree store made name place end low to₀ after₀ -i₀ out t
 
 abbrev μ-loop : tie.MeasureT-loop
 μ-loop out₀ at tree store made name place end low to₀ after₀ -i₀ out to after -i = 65 - -i
-
-application-list-requires : tie.Need-application-list-requires Inv-loop μ-loop
-application-list-requires c κs = search needs
 
 skip-up-requires : tie.Need-skip-up-requires Inv-loop μ-loop
 skip-up-requires c κs = search (needs, applications-hold)
@@ -68,7 +64,6 @@ apps-spec =
     (tie.spec
     Inv-loop
     μ-loop
-    application-list-requires
     skip-up-requires
     loop-holds
     next-requires

@@ -10,7 +10,6 @@ use Rattle.report.proofs.lists.comps.Statement.{statement}
 use Rattle.report.proofs.lists.comps.Tie as tie
 use Rattle.report.proofs.lists.comps.Reads as reads
 use Rattle.report.proofs.lists.comps.Lts as lts
-use Rattle.parse.proofs.view.component_list.Reads as component-list-reads
 use Rattle.report.proofs.line.comp.Reads as comp-reads
 use Rattle.tree.proofs.child.Reads as child-reads
 
@@ -19,9 +18,6 @@ Inv-loop out₀ at tree store made name place end to₀ from₀ out to from = Le
 
 abbrev μ-loop : tie.MeasureT-loop
 μ-loop out₀ at tree store made name place end to₀ from₀ out to from = end - from
-
-component-list-requires : tie.Need-component-list-requires Inv-loop μ-loop
-component-list-requires c κs = search needs
 
 loop-holds : tie.Need-loop-holds Inv-loop μ-loop
 loop-holds c = search (needs, left-start)
@@ -65,7 +61,6 @@ comps-spec =
     (tie.spec
     Inv-loop
     μ-loop
-    component-list-requires
     loop-holds
     child-requires
     enum-told

@@ -10,7 +10,6 @@ use Rattle.report.proofs.lists.parts.Tie as tie
 use Rattle.report.proofs.lists.parts.Reads as reads
 use Rattle.report.proofs.lists.parts.Lts as lts
 use Rattle.parse.proofs.entry.partition_at.Reads as partition-at-reads
-use Rattle.parse.proofs.view.partition_list.Reads as partition-list-reads
 use Rattle.report.proofs.line.part.Reads as part-reads
 use Rattle.tree.proofs.child.Reads as child-reads
 
@@ -20,59 +19,42 @@ Inv-loop out₀ at tree store made name place end to₀ from₀ out to from = Le
 abbrev μ-loop : tie.MeasureT-loop
 μ-loop out₀ at tree store made name place end to₀ from₀ out to from = end - from
 
--- src/lists.rt:21:9
-partition-list-requires : tie.Need-partition-list-requires Inv-loop μ-loop
-partition-list-requires c κs = search needs
-
--- src/lists.rt:26:5
 loop-holds : tie.Need-loop-holds Inv-loop μ-loop
 loop-holds c = search (needs, left-start)
 
--- src/lists.rt:27:13
 child-requires : tie.Need-child-requires Inv-loop μ-loop
 child-requires c κs = search (needs, partitions-hold)
 
--- src/lists.rt:29:31
 enum-told : tie.Need-enum-told Inv-loop μ-loop
 enum-told c = search needs
 
--- src/lists.rt:29:31
 same-length : tie.Need-same-length Inv-loop μ-loop
 same-length c = search (needs, left-long)
 
--- src/lists.rt:29:31
 returns : tie.Need-returns Inv-loop μ-loop
 returns c = search (needs, items-none)
 
--- src/lists.rt:30:23
 enum-known-found : tie.Need-enum-known-found Inv-loop μ-loop
 enum-known-found c = search needs
 
--- src/lists.rt:31:21
 partition-at-requires : tie.Need-partition-at-requires Inv-loop μ-loop
 partition-at-requires c κs = search (needs, item-stood, parts-within)
 
--- src/lists.rt:33:17
 part-requires : tie.Need-part-requires Inv-loop μ-loop
 part-requires c κs = search needs
 
--- src/lists.rt:34:24
 add-from : tie.Need-add-from Inv-loop μ-loop
 add-from c = search (needs, item-fits, parts-within)
 
--- src/lists.rt:26:5
 loop-less : tie.Need-loop-less Inv-loop μ-loop
 loop-less c = search (needs, item-less)
 
--- src/lists.rt:26:5
 loop-again : tie.Need-loop-again Inv-loop μ-loop
 loop-again c = search (needs, parts-on)
 
--- src/lists.rt:10:1
 same-length-2 : tie.Need-same-length-2 Inv-loop μ-loop
 same-length-2 c = search (needs, left-long)
 
--- src/lists.rt:10:1
 returns-2 : tie.Need-returns-2 Inv-loop μ-loop
 returns-2 c = search (needs, items-past)
 
@@ -82,7 +64,6 @@ parts-spec =
     (tie.spec
     Inv-loop
     μ-loop
-    partition-list-requires
     loop-holds
     child-requires
     enum-told

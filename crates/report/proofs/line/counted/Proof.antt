@@ -1,0 +1,23 @@
+use borrow.Author.Needs.{needs}
+use Rattle.report.proofs.Lining.{partitions-stand, components-stand, applications-stand, counts-stand}
+use Rattle.report.proofs.line.counted.Statement.{statement}
+use Rattle.report.proofs.line.counted.Tie as tie
+use Rattle.report.proofs.line.counted.Reads as reads
+use Rattle.report.proofs.line.counted.Lts as lts
+use Rattle.parse.proofs.entry.count_keys.Reads as count-keys-reads
+use Rattle.tree.proofs.count.Reads as count-reads
+
+count-requires : tie.Need-count-requires
+count-requires c κs = search (needs, partitions-stand)
+
+count-requires-2 : tie.Need-count-requires-2
+count-requires-2 c κs = search (needs, components-stand)
+
+count-keys-requires : tie.Need-count-keys-requires
+count-keys-requires c κs = search (needs, applications-stand)
+
+returns : tie.Need-returns
+returns c = search (needs, counts-stand)
+
+pub counted-spec : {M : Type 1} → statement M
+counted-spec = tie.close (tie.spec count-requires count-requires-2 count-keys-requires returns)
