@@ -23,8 +23,8 @@ use Rattle.tree.specs.Room.{slotAt, look, child}
 use Rattle.tree.specs.Order.{keyOf, next}
 use Rattle.tree.specs.Doors.{nonzero, textOf, valueOf, valueAt, fieldsOf, noFields, among, valueFound, field, items}
 use Rattle.tree.specs.Spans.{among-look, items-next, items-none}
-use Rattle.toml_lite.specs.Grow.{lookS}
-use Rattle.toml_lite.specs.Fill.{truth}
+use Rattle.values.specs.Grow.{lookS}
+use Rattle.values.specs.Fill.{truth}
 use Rattle.agree.specs.Log.{count}
 use Rattle.agree.specs.Finds.{nth}
 use Rattle.agree.specs.Meets.{Shows, slotOf}

@@ -18,7 +18,7 @@ use Rattle.tree.specs.declared.Slot.{Slot}
 use Rattle.tree.specs.declared.Found.{Found}
 use Rattle.tree.specs.declared.Found.the-variants.{At, Nothing}
 use Rattle.tree.specs.Room.{keyed}
-use Rattle.toml_lite.specs.Grow.{Seg, void, lookS, keyedSlot, enterS, enterBy, downS, makeS, Grown as GrownS, grown as grownS, stuck as stuckS, onward}
+use Rattle.values.specs.Grow.{Seg, void, lookS, keyedSlot, enterS, enterBy, downS, makeS, Grown as GrownS, grown as grownS, stuck as stuckS, onward}
 use Rattle.agree.specs.Key.{Key, name}
 use Rattle.agree.specs.Log.{kindAt, walk}
 use Rattle.agree.specs.Finds.{get, find, put, setAt, Takes, at, set-set}

@@ -12,7 +12,7 @@ use Rattle.meaning.specs.Document as meant
 use Rattle.tree.specs.declared.Slot.{Slot}
 use Rattle.tree.specs.declared.Found.the-variants.{At, Nothing}
 use Rattle.tree.specs.Order.{hasKey, before, follows, better, next}
-use Rattle.toml_lite.specs.Doc as rooms
+use Rattle.values.specs.Doc as rooms
 use Rattle.agree.specs.Order.{stepS}
 
 -- an array that a header adds to, and a key below the added table: the string is made before its table, and hung up last

@@ -12,7 +12,7 @@ use Rattle.meaning.specs.Tree.{Value, Table, table}
 use Rattle.laws.specs.Cases.{on}
 use Rattle.tree.specs.declared.Slot.{Slot}
 use Rattle.tree.specs.Room.{hung}
-use Rattle.toml_lite.specs.Grow.{Seg, void}
+use Rattle.values.specs.Grow.{Seg, void}
 use Rattle.agree.specs.Key.{Key, name}
 use Rattle.agree.specs.Paths.{shorter}
 use Rattle.agree.specs.Log.{kindAt, Hung, walk-else}

@@ -16,11 +16,11 @@ use Rattle.meaning.specs.Tree.{Value, Items, str, int, boolean, array, table, n
 use Rattle.meaning.specs.Values.{value}
 use Rattle.laws.specs.Cases.{on, never}
 use Rattle.tree.specs.declared.Slot.{Slot}
-use Rattle.toml_lite.specs.Out.{Out}
-use Rattle.toml_lite.specs.Fill.{valueOut, stringSlot, boolSlot, arraySlot}
-use Rattle.toml_lite.specs.Grow.{void}
-use Rattle.toml_lite.specs.Layout.{spelled, spelledAll, size, sizes, layout, layouts, wholeSlot, Tableless, AllTableless, length-layout, seen, numberAt, length-seens, seens-at, seen-same, seen-kept, seen-number, whole-number}
-use Rattle.toml_lite.specs.Agree.{Lays, Meets, value-meets}
+use Rattle.values.specs.Out.{Out}
+use Rattle.values.specs.Fill.{valueOut, stringSlot, boolSlot, arraySlot}
+use Rattle.values.specs.Grow.{void}
+use Rattle.values.specs.Layout.{spelled, spelledAll, size, sizes, layout, layouts, wholeSlot, Tableless, AllTableless, length-layout, seen, numberAt, length-seens, seens-at, seen-same, seen-kept, seen-number, whole-number}
+use Rattle.values.specs.Agree.{Lays, Meets, value-meets}
 use Rattle.agree.specs.Meets.{Spells, Shows}
 use Rattle.agree.specs.Block.{Laid, LaidAll}
 use Rattle.agree.specs.Lines.{Value-laid, Value-agrees, Values-agree}

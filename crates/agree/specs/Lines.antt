@@ -15,10 +15,10 @@ use Rattle.meaning.specs.Values.{value}
 use Rattle.meaning.specs.Document.{Doc, tables, arrays, here}
 use Rattle.scalar.specs.Splits.{flat, endsOf}
 use Rattle.tree.specs.declared.Slot.{Slot}
-use Rattle.toml_lite.specs.Out.{Out}
-use Rattle.toml_lite.specs.Fill.{valueOut}
-use Rattle.toml_lite.specs.Grow.{Seg, segsOf, enterS, downS, pushS, toLastS, Grown as GrownS, grown as grownS, stuck as stuckS, onward as onwardS}
-use Rattle.toml_lite.specs.Doc.{Doc as DocS, settleS}
+use Rattle.values.specs.Out.{Out}
+use Rattle.values.specs.Fill.{valueOut}
+use Rattle.values.specs.Grow.{Seg, segsOf, enterS, downS, pushS, toLastS, Grown as GrownS, grown as grownS, stuck as stuckS, onward as onwardS}
+use Rattle.values.specs.Doc.{Doc as DocS, settleS}
 use Rattle.agree.specs.Key.{Key, name, index}
 use Rattle.agree.specs.Finds.{get, find, setAt, nth, nth-set, at, set-same, snoc-set, count-snoc}
 use Rattle.agree.specs.Steps.{Agree, to}

@@ -13,7 +13,7 @@ use Rattle.laws.specs.Cases.{on, never}
 use Rattle.laws.specs.Order.{same-eq}
 use Rattle.tree.specs.declared.Slot.{Slot}
 use Rattle.tree.specs.Room.{keyed}
-use Rattle.toml_lite.specs.Grow.{mineS}
+use Rattle.values.specs.Grow.{mineS}
 use Rattle.agree.specs.Key.{Key, name, index}
 use Rattle.agree.specs.Paths.{below, apart, not-it, shorter}
 

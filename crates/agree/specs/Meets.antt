@@ -11,8 +11,8 @@ use Rattle.meaning.specs.Integers.{numberOf}
 use Rattle.meaning.specs.Tree.{Value, str, int, boolean, array, table, none′, empty}
 use Rattle.laws.specs.Cases.{on}
 use Rattle.tree.specs.declared.Slot.{Slot}
-use Rattle.toml_lite.specs.Grow.{void}
-use Rattle.toml_lite.specs.Fill.{truth}
+use Rattle.values.specs.Grow.{void}
+use Rattle.values.specs.Fill.{truth}
 use Rattle.agree.specs.Key.{Key, name, index}
 use Rattle.agree.specs.Paths.{below, Beyond, beyond}
 use Rattle.agree.specs.Log.{Log, kindAt, test, child, walk, top-none, test-parent, unreached, child-nothing, Hung, walk-else, walk-new}

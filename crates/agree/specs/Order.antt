@@ -23,7 +23,7 @@ use Rattle.tree.specs.declared.Found.the-variants.{At, Nothing}
 use Rattle.tree.specs.Room.{keyed}
 use Rattle.tree.specs.Order.{keyOf, hasKey, before, above, follows, isMade, next}
 use Rattle.tree.specs.Nearest.{before-less, Follows, follows-says, follows-where, Next, next-found, next-nothing}
-use Rattle.toml_lite.specs.Grow.{void, mineS}
+use Rattle.values.specs.Grow.{void, mineS}
 use Rattle.agree.specs.Key.{Key, name, index}
 use Rattle.agree.specs.Log.{mine-both, kindAt, test, top-last, top-nonzero, reached, Reached}
 use Rattle.agree.specs.Finds.{get, find, nth}

@@ -16,7 +16,7 @@ use Rattle.laws.specs.Cases.{on}
 use Rattle.tree.specs.declared.Slot.{Slot}
 use Rattle.tree.specs.declared.Found.{Found}
 use Rattle.tree.specs.declared.Found.the-variants.{At, Nothing}
-use Rattle.toml_lite.specs.Grow.{Seg, void, lookS, keyedSlot, itemS, pushBy, pushS, makeS, Grown as GrownS, grown as grownS, stuck as stuckS, onward}
+use Rattle.values.specs.Grow.{Seg, void, lookS, keyedSlot, itemS, pushBy, pushS, makeS, Grown as GrownS, grown as grownS, stuck as stuckS, onward}
 use Rattle.agree.specs.Key.{Key, name, index}
 use Rattle.agree.specs.Finds.{get, find, put, setAt, Takes, at, set-set, snoc-set}
 use Rattle.agree.specs.Meets.{Shows, bare-table, bare-array}

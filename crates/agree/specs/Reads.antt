@@ -14,7 +14,7 @@ use Rattle.laws.specs.Cases.{on}
 use Rattle.tree.specs.declared.Slot.{Slot}
 use Rattle.tree.specs.declared.Found.{Found}
 use Rattle.tree.specs.declared.Found.the-variants.{At, Nothing}
-use Rattle.toml_lite.specs.Grow.{void, lookS}
+use Rattle.values.specs.Grow.{void, lookS}
 use Rattle.agree.specs.Key.{Key, name, index}
 use Rattle.agree.specs.Log.{count, test-parent, test-count, reached, Reached}
 use Rattle.agree.specs.Finds.{get, find, nth}

@@ -18,10 +18,10 @@ use Rattle.tree.specs.Room.{Finds, slotAt, keyed, under, mine, look, first, chi
 use Rattle.tree.specs.Order.{keyOf, hasKey, next}
 use Rattle.tree.specs.Nearest.{next-same}
 use Rattle.scalar.specs.Stores.{over}
-use Rattle.toml_lite.specs.Out.{cells}
-use Rattle.toml_lite.specs.Grow.{void, mineS, lookS}
-use Rattle.toml_lite.specs.Carries.{AllSized, Carries}
-use Rattle.toml_lite.proofs.Carrying.{slot-carried, over-carries}
+use Rattle.values.specs.Out.{cells}
+use Rattle.values.specs.Grow.{void, mineS, lookS}
+use Rattle.values.specs.Carries.{AllSized, Carries}
+use Rattle.values.proofs.Carrying.{slot-carried, over-carries}
 use Rattle.agree.specs.Log.{top, count as counted}
 use Rattle.agree.specs.Meets.{Spells}
 use Rattle.agree.specs.Slots.{logOf, placeOf, look-top}

@@ -13,8 +13,8 @@ use Rattle.meaning.specs.Tree.{Value, Table, table, down, enter, put as putIn, 
 use Rattle.meaning.specs.Document.{Doc, here}
 use Rattle.tree.specs.declared.Slot.{Slot}
 use Rattle.tree.specs.Room.{hung}
-use Rattle.toml_lite.specs.Grow.{Seg, void, downS, toLastS, hangS, Grown as GrownS, grown as grownS, stuck as stuckS, onward as onwardS}
-use Rattle.toml_lite.specs.Doc.{Doc as DocS, settleS}
+use Rattle.values.specs.Grow.{Seg, void, downS, toLastS, hangS, Grown as GrownS, grown as grownS, stuck as stuckS, onward as onwardS}
+use Rattle.values.specs.Doc.{Doc as DocS, settleS}
 use Rattle.agree.specs.Key.{Key, name}
 use Rattle.agree.specs.Finds.{find, put, setAt, at, way}
 use Rattle.agree.specs.Steps.{Agree, to, Calm, Sealed}

@@ -16,7 +16,7 @@ use Rattle.tree.specs.declared.Slot.{Slot}
 use Rattle.tree.specs.declared.Found.{Found}
 use Rattle.tree.specs.declared.Found.the-variants.{At, Nothing}
 use Rattle.tree.specs.Room.{keyed, hung}
-use Rattle.toml_lite.specs.Grow.{Seg, void, mineS, lookS}
+use Rattle.values.specs.Grow.{Seg, void, mineS, lookS}
 use Rattle.agree.specs.Key.{Key, name, index}
 use Rattle.agree.specs.Log.{Log, top, kindAt, count, test, child, top-same, Hung}
 

@@ -11,7 +11,7 @@ use borrow.Author.Tests.{eqb-true, eqb-false, eq-eqb, ltb-true, ltb-false}
 use Rattle.meaning.specs.Tree.{Value, Items, Table, array, table, none′, item, seen, count as many}
 use Rattle.laws.specs.Cases.{on}
 use Rattle.tree.specs.declared.Slot.{Slot}
-use Rattle.toml_lite.specs.Grow.{void}
+use Rattle.values.specs.Grow.{void}
 use Rattle.agree.specs.Key.{Key, name, index}
 use Rattle.agree.specs.Log.{kindAt, count, test, walk, top-nonzero, test-kind, test-parent, test-count, reached, Reached, walk-new, walk-else}
 use Rattle.agree.specs.Paths.{shorter}

@@ -14,7 +14,7 @@ use Rattle.meaning.specs.Tree.{Value, str, int, boolean, array, table}
 use Rattle.laws.specs.Cases.{on}
 use Rattle.tree.specs.declared.Slot.{Slot}
 use Rattle.tree.specs.Room.{keyed}
-use Rattle.toml_lite.specs.Grow.{void, mineS}
+use Rattle.values.specs.Grow.{void, mineS}
 use Rattle.agree.specs.Key.{Key, name, index}
 use Rattle.agree.specs.Log.{Log, top, kindAt, count, test, walk, top-same, top-more, test-kind, test-parent}
 use Rattle.agree.specs.Finds.{find}

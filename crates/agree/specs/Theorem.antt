@@ -11,7 +11,7 @@ use Rattle.meaning.specs.Document.{document, Parsed}
 use Rattle.laws.specs.Never.{Numbered, Answers, never}
 use Rattle.laws.specs.Fits.{Within, stored, fits}
 use Rattle.laws.specs.Counted.{counted, at-most}
-use Rattle.toml_lite.specs.Doc.{Doc as DocS, documentS}
+use Rattle.values.specs.Doc.{Doc as DocS, documentS}
 use Rattle.agree.specs.Steps.{Agree}
 use Rattle.agree.specs.Whole.{Doc-agrees, documents-agree}
 use Rattle.agree.specs.Layouts.{values-agree}

@@ -22,10 +22,10 @@ use Rattle.meaning.specs.Document.{Doc, tables, arrays, here, Form, pushes, hea
 use Rattle.laws.specs.Cases.{on}
 use Rattle.laws.specs.Never.{NonEmpty, Reads, keys-ok}
 use Rattle.scalar.specs.Splits.{flat, endsOf}
-use Rattle.toml_lite.specs.Out.{Out}
-use Rattle.toml_lite.specs.Fill.{valueOut}
-use Rattle.toml_lite.specs.Grow.{segsOf, downS, pushS, toLastS, hangS}
-use Rattle.toml_lite.specs.Doc.{Doc as DocS, settleS, pathBy, assignBy, setS, lineS, toldAt, linesS, empty as emptyS, documentS}
+use Rattle.values.specs.Out.{Out}
+use Rattle.values.specs.Fill.{valueOut}
+use Rattle.values.specs.Grow.{segsOf, downS, pushS, toLastS, hangS}
+use Rattle.values.specs.Doc.{Doc as DocS, settleS, pathBy, assignBy, setS, lineS, toldAt, linesS, empty as emptyS, documentS}
 use Rattle.agree.specs.Key.{Key}
 use Rattle.agree.specs.Finds.{find}
 use Rattle.agree.specs.Meets.{Meets, bare-table}

@@ -15,8 +15,8 @@ use Rattle.meaning.specs.Document.{Parsed, inRooms}
 use Rattle.meaning.specs.Tree.{table}
 use Rattle.laws.specs.Cases.{on}
 use Rattle.scalar.specs.Stores.{over}
-use Rattle.toml_lite.specs.declared.State.{State}
-use Rattle.toml_lite.specs.Doc.{Doc}
+use Rattle.values.specs.declared.State.{State}
+use Rattle.values.specs.Doc.{Doc}
 use Rattle.agree.specs.Steps.{Agree}
 use Rattle.agree.specs.Rooms.{carried}
 use Rattle.agree.specs.Whole.{Doc-agrees}
@@ -26,9 +26,9 @@ use Rattle.tree.specs.declared.Found.the-variants.{Nothing}
 use Rattle.tree.specs.declared.Found.the-variants as founds
 use Rattle.tree.specs.Room.{Finds, slotAt}
 use Rattle.tree.specs.Order.{next}
-use Rattle.document.specs.declared.Read.{Read}
-use Rattle.document.specs.declared.Read.the-variants.{Fine, Fault}
-use Rattle.document.specs.Rooms.{readOf, Small, Cleared, suffice, judged, treeOf}
+use Rattle.toml_lite.specs.declared.Read.{Read}
+use Rattle.toml_lite.specs.declared.Read.the-variants.{Fine, Fault}
+use Rattle.toml_lite.specs.Rooms.{readOf, Small, Cleared, suffice, judged, treeOf}
 use Rattle.host.specs.declared.documents.Outcome.{Outcome}
 use Rattle.host.specs.declared.documents.At.{At}
 use Rattle.host.specs.Documents.{outcomeOf, storeOf, Presented, atOf, within, behindOf, walking}

@@ -11,12 +11,12 @@ use lib.ListN.{length}
 use Rattle.meaning.specs.Base.{pick, zeros}
 use Rattle.laws.specs.Cases.{on}
 use Rattle.laws.specs.Stored.{stored}
-use Rattle.toml_lite.specs.declared.State.{State}
-use Rattle.toml_lite.specs.declared.Reply.{Reply}
-use Rattle.toml_lite.specs.declared.Reply.the-variants.{Fine, Fault}
-use Rattle.toml_lite.specs.Out.{Out, moved, replyOf, cells, Ready, Filled}
-use Rattle.document.specs.Rooms.{suffice}
-use Rattle.document.proofs.Reading.{suffices}
+use Rattle.values.specs.declared.State.{State}
+use Rattle.values.specs.declared.Reply.{Reply}
+use Rattle.values.specs.declared.Reply.the-variants.{Fine, Fault}
+use Rattle.values.specs.Out.{Out, moved, replyOf, cells, Ready, Filled}
+use Rattle.toml_lite.specs.Rooms.{suffice}
+use Rattle.toml_lite.proofs.Reading.{suffices}
 use Rattle.host.specs.declared.values.ValueRead.{ValueRead}
 use Rattle.host.specs.Values.{sizedOf, outOf, told, Readout}
 use Rattle.host.proofs.Exports.{length-zeros}

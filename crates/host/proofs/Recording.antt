@@ -21,25 +21,25 @@ use Rattle.laws.specs.Cases.{on}
 use Rattle.scalar.specs.Stores.{over}
 use Rattle.tree.specs.declared.Slot.{Slot}
 use Rattle.tree.specs.Doors.{fieldsOf}
-use Rattle.toml_lite.specs.Out.{cells}
-use Rattle.toml_lite.specs.Doc.{Doc, documentS}
-use Rattle.toml_lite.proofs.Carrying.{length-cells, length-over}
+use Rattle.values.specs.Out.{cells}
+use Rattle.values.specs.Doc.{Doc, documentS}
+use Rattle.values.proofs.Carrying.{length-cells, length-over}
 use Rattle.agree.specs.Steps.{Agree}
 use Rattle.agree.specs.Reads.{Place, place-root}
 use Rattle.agree.specs.Rooms.{Carried, carried}
 use Rattle.agree.specs.Whole.{Doc-agrees}
 use Rattle.agree.specs.Theorem.{bytes-fit, slots-fit}
 use Rattle.agree.specs.Doors as doors
-use Rattle.document.specs.Rooms as rooms
-use Rattle.document.specs.Rooms.{suffice, judged}
-use Rattle.document.proofs.Reading.{suffices}
+use Rattle.toml_lite.specs.Rooms as rooms
+use Rattle.toml_lite.specs.Rooms.{suffice, judged}
+use Rattle.toml_lite.proofs.Reading.{suffices}
 use Rattle.parse.specs.declared.Refusal.{Refusal}
-use Rattle.ways.specs.declared.Outcome as parsed
+use Rattle.preset.specs.declared.Outcome as parsed
 use Rattle.parse.specs.Refusals.{earlier}
 use Rattle.parse.specs.Refused.{lentText, verdict}
 use Rattle.parse.specs.Views.{sound}
 use Rattle.parse.specs.Verdict as verdicts
-use Rattle.ways.specs.Settled as settled
+use Rattle.preset.specs.Settled as settled
 use Rattle.parse.specs.Filed.{file-named, file-inside}
 use Rattle.parse.specs.Answers.{Says, says-after, says-made, says-accepted, says-refused, earlier-clear}
 use Rattle.parse.specs.Whole.{presetMeant, lent-is}

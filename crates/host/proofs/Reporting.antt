@@ -19,8 +19,8 @@ use Rattle.meaning.specs.Listing.{outSize, linesOf}
 use Rattle.laws.specs.Answers.{accepted-one}
 use Rattle.laws.specs.Cases.{on}
 use Rattle.laws.specs.Listings.{planned-fits}
-use Rattle.toml_lite.specs.Doc.{Doc}
-use Rattle.document.specs.Rooms.{judged}
+use Rattle.values.specs.Doc.{Doc}
+use Rattle.toml_lite.specs.Rooms.{judged}
 use Rattle.scalar.specs.Stores.{over}
 use Rattle.tree.specs.Doors.{fieldsOf}
 use Rattle.parse.specs.Given as given
@@ -28,10 +28,10 @@ use Rattle.parse.specs.Refused.{lentText}
 use Rattle.validate.specs.Gathered.{components}
 use Rattle.report.specs.Shown.{lines}
 use Rattle.report.specs.Said.{lines-say}
-use Rattle.ways.specs.declared.Outcome as entered
-use Rattle.listed.specs.declared.Listed as lists
-use Rattle.ways.specs.Settled.{Parsed}
-use Rattle.listed.specs.Listings as entries
+use Rattle.preset.specs.declared.Outcome as entered
+use Rattle.preset.specs.declared.listing.Listed as lists
+use Rattle.preset.specs.Settled.{Parsed}
+use Rattle.preset.specs.Listings as entries
 use Rattle.host.specs.declared.documents.Outcome.{Outcome}
 use Rattle.host.specs.declared.listings.Listed.{Listed}
 use Rattle.host.specs.Presets.{Recorded, Answered, outcomeBy, storeBy, treeBy, Records, exported}

@@ -18,7 +18,7 @@ use Rattle.tree.specs.Room.{slotAt, look, child}
 use Rattle.tree.specs.Order.{next}
 use Rattle.agree.specs.Steps.{Agree}
 use Rattle.agree.specs.Rooms.{Carried}
-use Rattle.document.specs.Rooms.{judged, treeOf}
+use Rattle.toml_lite.specs.Rooms.{judged, treeOf}
 use Rattle.host.specs.declared.documents.Outcome.{Outcome}
 use Rattle.host.specs.declared.documents.At.{At}
 

@@ -10,8 +10,8 @@ use Rattle.meaning.specs.Refusal.{Answer, accepted, refused, numberOf}
 use Rattle.meaning.specs.Preset.{Read, read, validate}
 use Rattle.scalar.specs.Stores.{over}
 use Rattle.tree.specs.Doors.{fieldsOf}
-use Rattle.document.specs.Rooms.{judged, treeOf}
-use Rattle.ways.specs.declared.Outcome as parsed
+use Rattle.toml_lite.specs.Rooms.{judged, treeOf}
+use Rattle.preset.specs.declared.Outcome as parsed
 use Rattle.parse.specs.Refused.{lentText, verdict}
 use Rattle.parse.specs.Views.{sound}
 use Rattle.parse.specs.Whole.{presetMeant}

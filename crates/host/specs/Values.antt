@@ -15,15 +15,15 @@ use Rattle.scalar.specs.declared.key.Verdict.the-variants.{Fine, Malformed, Esc
 use Rattle.scalar.specs.Splits.{flat, endsOf}
 use Rattle.tree.specs.declared.Slot.{Slot}
 use Rattle.tree.specs.Room.{slotAt}
-use Rattle.document.specs.Rooms.{suffice}
+use Rattle.toml_lite.specs.Rooms.{suffice}
 use Rattle.host.specs.declared.values.Number.{Number}
 use Rattle.host.specs.declared.values.Spelling.{Spelling}
 use Rattle.host.specs.declared.values.Value.{Value}
 use Rattle.host.specs.declared.values.Segments.{Segments}
 use Rattle.host.specs.declared.values.ValueRead.{ValueRead}
 use Rattle.laws.specs.Stored.{stored}
-use Rattle.toml_lite.specs.Out.{Out, cells}
-use Rattle.toml_lite.specs.Fill.{valueOut}
+use Rattle.values.specs.Out.{Out, cells}
+use Rattle.values.specs.Fill.{valueOut}
 
 -- an integer, or its refusal
 abbrev pub numberOf : R Signed → Number

@@ -1,6 +1,6 @@
 // Whole presets, and views of the rooms that reading leaves.
 
-use document::Read;
+use toml_lite::Read;
 use tree::Found;
 ghost use mathlib.Core.Path.{_≡_};
 ghost use Rattle.host.specs.Documents.{Presented, atOf, finding, stepping, behindOf, walking};
@@ -34,7 +34,7 @@ pub extern "C" fn preset_value_size() -> u32
 pub extern "C" fn document_read(text: &[u8], store: &mut [u8], tree: &mut [u8]) -> Outcome
     ensures { λ r. ⌜ Presented (now (text .entry)) (now (store .entry)) (now (tree .entry)) (now (store .exit)) (now (tree .exit)) r ⌝ }
 {
-    let r = document::read_tree(text, store, tree);
+    let r = toml_lite::read_tree(text, store, tree);
     match r {
         Read::Fine(st) => Outcome {
             number: 0,

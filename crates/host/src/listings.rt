@@ -22,7 +22,7 @@ pub extern "C" fn preset_listing(
 ) -> Listed
     ensures { λ r. ⌜ Reported (now (text .entry)) (now (name .entry)) (now (store .entry)) (now (tree .entry)) (now (out .entry)) (now (store .exit)) (now (tree .exit)) (now (out .exit)) r ⌝ }
 {
-    let r = listed::listing(text, name, store, tree, out);
+    let r = preset::listing::listing(text, name, store, tree, out);
     Listed {
         number: r.number,
         section: r.section,

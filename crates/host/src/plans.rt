@@ -66,7 +66,7 @@ pub extern "C" fn preset_plan(
 ) -> Outcome
     ensures { λ r. ⌜ Answered (planned (now (text .entry)) (now (name .entry)) app (now (key .entry)) (now (store .entry)) (now (tree .entry))) (now (text .entry)) (now (name .entry)) (now (store .entry)) (now (tree .entry)) (now (store .exit)) (now (tree .exit)) r ⌝ }
 {
-    exported(ways::planning::plan(text, name, app, key, store, tree))
+    exported(preset::planning::plan(text, name, app, key, store, tree))
 }
 
 // Component number i of a plan, where the rooms have one.

@@ -2,12 +2,12 @@
 
 use crate::documents::Outcome;
 ghost use mathlib.Core.Path.{_≡_};
-ghost use Rattle.ways.specs.Settled.{Small};
+ghost use Rattle.preset.specs.Settled.{Small};
 ghost use Rattle.host.specs.Presets as presets;
 ghost use Rattle.host.specs.Presets.{Answered, recorded, validated};
 
 // An outcome in the numbers of the boundary.
-pub fn exported(r: ways::Outcome) -> Outcome
+pub fn exported(r: preset::Outcome) -> Outcome
     requires { ⌜ Small r ⌝ }
     ensures { λ q. ⌜ q ≡ presets.exported r ⌝ }
 {
@@ -29,7 +29,7 @@ pub extern "C" fn preset_read(
 ) -> Outcome
     ensures { λ r. ⌜ Answered (recorded (now (text .entry)) (now (name .entry)) (now (store .entry)) (now (tree .entry))) (now (text .entry)) (now (name .entry)) (now (store .entry)) (now (tree .entry)) (now (store .exit)) (now (tree .exit)) r ⌝ }
 {
-    exported(ways::reading::read(text, name, store, tree))
+    exported(preset::reading::read(text, name, store, tree))
 }
 
 // The same, held to the rules: an accepted preset obeys 30 to 70.
@@ -42,5 +42,5 @@ pub extern "C" fn preset_validate(
 ) -> Outcome
     ensures { λ r. ⌜ Answered (validated (now (text .entry)) (now (name .entry)) (now (store .entry)) (now (tree .entry))) (now (text .entry)) (now (name .entry)) (now (store .entry)) (now (tree .entry)) (now (store .exit)) (now (tree .exit)) r ⌝ }
 {
-    exported(ways::validating::validate(text, name, store, tree))
+    exported(preset::validating::validate(text, name, store, tree))
 }

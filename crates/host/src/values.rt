@@ -3,8 +3,8 @@
 use scalar::integer::Int;
 use scalar::key::Verdict;
 use scalar::string::Decoded;
-use toml_lite::Reply;
-use toml_lite::State;
+use values::Reply;
+use values::State;
 ghost use mathlib.Core.Path.{_≡_};
 ghost use Rattle.meaning.specs.Integers as ints;
 ghost use Rattle.host.specs.Values.{numberOf, slotOf, faultOf, sizedOf, Spelled, Split, Ends, Readout};
@@ -218,7 +218,7 @@ fn unread(number: u32) -> ValueRead
 fn sized(text: &[u8], store: &[u8], tree: &[u8]) -> u32
     ensures { λ r. ⌜ r ≡ sizedOf (now (text .entry)) (now (store .entry)) (now (tree .entry)) ⌝ }
 {
-    if document::large(store, tree) {
+    if toml_lite::large(store, tree) {
         if 32768 < text.len() {
             return 1;
         }
@@ -239,7 +239,7 @@ pub extern "C" fn value_read(text: &[u8], store: &mut [u8], tree: &mut [u8]) -> 
         return unread(n);
     }
     let st = State { used: 0, made: 0 };
-    let r = toml_lite::value::value(text, store, tree, st, 0, 2048, 16);
+    let r = values::value::value(text, store, tree, st, 0, 2048, 16);
     match r {
         Reply::Fine(end) => ValueRead {
             number: 0,

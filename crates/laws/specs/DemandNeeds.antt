@@ -11,7 +11,7 @@ use Rattle.meaning.specs.Refusal.{accepted}
 use Rattle.meaning.specs.Schema.{kindRaw, Component, Application, Preset}
 use Rattle.meaning.specs.Verdict.{fine}
 use Rattle.meaning.specs.Rules.{rules}
-use Rattle.meaning.specs.Example as given
+use Rattle.examples.specs.Example as given
 use Rattle.meaning.specs.Plan.{Selection, bootChain, app, Build, built, PlannedComponent, Plan, planned, componentOf, partitionFor, composed, planOf, computes}
 use Rattle.laws.specs.Places.{At, none-some}
 use Rattle.laws.specs.Demand.{Finds, Uses, as-payload}

@@ -2,7 +2,7 @@
 
 use libc::STDIN_FILENO;
 use libc::STDOUT_FILENO;
-use listed::Listed;
+use preset::listing::Listed;
 
 // The first n bytes of a room.
 fn print(room: &[u8], n: usize) {
@@ -39,7 +39,7 @@ fn main() {
     let mut store = [0u8; 32768];
     let mut tree = [0u8; 65536];
     let mut out = [0u8; 73733];
-    let r = listed::listing(&input[..n], b"board", &mut store, &mut tree, &mut out);
+    let r = preset::listing::listing(&input[..n], b"board", &mut store, &mut tree, &mut out);
     if r.number == 0 {
         print(&out, r.written);
     } else {

@@ -24,13 +24,3 @@ pub mod Rules
 pub mod Preset
 pub mod Plan
 pub mod Listing
-pub mod Samples
-pub mod Table
-pub mod Example
-pub mod Corners
-pub mod CornersKeys
-pub mod CornersValues
-pub mod CornersDocument
-pub mod CornersRecords
-pub mod CornersRules
-pub mod CornersPlan

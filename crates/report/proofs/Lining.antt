@@ -31,10 +31,10 @@ use Rattle.parse.proofs.Judging.{partitions-hold, components-hold, applications
 use Rattle.plan.specs.declared.component.Build.{Build}
 use Rattle.report.specs.declared.brief.ComponentBrief.{ComponentBrief}
 use Rattle.report.specs.declared.brief.ApplicationBrief.{ApplicationBrief}
-use Rattle.report.specs.Page.{Wrote}
+use Rattle.page.specs.Page.{Wrote}
 use Rattle.report.specs.Shown as shown
-use Rattle.report.proofs.Pages.{wrote-then}
-use Rattle.report.proofs.Writing.{field-by}
+use Rattle.page.proofs.Pages.{wrote-then}
+use Rattle.page.proofs.Writing.{field-by}
 
 -- ---- where the lists stand
 module _ (room store : List ℕ) (made : ℕ) (p c a : Places) (h : Rooms room made) (l : shown.Listed room store made p c a) where

@@ -27,9 +27,9 @@ use Rattle.plan.specs.declared.component.Build.{Build}
 use Rattle.plan.specs.Builds.{Used, blank, noUse, buildAt, buildsOf}
 use Rattle.plan.specs.Stems.{stem}
 use Rattle.plan.proofs.Building.{used-at}
-use Rattle.report.specs.Page.{Wrote}
+use Rattle.page.specs.Page.{Wrote}
 use Rattle.report.specs.Shown as shown
-use Rattle.report.proofs.Pages.{wrote-nil, wrote-then}
+use Rattle.page.proofs.Pages.{wrote-nil, wrote-then}
 
 -- the lines of some entries stand on the page, and with those of the entries that are left they are the lines of all
 pub record Left {X : Type 0} (f : X → Seq ℕ) (all left : Seq X) (out : Seq ℕ) (at : ℕ) (out′ : Seq ℕ) (at′ : ℕ) : Type 0 where

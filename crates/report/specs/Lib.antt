@@ -1,3 +1,2 @@
-pub mod Page
 pub mod Shown
 pub mod Said

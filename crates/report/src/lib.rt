@@ -3,12 +3,11 @@
 pub mod brief;
 pub mod line;
 pub mod lists;
-pub mod page;
 
 use parse::entry::List;
 use plan::choice::Choice;
 ghost use Rattle.tree.specs.Doors.{Rooms};
-ghost use Rattle.report.specs.Page.{Wrote};
+ghost use Rattle.page.specs.Page.{Wrote};
 ghost use Rattle.report.specs.Shown as shown;
 ghost use Rattle.report.specs.Shown.{Listed};
 

@@ -17,7 +17,7 @@ ghost use Rattle.schema.specs.Texts.{spelled};
 ghost use Rattle.schema.specs.Words.{chipMeant, mediaMeant};
 ghost use Rattle.tree.specs.Doors.{Rooms, Stood};
 ghost use Rattle.parse.specs.Views.{countsOf};
-ghost use Rattle.report.specs.Page.{Wrote};
+ghost use Rattle.page.specs.Page.{Wrote};
 ghost use Rattle.report.specs.Shown as shown;
 ghost use Rattle.report.specs.Shown.{Listed};
 

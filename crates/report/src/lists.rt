@@ -6,7 +6,7 @@ use tree::Found;
 ghost use mathlib.Core.Path.{_≡_};
 ghost use Rattle.tree.specs.Doors.{Rooms};
 ghost use Rattle.parse.specs.Views.{partitionList, componentList, applicationList};
-ghost use Rattle.report.specs.Page.{Wrote};
+ghost use Rattle.page.specs.Page.{Wrote};
 ghost use Rattle.report.specs.Shown as shown;
 
 // The partitions, in their order.

@@ -1,11 +1,1 @@
-pub mod Out
-pub mod Fill
-pub mod Layout
-pub mod Agree
-pub mod Bounds
-pub mod Examples
-pub mod ExamplesLayout
-pub mod Grow
-pub mod Carries
-pub mod Doc
-pub mod Forms
+pub mod Rooms

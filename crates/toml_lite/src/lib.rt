@@ -1,17 +1,411 @@
-// From joined lines to the tree: values, headers and assignments into the two lent rooms.
+// Whole documents into the two rooms, line by line.
 
-pub mod form;
-pub mod grow;
-pub mod value;
+use meaning::Limits;
+use scalar::key::Verdict;
+use text::Checked;
+use text::Next;
+use text::Place;
+use values::Reply;
+use values::State;
+use values::form::Form;
+use values::grow::Grown;
+ghost use mathlib.Core.Path.{_≡_};
+ghost use mathlib.Core.Bool.{true};
+ghost use Prim.Native.Nat.{_+_, _<_};
+ghost use lib.ListN.{length};
+ghost use Rattle.meaning.specs.Document as meant;
+ghost use Rattle.meaning.specs.Space as space;
+ghost use Rattle.meaning.specs.Base.{zeros};
+ghost use Rattle.meaning.specs.Limits.{of01};
+ghost use Rattle.values.specs.Doc.{lineS, setS, documentS};
+ghost use Rattle.toml_lite.specs.Rooms.{verdictNumber, settled, docOf, hangK, Taking, Hanging, Lined, wholeOf, Behind, behindFault, Told, Begun, Reads, Cleared, Ready, Standing, Roomy, Empty, suffice, judged};
 
-// How many bytes of the store are used, and how many values are made.
-pub struct State {
-    pub used: usize,
-    pub made: usize,
+// What a line comes to: the state behind it and the place where assignments go; or the number of its fault.
+pub enum LineRead {
+    Fine { st: State, here: u16 },
+    Fault(u32),
 }
 
-// What a reader says: the state behind what it read; or the number of its fault and the state there.
-pub enum Reply {
+// What a text comes to: the state behind it; or the number of its fault and the line where it is told.
+pub enum Read {
     Fine(State),
-    Fault(u32, State),
+    Fault { number: u32, line: usize },
+}
+
+// The number of a refused key, or 0.
+fn refusal(v: Verdict) -> u32
+    ensures { λ r. ⌜ r ≡ verdictNumber v ⌝ }
+{
+    match v {
+        Verdict::Fine => 0,
+        Verdict::Malformed => 7,
+        Verdict::Escape => 8,
+        Verdict::Unended => 9,
+        Verdict::TooMany => 15,
+    }
+}
+
+// Where a header came to: assignments go there.
+fn settle(g: Grown, used: usize) -> LineRead
+    ensures { λ r. ⌜ r ≡ settled (λ p. p) used g ⌝ }
+{
+    match g {
+        Grown::At { made, place } => LineRead::Fine {
+            st: State {
+                used: used,
+                made: made,
+            },
+            here: place,
+        },
+        Grown::Full => LineRead::Fault(16),
+        Grown::Clash => LineRead::Fault(13),
+    }
+}
+
+// Where an assignment came to: the next goes to the same place.
+fn settle_at(g: Grown, used: usize, here: u16) -> LineRead
+    ensures { λ r. ⌜ r ≡ settled (λ _. here) used g ⌝ }
+{
+    match g {
+        Grown::At { made, place: _ } => LineRead::Fine {
+            st: State {
+                used: used,
+                made: made,
+            },
+            here: here,
+        },
+        Grown::Full => LineRead::Fault(16),
+        Grown::Clash => LineRead::Fault(13),
+    }
+}
+
+// A header `[..]`.
+fn header(s: &[u8], store: &mut [u8], tree: &mut [u8], st: State, limits: Limits) -> LineRead
+    requires { ⌜ Taking limits (length (now s)) (now store) (now tree) st ⌝ }
+    ensures { λ r. ⌜ Lined limits (length (now (s .entry))) (now (store .entry)) (now (tree .entry)) (now (store .exit)) (now (tree .exit)) st (lineS limits (meant.heads (now (s .entry))) (docOf (now (store .entry)) (now (tree .entry)) st 1)) r ⌝ }
+{
+    let used = st.used;
+    let made = st.made;
+    let key = scalar::key::put_key(s, store, used, limits.segments);
+    let verdict = key.verdict;
+    let fault = refusal(verdict);
+    if fault != 0 {
+        return LineRead::Fault(fault);
+    }
+    let g = values::grow::down(tree, store, made, limits.values, 1, key, used, key.n);
+    settle(g, key.used)
+}
+
+// A header `[[..]]`.
+fn header_item(s: &[u8], store: &mut [u8], tree: &mut [u8], st: State, limits: Limits) -> LineRead
+    requires { ⌜ Taking limits (length (now s)) (now store) (now tree) st ⌝ }
+    ensures { λ r. ⌜ Lined limits (length (now (s .entry))) (now (store .entry)) (now (tree .entry)) (now (store .exit)) (now (tree .exit)) st (lineS limits (meant.pushes (now (s .entry))) (docOf (now (store .entry)) (now (tree .entry)) st 1)) r ⌝ }
+{
+    let used = st.used;
+    let made = st.made;
+    let key = scalar::key::put_key(s, store, used, limits.segments);
+    let verdict = key.verdict;
+    let fault = refusal(verdict);
+    if fault != 0 {
+        return LineRead::Fault(fault);
+    }
+    let g = values::grow::push_path(tree, store, made, limits.values, key, used);
+    settle(g, key.used)
+}
+
+// Hangs value number n up under a key, from the place where assignments go.
+fn hang_key(
+    s: &[u8],
+    store: &mut [u8],
+    tree: &mut [u8],
+    st: State,
+    here: u16,
+    n: usize,
+    limits: Limits,
+) -> LineRead
+    requires { ⌜ Hanging limits (length (now s)) (now store) (now tree) st n ⌝ }
+    ensures { λ r. ⌜ Lined limits (length (now (s .entry))) (now (store .entry)) (now (tree .entry)) (now (store .exit)) (now (tree .exit)) st (hangK limits (now (s .entry)) n (docOf (now (store .entry)) (now (tree .entry)) st here)) r ⌝ }
+{
+    let used = st.used;
+    let made = st.made;
+    let key = scalar::key::put_key(s, store, used, limits.segments);
+    let verdict = key.verdict;
+    let fault = refusal(verdict);
+    if fault != 0 {
+        return LineRead::Fault(fault);
+    }
+    let g = values::grow::assign(tree, store, made, limits.values, here, key, used, n);
+    settle_at(g, key.used, here)
+}
+
+// An assignment: 6, the value, then the key.
+fn setting(
+    k: &[u8],
+    v: &[u8],
+    store: &mut [u8],
+    tree: &mut [u8],
+    st: State,
+    here: u16,
+    limits: Limits,
+) -> LineRead
+    requires { ⌜ Taking limits (length (now k) + length (now v)) (now store) (now tree) st ⌝ }
+    ensures { λ r. ⌜ Lined limits (length (now (k .entry)) + length (now (v .entry))) (now (store .entry)) (now (tree .entry)) (now (store .exit)) (now (tree .exit)) st (setS limits (now (k .entry)) (now (v .entry)) (docOf (now (store .entry)) (now (tree .entry)) st here)) r ⌝ }
+{
+    if k.len() == 0 {
+        return LineRead::Fault(6);
+    }
+    let made = st.made;
+    let r = values::value::value(v, store, tree, st, 0, limits.values, limits.arrays);
+    match r {
+        Reply::Fault(n, _) => LineRead::Fault(n),
+        Reply::Fine(next) => hang_key(k, store, tree, next, here, made, limits),
+    }
+}
+
+// An assignment whose key may have white space around it.
+fn assignment(
+    k: &[u8],
+    v: &[u8],
+    store: &mut [u8],
+    tree: &mut [u8],
+    st: State,
+    here: u16,
+    limits: Limits,
+) -> LineRead
+    requires { ⌜ Taking limits (length (now k) + length (now v)) (now store) (now tree) st ⌝ }
+    ensures { λ r. ⌜ Lined limits (length (now (k .entry)) + length (now (v .entry))) (now (store .entry)) (now (tree .entry)) (now (store .exit)) (now (tree .exit)) st (lineS limits (meant.sets (now (k .entry)) (now (v .entry))) (docOf (now (store .entry)) (now (tree .entry)) st here)) r ⌝ }
+{
+    let t = chars::trim(k);
+    let from = t.from;
+    let end = t.end;
+    setting(&k[from..end], v, store, tree, st, here, limits)
+}
+
+// A line without white space around it.
+fn read_form(
+    l: &[u8],
+    store: &mut [u8],
+    tree: &mut [u8],
+    st: State,
+    here: u16,
+    limits: Limits,
+) -> LineRead
+    requires { ⌜ Taking limits (length (now l)) (now store) (now tree) st ⌝ }
+    ensures { λ r. ⌜ Lined limits (length (now (l .entry))) (now (store .entry)) (now (tree .entry)) (now (store .exit)) (now (tree .exit)) st (lineS limits (meant.form (now (l .entry))) (docOf (now (store .entry)) (now (tree .entry)) st here)) r ⌝ }
+{
+    let f = values::form::classify(l);
+    match f {
+        Form::Pushes => {
+            let e = l.len() - 2;
+            header_item(&l[2..e], store, tree, st, limits)
+        }
+        Form::Heads => {
+            let e = l.len() - 1;
+            header(&l[1..e], store, tree, st, limits)
+        }
+        Form::Sets(at) => {
+            let b = at + 1;
+            assignment(&l[..at], &l[b..], store, tree, st, here, limits)
+        }
+        Form::Neither => LineRead::Fault(5),
+    }
+}
+
+// One joined line.
+pub fn read_line(
+    l: &[u8],
+    store: &mut [u8],
+    tree: &mut [u8],
+    st: State,
+    here: u16,
+    limits: Limits,
+) -> LineRead
+    requires { ⌜ Taking limits (length (now l)) (now store) (now tree) st ⌝ }
+    ensures { λ r. ⌜ Lined limits (length (now (l .entry))) (now (store .entry)) (now (tree .entry)) (now (store .exit)) (now (tree .exit)) st (lineS limits (meant.form (space.trim (now (l .entry)))) (docOf (now (store .entry)) (now (tree .entry)) st here)) r ⌝ }
+{
+    let t = chars::trim(l);
+    let from = t.from;
+    let end = t.end;
+    read_form(&l[from..end], store, tree, st, here, limits)
+}
+
+// A refused line: 3 and 4 come before it, wherever they stand, so the lines behind it are checked for them.
+fn first_fault(s: &[u8], behind: Place, number: u32, line: usize) -> Read
+    requires { ⌜ Behind (now s) behind line ⌝ }
+    ensures { λ r. ⌜ Told (length (now (s .entry))) (behindFault (now (s .entry)) behind number line) r ⌝ }
+{
+    let c = text::check(s, behind.at, behind.line);
+    match c {
+        Checked::Fine(_) => Read::Fault {
+            number: number,
+            line: line,
+        },
+        Checked::Over(l) => Read::Fault { number: 3, line: l },
+        Checked::Open(l) => Read::Fault { number: 4, line: l },
+    }
+}
+
+// All joined lines of a laid text.
+pub fn read_lines(s: &[u8], store: &mut [u8], tree: &mut [u8], limits: Limits) -> Read
+    requires { ⌜ Begun limits (now s) (now store) (now tree) ⌝ }
+    ensures { λ r. ⌜ Reads limits (length (now (s .entry))) (now (store .entry)) (now (tree .entry)) (now (store .exit)) (now (tree .exit)) (wholeOf limits (now (s .entry))) r ⌝ }
+{
+    let mut at = 0;
+    let mut line = 1;
+    let mut here: u16 = 1;
+    let mut cur = State { used: 0, made: 0 };
+    while at < s.len() {
+        let n = text::next_line(s, at, line);
+        match n {
+            Next::End => return Read::Fine(cur),
+            Next::Over(l) => return Read::Fault { number: 3, line: l },
+            Next::Open(l) => return Read::Fault { number: 4, line: l },
+            Next::Line {
+                from,
+                end,
+                line: l,
+                next: p,
+            } => {
+                let r = read_line(&s[from..end], store, tree, cur, here, limits);
+                match r {
+                    LineRead::Fault(number) => return first_fault(s, p, number, l),
+                    LineRead::Fine { st, here: place } => {
+                        cur = st;
+                        here = place;
+                        at = p.at;
+                        line = p.line;
+                    }
+                }
+            }
+        }
+    }
+    Read::Fine(cur)
+}
+
+// The same, with both rooms zeroed where a line is refused.
+pub fn read_laid(s: &[u8], store: &mut [u8], tree: &mut [u8], limits: Limits) -> Read
+    requires { ⌜ Begun limits (now s) (now store) (now tree) ⌝ }
+    ensures { λ r. ⌜ Cleared (now (store .entry)) (now (tree .entry)) (now (store .exit)) (now (tree .exit)) (wholeOf limits (now (s .entry))) r ⌝ }
+{
+    let r = read_lines(s, store, tree, limits);
+    match r {
+        Read::Fine(st) => Read::Fine(st),
+        Read::Fault { number, line } => {
+            slices::zero(store);
+            slices::zero(tree);
+            Read::Fault {
+                number: number,
+                line: line,
+            }
+        }
+    }
+}
+
+// A text for which both rooms, which hold zeros, are large enough: 1, 2, then its lines.
+fn read_text(
+    text: &[u8],
+    scratch: &mut [u8],
+    store: &mut [u8],
+    tree: &mut [u8],
+    limits: Limits,
+) -> Read
+    requires { ⌜ Ready limits (length (now text)) (now scratch) (now store) (now tree) ⌝ }
+    ensures { λ r. ⌜ Cleared (now (store .entry)) (now (tree .entry)) (now (store .exit)) (now (tree .exit)) (documentS limits (now (text .entry))) r ⌝ }
+{
+    if limits.text < text.len() {
+        return Read::Fault { number: 1, line: 0 };
+    }
+    if chars::valid(text) {
+        let used = text::lay(text, scratch);
+        return read_laid(&scratch[..used], store, tree, limits);
+    }
+    Read::Fault { number: 2, line: 0 }
+}
+
+// A short text within 01's limits, laid into a short scratch: emptying a long one would take longer than reading it.
+fn read_short(text: &[u8], store: &mut [u8], tree: &mut [u8]) -> Read
+    requires { ⌜ Roomy (now store) (now tree) × (length (now text) < 4096) ⌝ }
+    ensures { λ r. ⌜ Cleared (now (store .entry)) (now (tree .entry)) (now (store .exit)) (now (tree .exit)) (documentS of01 (now (text .entry))) r ⌝ }
+{
+    let mut scratch = [0u8; 4096];
+    read_text(text, &mut scratch, store, tree, meaning::of01())
+}
+
+// Any text within 01's limits.
+fn read_long(text: &[u8], store: &mut [u8], tree: &mut [u8]) -> Read
+    requires { ⌜ Roomy (now store) (now tree) ⌝ }
+    ensures { λ r. ⌜ Cleared (now (store .entry)) (now (tree .entry)) (now (store .exit)) (now (tree .exit)) (documentS of01 (now (text .entry))) r ⌝ }
+{
+    let mut scratch = [0u8; 32769];
+    read_text(text, &mut scratch, store, tree, meaning::of01())
+}
+
+// Whether a text is within 01's limit, and needs no scratch since it is laid as it stands.
+fn stands(text: &[u8]) -> bool
+    ensures { λ r. ⌜ (r ≡ true → Standing (now (text .entry))) ⌝ }
+{
+    if 32768 < text.len() {
+        return false;
+    }
+    if text::clean(text) {
+        return chars::valid(text);
+    }
+    false
+}
+
+// Such a text: its lines.
+fn read_standing(text: &[u8], store: &mut [u8], tree: &mut [u8]) -> Read
+    requires { ⌜ Roomy (now store) (now tree) × Standing (now text) ⌝ }
+    ensures { λ r. ⌜ Cleared (now (store .entry)) (now (tree .entry)) (now (store .exit)) (now (tree .exit)) (documentS of01 (now (text .entry))) r ⌝ }
+{
+    read_laid(text, store, tree, meaning::of01())
+}
+
+fn read_roomy(text: &[u8], store: &mut [u8], tree: &mut [u8]) -> Read
+    requires { ⌜ Roomy (now store) (now tree) ⌝ }
+    ensures { λ r. ⌜ Cleared (now (store .entry)) (now (tree .entry)) (now (store .exit)) (now (tree .exit)) (documentS of01 (now (text .entry))) r ⌝ }
+{
+    if stands(text) {
+        return read_standing(text, store, tree);
+    }
+    if text.len() < 4096 {
+        return read_short(text, store, tree);
+    }
+    read_long(text, store, tree)
+}
+
+// Whether both rooms take every text within 01's limits, by their lengths alone.
+pub fn large(store: &[u8], tree: &[u8]) -> bool
+    ensures { λ r. ⌜ r ≡ suffice (length (now (store .entry))) (length (now (tree .entry))) ⌝ }
+{
+    if store.len() < 32768 {
+        return false;
+    }
+    if tree::capacity(tree) < 2048 {
+        return false;
+    }
+    true
+}
+
+// A text into empty rooms: 17 first.
+fn read_empty(text: &[u8], store: &mut [u8], tree: &mut [u8]) -> Read
+    requires { ⌜ Empty (now store) (now tree) ⌝ }
+    ensures { λ r. ⌜ Cleared (now (store .entry)) (now (tree .entry)) (now (store .exit)) (now (tree .exit)) (judged (now (text .entry)) (length (now (store .entry))) (length (now (tree .entry)))) r ⌝ }
+{
+    if large(store, tree) {
+        return read_roomy(text, store, tree);
+    }
+    Read::Fault {
+        number: 17,
+        line: 0,
+    }
+}
+
+// A text into both rooms, whatever they hold.
+pub fn read_tree(text: &[u8], store: &mut [u8], tree: &mut [u8]) -> Read
+    ensures { λ r. ⌜ Cleared (zeros (length (now (store .entry)))) (zeros (length (now (tree .entry)))) (now (store .exit)) (now (tree .exit)) (judged (now (text .entry)) (length (now (store .entry))) (length (now (tree .entry)))) r ⌝ }
+{
+    slices::zero(store);
+    slices::zero(tree);
+    read_empty(text, store, tree)
 }

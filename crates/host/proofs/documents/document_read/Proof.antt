@@ -4,7 +4,7 @@ use Rattle.host.proofs.documents.document_read.Statement.{statement}
 use Rattle.host.proofs.documents.document_read.Tie as tie
 use Rattle.host.proofs.documents.document_read.Reads as reads
 use Rattle.host.proofs.documents.document_read.Lts as lts
-use Rattle.document.proofs.read_tree.Reads as read-tree-reads
+use Rattle.toml_lite.proofs.read_tree.Reads as read-tree-reads
 
 -- src/documents.rt:37:9
 read-tree-requires : tie.Need-read-tree-requires

@@ -4,7 +4,7 @@ use Rattle.host.proofs.listings.preset_listing.Statement.{statement}
 use Rattle.host.proofs.listings.preset_listing.Tie as tie
 use Rattle.host.proofs.listings.preset_listing.Reads as reads
 use Rattle.host.proofs.listings.preset_listing.Lts as lts
-use Rattle.listed.proofs.listing.Reads as listing-reads
+use Rattle.preset.proofs.listing.listing.Reads as listing-reads
 
 -- src/listings.rt:25:9
 listing-requires : tie.Need-listing-requires

@@ -5,7 +5,7 @@ use Rattle.host.proofs.plans.preset_plan.Tie as tie
 use Rattle.host.proofs.plans.preset_plan.Reads as reads
 use Rattle.host.proofs.plans.preset_plan.Lts as lts
 use Rattle.host.proofs.presets.exported.Reads as exported-reads
-use Rattle.ways.proofs.planning.plan.Reads as plan-reads
+use Rattle.preset.proofs.planning.plan.Reads as plan-reads
 
 -- src/plans.rt:69:14
 plan-requires : tie.Need-plan-requires

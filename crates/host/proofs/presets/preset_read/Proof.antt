@@ -5,7 +5,7 @@ use Rattle.host.proofs.presets.preset_read.Tie as tie
 use Rattle.host.proofs.presets.preset_read.Reads as reads
 use Rattle.host.proofs.presets.preset_read.Lts as lts
 use Rattle.host.proofs.presets.exported.Reads as exported-reads
-use Rattle.ways.proofs.reading.read.Reads as read-reads
+use Rattle.preset.proofs.reading.read.Reads as read-reads
 
 -- src/presets.rt:32:14
 read-requires : tie.Need-read-requires

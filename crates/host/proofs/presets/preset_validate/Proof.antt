@@ -5,7 +5,7 @@ use Rattle.host.proofs.presets.preset_validate.Tie as tie
 use Rattle.host.proofs.presets.preset_validate.Reads as reads
 use Rattle.host.proofs.presets.preset_validate.Lts as lts
 use Rattle.host.proofs.presets.exported.Reads as exported-reads
-use Rattle.ways.proofs.validating.validate.Reads as validate-reads
+use Rattle.preset.proofs.validating.validate.Reads as validate-reads
 
 -- src/presets.rt:45:14
 validate-requires : tie.Need-validate-requires

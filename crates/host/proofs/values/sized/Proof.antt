@@ -4,7 +4,7 @@ use Rattle.host.proofs.values.sized.Statement.{statement}
 use Rattle.host.proofs.values.sized.Tie as tie
 use Rattle.host.proofs.values.sized.Reads as reads
 use Rattle.host.proofs.values.sized.Lts as lts
-use Rattle.document.proofs.large.Reads as large-reads
+use Rattle.toml_lite.proofs.large.Reads as large-reads
 
 -- src/values.rt:221:8
 large-requires : tie.Need-large-requires

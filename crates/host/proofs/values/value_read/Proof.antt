@@ -7,7 +7,7 @@ use Rattle.host.proofs.values.value_read.Lts as lts
 use Rattle.host.proofs.values.sized.Reads as sized-reads
 use Rattle.host.proofs.values.unread.Reads as unread-reads
 use Rattle.slices.proofs.zero.Reads as zero-reads
-use Rattle.toml_lite.proofs.value.value.Reads as value-reads
+use Rattle.values.proofs.value.value.Reads as value-reads
 
 -- src/values.rt:238:5
 zero-requires : tie.Need-zero-requires

@@ -4,8 +4,8 @@ use Rattle.report.proofs.line.refused.Statement.{statement}
 use Rattle.report.proofs.line.refused.Tie as tie
 use Rattle.report.proofs.line.refused.Reads as reads
 use Rattle.report.proofs.line.refused.Lts as lts
-use Rattle.report.proofs.page.number.Reads as number-reads
-use Rattle.report.proofs.page.put.Reads as put-reads
+use Rattle.page.proofs.number.Reads as number-reads
+use Rattle.page.proofs.put.Reads as put-reads
 
 -- src/line.rt:134:32
 slice-aggregate-put : tie.Need-slice-aggregate-put

@@ -1,0 +1,10 @@
+pub mod Samples
+pub mod Table
+pub mod Example
+pub mod Corners
+pub mod CornersKeys
+pub mod CornersValues
+pub mod CornersDocument
+pub mod CornersRecords
+pub mod CornersRules
+pub mod CornersPlan

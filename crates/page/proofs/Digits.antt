@@ -1,0 +1,75 @@
+-- A number's digits from the last to the first: what the loop keeps, and one law for each way on and out of it.
+use Prim.Native.Nat.{ℕ, zero, suc, _+_, _-_, _/_, _%_, _≤_, _<_}
+use mathlib.Core.Bool.{Bool, true, false}
+use mathlib.Core.List.{List, [], _∷_}
+use mathlib.Core.Path.{_≡_, refl, sym, ap, _∙_}
+use native.Mathlib.Omega.{arith}
+use native.Mathlib.Nat.{mod-lt, mod-eq-of-lt}
+use borrow.Author.Tests.{lt-ltb, le-ltb}
+use lib.Dec.{ltb}
+use lib.ListN.{length, drop, set, getD, length-set}
+use lib.Seq.{drop-cons, drop-set-lt, drop-length, getD-set-same}
+use mir.Syntax.{w8}
+use mir.Val.{Fits}
+use Rattle.meaning.specs.Base.{pick}
+use Rattle.meaning.specs.Listing.{digits, decimal}
+use Rattle.page.specs.Page.{Digits}
+
+-- what is left of a number, before the digits that stand from the next place on
+pub record Spelling (number : ℕ) (room : List ℕ) (n i : ℕ) : Type 0 where
+  pub long : length room ≡ 20
+  pub high : i ≤ 19
+  pub left : digits i n (drop (i + 1) room) ≡ decimal number
+
+pub spell-start : (room : List ℕ) (n : ℕ) → length room ≡ 20 → Spelling n room n 19
+unfolding decimal
+spell-start room n h =
+    let e : drop 20 room ≡ [] = rw (← h) (drop-length room) in
+    record { long = h; high = omega arith; left = rw e }
+
+pub digit-fits : (n : ℕ) → Fits w8 (n % 10)
+digit-fits n = record { fits = omega (arith, mod-lt n {m = 10} (omega arith)) }
+
+pub digit-shown : (n : ℕ) → Fits w8 (48 + n % 10)
+digit-shown n = record { fits = omega (arith, mod-lt n {m = 10} (omega arith)) }
+
+-- a byte set, and those behind it
+from-set : (room : List ℕ) (i v : ℕ) → i < length room → drop i (set room i v) ≡ v ∷ drop (i + 1) room
+from-set room i v h =
+    let e : suc i ≡ i + 1 = omega arith in
+    drop-cons (set room i v) i 0 (rw length-set h)
+    ∙ rw (getD-set-same room i v 0 h, e, drop-set-lt (i + 1) room i v (omega arith))
+
+module _ (number : ℕ) (room : List ℕ) (n i : ℕ) where
+  -- a digit with those before it still to come
+  more : (i : ℕ) (behind : List ℕ) → (i ≡ 0 → ⊥) → 10 ≤ n → digits i n behind ≡ digits (i - 1) (n / 10) ((48 + n % 10) ∷ behind)
+  more zero behind z h = absurd (z refl)
+  more (suc i) behind z h = let e : suc i - 1 ≡ i = omega arith in rw (e, le-ltb n 10 h)
+
+  pub spell-on : Spelling number room n i → 10 ≤ n → (i ≡ 0 → ⊥) → Spelling number (set room i (48 + n % 10)) (n / 10) (i - 1)
+  spell-on s h z =
+      let e : i - 1 + 1 ≡ i = omega arith in
+      record {
+        long = length-set room i (48 + n % 10) ∙ s .long;
+        high = omega (arith, s .high);
+        left = rw (e, from-set room i (48 + n % 10) (omega (arith, s .long, s .high))) (sym (more i (drop (i + 1) room) z h) ∙ s .left);
+      }
+
+  -- the first digit: none is left before it
+  last : (i : ℕ) (behind : List ℕ) → n < 10 → digits i n behind ≡ (48 + n % 10) ∷ behind
+  last zero behind h = refl
+  last (suc i) behind h = rw (lt-ltb n 10 h, mod-eq-of-lt {n = n} {m = 10} h)
+
+  said : Spelling number room n i → digits i n (drop (i + 1) room) ≡ (48 + n % 10) ∷ drop (i + 1) room → Digits number (set room i (48 + n % 10)) i
+  said s e =
+      record {
+        long = length-set room i (48 + n % 10) ∙ s .long;
+        begins = omega (arith, s .high);
+        says = from-set room i (48 + n % 10) (omega (arith, s .long, s .high)) ∙ sym e ∙ s .left;
+      }
+
+  pub spell-end : Spelling number room n i → n < 10 → Digits number (set room i (48 + n % 10)) i
+  spell-end s h = said s (last i (drop (i + 1) room) h)
+
+  pub spell-full : Spelling number room n i → i ≡ 0 → Digits number (set room i (48 + n % 10)) i
+  spell-full s z = said s (rw z)

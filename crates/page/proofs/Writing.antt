@@ -1,0 +1,118 @@
+-- Bytes, numbers, words and texts on a page: one law for each way out.
+use Prim.Native.Nat.{ℕ, _+_, _-_, _≤_, _<_}
+use mathlib.Core.Bool.{Bool, true, false}
+use mathlib.Core.List.{List, [], _∷_, _++_, append-nil}
+use mathlib.Core.Path.{_≡_, refl, sym, ap, subst, _∙_}
+use native.Mathlib.Omega.{arith}
+use borrow.Author.Tests.{ne-eqb}
+use lib.Dec.{eqb}
+use lib.ListN.{length, take, drop, length-take, drop-of-length-le}
+use lib.Seq.{drop-drop}
+use Rattle.meaning.specs.Base.{nil?, ascii}
+use Rattle.meaning.specs.Listing.{decimal, dashed}
+use Rattle.laws.specs.Parts.{rest-of}
+use Rattle.laws.specs.Stored.{stored, length-stored}
+use Rattle.schema.specs.declared.Text.{Text}
+use Rattle.schema.specs.declared.Text.the-variants as texts
+use Rattle.schema.specs.declared.Word.{Word}
+use Rattle.schema.specs.declared.Word.the-variants as words
+use Rattle.schema.specs.declared.Span.{Span}
+use Rattle.schema.specs.Words.{word, all, Stands, word-part}
+use Rattle.schema.specs.Texts.{clip, spelled}
+use Rattle.page.specs.Page.{Wrote, Digits}
+use Rattle.page.proofs.Pages.{wrote-then}
+
+-- ---- bytes
+module _ (s out : List ℕ) (at : ℕ) where
+  pub put-past : length out < at → Wrote s out at out at
+  put-past h = record { long = refl; fits = λ k. absurd (omega arith) }
+
+  pub put-over : at ≤ length out → length out - at < length s → Wrote s out at out at
+  put-over h l = record { long = refl; fits = λ k. absurd (omega arith) }
+
+  -- the part of the page with the bytes in it is back
+  pub put-in : (ys : List ℕ) → at ≤ length out → length s ≤ length out - at → ys ≡ s ++ drop (length s) (take (at + length s - at) (drop at out))
+      → Wrote s out at (take at out ++ (ys ++ drop (at + length s - at) (drop at out))) (at + length s)
+  unfolding stored
+  put-in ys h l e =
+      let k : at + length s - at ≡ length s = omega arith in
+      let n : drop (length s) (take (length s) (drop at out)) ≡ [] = drop-of-length-le (take (length s) (drop at out)) {i = length s} (omega (arith, length-take (length s) (drop at out))) in
+      let w : take at out ++ (ys ++ drop (at + length s - at) (drop at out)) ≡ stored out at s = rw (e, k, n, append-nil, drop-drop (length s) at out) in
+      record { long = ap length w ∙ length-stored out at s (omega arith); fits = λ _. (w, refl) }
+
+-- a field by what it says
+pub field-by : {s t o o1 : List ℕ} {n n1 : ℕ} → Wrote (32 ∷ s) o n o1 n1 → s ≡ t → Wrote (32 ∷ t) o n o1 n1
+field-by {o = o} {o1 = o1} {n = n} {n1 = n1} x e = subst (λ (f : List ℕ). Wrote (32 ∷ f) o n o1 n1) e x
+
+module _ (s o o1 o2 : List ℕ) (n n1 n2 : ℕ) where
+  pub field-is : Wrote (32 ∷ []) o n o1 n1 → Wrote s o1 n1 o2 n2 → Wrote (32 ∷ s) o n o2 n2
+  field-is x y = wrote-then x y
+
+  pub aic-is : Wrote (32 ∷ s) o n o1 n1 → Wrote (ascii ".aic") o1 n1 o2 n2 → Wrote (32 ∷ (s ++ ascii ".aic")) o n o2 n2
+  aic-is x y = wrote-then x y
+
+module _ (o o1 : List ℕ) (n n1 : ℕ) where
+  -- ---- numbers and words
+  pub number-is : (number : ℕ) (room : List ℕ) (from : ℕ) → Digits number room from → Wrote (32 ∷ take (20 - from) (drop from room)) o n o1 n1 → Wrote (32 ∷ decimal number) o n o1 n1
+  number-is number room from d x = field-by x (rw (← (d .long), rest-of room from) (d .says))
+
+  pub word-is : (w : Word) (s : Span) → Stands w s → Wrote (take (s .to - s .from) (drop (s .from) all)) o n o1 n1 → Wrote (word w) o n o1 n1
+  word-is w s h x = subst (λ (l : List ℕ). Wrote l o n o1 n1) (rw (h .is, word-part w)) x
+
+  -- ---- texts
+  module _ (store name : List ℕ) (t : Text) where
+    pub text-fixed : (w : Word) → t ≡ texts.Fixed w → Wrote (32 ∷ word w) o n o1 n1 → Wrote (32 ∷ spelled store name t) o n o1 n1
+    text-fixed w e x = rw e x
+
+    pub text-aic : (from len : ℕ) (s : List ℕ) → t ≡ texts.WithAic from len → s ≡ clip from len store → Wrote (32 ∷ (s ++ ascii ".aic")) o n o1 n1 → Wrote (32 ∷ spelled store name t) o n o1 n1
+    text-aic from len s e h x = rw (e, ← h) x
+
+  -- ---- references
+  module _ (s : List ℕ) (b : Bool) (e : b ≡ nil? s) where
+    pub dash-is : b ≡ true → Wrote (32 ∷ ascii "-") o n o1 n1 → Wrote (32 ∷ dashed s) o n o1 n1
+    unfolding dashed
+    dash-is h x = rw (← e, h) x
+
+    pub named-is : b ≡ false → Wrote (32 ∷ s) o n o1 n1 → Wrote (32 ∷ dashed s) o n o1 n1
+    unfolding dashed
+    named-is h x = rw (← e, h) x
+
+-- ---- empty texts
+length-nil : (s : List ℕ) → eqb (length s) 0 ≡ nil? s
+length-nil [] = refl
+length-nil (a ∷ s) = ne-eqb (length (a ∷ s)) 0 (λ e. omega arith)
+
+-- no word is empty
+word-some : (w : Word) → nil? (word w) ≡ false
+unfolding word
+word-some words.Board = refl
+word-some words.Release = refl
+word-some words.Unknown = refl
+word-some words.Version = refl
+word-some words.Required = refl
+word-some words.Optional = refl
+word-some words.App = refl
+word-some words.Component = refl
+word-some words.D13x = refl
+word-some words.D21x = refl
+word-some words.Target13 = refl
+word-some words.Target21 = refl
+word-some words.SpiNor = refl
+word-some words.SpiNand = refl
+word-some words.Pbp = refl
+word-some words.Raw = refl
+word-some words.Aic = refl
+
+some-behind : (s : List ℕ) (b : ℕ) (bs : List ℕ) → nil? (s ++ (b ∷ bs)) ≡ false
+some-behind [] b bs = refl
+some-behind (a ∷ s) b bs = refl
+
+module _ (store name : List ℕ) (t : Text) where
+  pub blank-by : (s : List ℕ) → s ≡ spelled store name t → eqb (length s) 0 ≡ nil? (spelled store name t)
+  blank-by s e = rw (← e) (length-nil s)
+
+  pub blank-fixed : (w : Word) → t ≡ texts.Fixed w → false ≡ nil? (spelled store name t)
+  blank-fixed w e = rw e (sym (word-some w))
+
+  pub blank-aic : (from len : ℕ) → t ≡ texts.WithAic from len → false ≡ nil? (spelled store name t)
+  blank-aic from len e = rw e (sym (some-behind (clip from len store) 46 (ascii "aic")))

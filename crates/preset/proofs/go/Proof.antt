@@ -1,0 +1,63 @@
+use Rattle.preset.proofs.Settling.{read-rooms, read-settles, judged-on, read-refused}
+use borrow.Author.Needs.{needs}
+use Rattle.preset.proofs.go.Statement.{statement}
+use Rattle.preset.proofs.go.Tie as tie
+use Rattle.preset.proofs.go.Reads as reads
+use Rattle.preset.proofs.go.Lts as lts
+use Rattle.toml_lite.proofs.read_tree.Reads as read-tree-reads
+use Rattle.preset.proofs.settle.Reads as settle-reads
+use Rattle.preset.proofs.unread.Reads as unread-reads
+use Rattle.preset.proofs.judge.Reads as judge-reads
+
+read-tree-requires : tie.Need-read-tree-requires
+read-tree-requires c κs = search needs
+
+enum-known-r : tie.Need-enum-known-r
+enum-known-r c = search needs
+
+judge-requires : tie.Need-judge-requires
+judge-requires c κs = search (needs, read-rooms)
+
+settle-requires : tie.Need-settle-requires
+settle-requires c κs = search (needs, read-settles)
+
+enum-known-r-2 : tie.Need-enum-known-r-2
+enum-known-r-2 c = search needs
+
+unread-requires : tie.Need-unread-requires
+unread-requires c κs = search needs
+
+same-length : tie.Need-same-length
+same-length c = search needs
+
+same-length-2 : tie.Need-same-length-2
+same-length-2 c = search needs
+
+returns : tie.Need-returns
+returns c = search (needs, judged-on)
+
+same-length-3 : tie.Need-same-length-3
+same-length-3 c = search needs
+
+same-length-4 : tie.Need-same-length-4
+same-length-4 c = search needs
+
+returns-2 : tie.Need-returns-2
+returns-2 c = search (needs, read-refused)
+
+pub go-spec : {M : Type 1} → statement M
+go-spec =
+    tie.close
+    (tie.spec
+    read-tree-requires
+    enum-known-r
+    judge-requires
+    settle-requires
+    enum-known-r-2
+    unread-requires
+    same-length
+    same-length-2
+    returns
+    same-length-3
+    same-length-4
+    returns-2)

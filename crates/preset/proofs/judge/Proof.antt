@@ -1,0 +1,50 @@
+use Rattle.preset.proofs.Settling.{read-judged, validate-judged, plan-judged}
+use borrow.Author.Needs.{needs}
+use Rattle.preset.proofs.judge.Statement.{statement}
+use Rattle.preset.proofs.judge.Tie as tie
+use Rattle.preset.proofs.judge.Reads as reads
+use Rattle.preset.proofs.judge.Lts as lts
+use Rattle.parse.proofs.judge.Reads as judge-reads
+use Rattle.plan.proofs.judge.Reads as judge-reads′
+use Rattle.validate.proofs.judge.Reads as judge-reads′′
+
+enum-told : tie.Need-enum-told
+enum-told c = search needs
+
+judge-requires : tie.Need-judge-requires
+judge-requires c κs = search needs
+
+enum-told-2 : tie.Need-enum-told-2
+enum-told-2 c = search needs
+
+judge-requires-2 : tie.Need-judge-requires-2
+judge-requires-2 c κs = search needs
+
+enum-known-way : tie.Need-enum-known-way
+enum-known-way c = search needs
+
+judge-requires-3 : tie.Need-judge-requires-3
+judge-requires-3 c κs = search needs
+
+returns : tie.Need-returns
+returns c = search (needs, read-judged)
+
+returns-2 : tie.Need-returns-2
+returns-2 c = search (needs, validate-judged)
+
+returns-3 : tie.Need-returns-3
+returns-3 c = search (needs, plan-judged)
+
+pub judge-spec : {M : Type 1} → statement M
+judge-spec =
+    tie.close
+    (tie.spec
+    enum-told
+    judge-requires
+    enum-told-2
+    judge-requires-2
+    enum-known-way
+    judge-requires-3
+    returns
+    returns-2
+    returns-3)

@@ -1,0 +1,12 @@
+pub mod Forming
+pub mod Outs
+pub mod Making
+pub mod Strings
+pub mod Items
+pub mod Arrays
+pub mod Values
+pub mod Carrying
+pub mod Growing
+pub mod Descending
+pub mod Beginning
+pub mod Telling

@@ -1,0 +1,48 @@
+use Rattle.values.proofs.Descending.{lasts-enters, lasts-pushed}
+use borrow.Author.Needs.{needs}
+use Rattle.values.proofs.grow.push_last.Statement.{statement}
+use Rattle.values.proofs.grow.push_last.Tie as tie
+use Rattle.values.proofs.grow.push_last.Reads as reads
+use Rattle.values.proofs.grow.push_last.Lts as lts
+use Rattle.values.proofs.grow.begins.Reads as begins-reads
+use Rattle.values.proofs.grow.push.Reads as push-reads
+
+-- src/grow.rt:179:16
+sub-last : tie.Need-sub-last
+sub-last c = search needs
+
+-- src/grow.rt:180:9
+begins-requires : tie.Need-begins-requires
+begins-requires c κs = search needs
+
+-- src/grow.rt:181:15
+mul-end : tie.Need-mul-end
+mul-end c = search needs
+
+-- src/grow.rt:181:15
+element-copy-out-end : tie.Need-element-copy-out-end
+element-copy-out-end c = search needs
+
+-- src/grow.rt:182:5
+push-requires : tie.Need-push-requires
+push-requires c κs = search (needs, lasts-enters)
+
+-- src/grow.rt:175:1
+same-length : tie.Need-same-length
+same-length c = search needs
+
+-- src/grow.rt:175:1
+returns : tie.Need-returns
+returns c = search (needs, lasts-pushed)
+
+pub push-last-spec : {M : Type 1} → statement M
+push-last-spec =
+    tie.close
+    (tie.spec
+    sub-last
+    begins-requires
+    mul-end
+    element-copy-out-end
+    push-requires
+    same-length
+    returns)

@@ -1,0 +1,1013 @@
+use Prim.Native.Nat.{ℕ, _<_, _+_, _-_}
+use borrow.Author.Needs.{needs}
+use lib.ListN.{length}
+use Rattle.values.proofs.Items.{Held, start, done, item-high, item-fits, next-fits, item-less, item-ready, item-blank, item-fault, item-fine}
+use Rattle.values.proofs.Arrays.{part-long, array-deep, array-fault, array-some, array-ready, array-read}
+use Rattle.values.proofs.Values.{quote-some, quote-fits, quote-ready, bracket-some, bracket-fits, bracket-ready, value-string, value-array, value-plain}
+use borrow.Fn.Kinds.{In}
+use borrow.Fn.PlainCycle.{Measures, is, falls, and}
+use Rattle.values.proofs.value.array.Reads as array
+use Rattle.values.proofs.value.array.Kinds as array-kinds
+use Rattle.values.proofs.value.+array+items+value.Lts-array as array-lts
+use Rattle.values.proofs.value.items.Reads as items
+use Rattle.values.proofs.value.items.Kinds as items-kinds
+use Rattle.values.proofs.value.+array+items+value.Lts-items as items-lts
+use Rattle.values.proofs.value.value.Reads as value
+use Rattle.values.proofs.value.value.Kinds as value-kinds
+use Rattle.values.proofs.value.+array+items+value.Lts-value as value-lts
+use Rattle.chars.proofs.blank.Reads as blank-reads
+use Rattle.chars.proofs.trim.Reads as trim-reads
+use Rattle.slices.proofs.peek.Reads as peek-reads
+use Rattle.text.proofs.item.Reads as item-reads
+use Rattle.values.proofs.value.open_array.Reads as open-array-reads
+use Rattle.values.proofs.value.plain.Reads as plain-reads
+use Rattle.values.proofs.value.string.Reads as string-reads
+use Rattle.values.proofs.value.+array+items+value.{statement}
+use Rattle.values.proofs.value.+array+items+value.Tie.{close}
+
+abbrev μ-array : Measures 3 array-kinds.ps ℕ
+μ-array κs a = a .1 .1 .1 .1 .1 .1 .0 + a .1 .1 .1 .1 .1 .1 .0 + a .1 .1 .1 .1 .1 .1 .0 + 1
+
+abbrev μ-items : Measures 3 items-kinds.ps ℕ
+μ-items κs a = a .1 .1 .1 .1 .1 .1 .0 + a .1 .1 .1 .1 .1 .1 .0 + a .1 .1 .1 .1 .1 .1 .0 + 3
+
+abbrev μ-value : Measures 3 value-kinds.ps ℕ
+μ-value κs a = a .1 .1 .1 .1 .1 .1 .0 + a .1 .1 .1 .1 .1 .1 .0 + a .1 .1 .1 .1 .1 .1 .0 + 2
+
+abbrev array-at : ℕ → In 3 array-kinds.ps
+array-at t = and 3 array-kinds.ps (is 3 array-kinds.ps μ-array t) array.Pre
+
+abbrev array-below : ℕ → In 3 array-kinds.ps
+array-below t = and 3 array-kinds.ps (falls 3 array-kinds.ps _<_ μ-array t) array.Pre
+
+abbrev items-at : ℕ → In 3 items-kinds.ps
+items-at t = and 3 items-kinds.ps (is 3 items-kinds.ps μ-items t) items.Pre
+
+abbrev items-below : ℕ → In 3 items-kinds.ps
+items-below t = and 3 items-kinds.ps (falls 3 items-kinds.ps _<_ μ-items t) items.Pre
+
+abbrev value-at : ℕ → In 3 value-kinds.ps
+value-at t = and 3 value-kinds.ps (is 3 value-kinds.ps μ-value t) value.Pre
+
+abbrev value-below : ℕ → In 3 value-kinds.ps
+value-below t = and 3 value-kinds.ps (falls 3 value-kinds.ps _<_ μ-value t) value.Pre
+
+-- src/value.rt:163:9
+array-returns : (t : ℕ) → array-lts.Need-returns (
+  open-array-reads.Asked,
+  open-array-reads.Learnt,
+  items-below t,
+  items.Post,
+) (array-at t) array.Post
+array-returns t c = search (needs, array-deep)
+
+-- src/value.rt:166:9
+array-open-array-requires : (t : ℕ) → array-lts.Need-open-array-requires (
+  open-array-reads.Asked,
+  open-array-reads.Learnt,
+  items-below t,
+  items.Post,
+) (array-at t) array.Post
+array-open-array-requires t c κs = search needs
+
+-- src/value.rt:168:22
+array-enum-known-r : (t : ℕ) → array-lts.Need-enum-known-r (
+  open-array-reads.Asked,
+  open-array-reads.Learnt,
+  items-below t,
+  items.Post,
+) (array-at t) array.Post
+array-enum-known-r t c = search needs
+
+-- src/value.rt:169:21
+array-enum-known-r-2 : (t : ℕ) → array-lts.Need-enum-known-r-2 (
+  open-array-reads.Asked,
+  open-array-reads.Learnt,
+  items-below t,
+  items.Post,
+) (array-at t) array.Post
+array-enum-known-r-2 t c = search needs
+
+-- src/value.rt:170:21
+array-sub-e : (t : ℕ) → array-lts.Need-sub-e (
+  open-array-reads.Asked,
+  open-array-reads.Learnt,
+  items-below t,
+  items.Post,
+) (array-at t) array.Post
+array-sub-e t c = search (needs, array-some)
+
+-- src/value.rt:171:26
+array-add-under : (t : ℕ) → array-lts.Need-add-under (
+  open-array-reads.Asked,
+  open-array-reads.Learnt,
+  items-below t,
+  items.Post,
+) (array-at t) array.Post
+array-add-under t c = search needs
+
+-- src/value.rt:171:25
+array-cast-under : (t : ℕ) → array-lts.Need-cast-under (
+  open-array-reads.Asked,
+  open-array-reads.Learnt,
+  items-below t,
+  items.Post,
+) (array-at t) array.Post
+array-cast-under t c = search needs
+
+-- src/value.rt:172:19
+array-slice-aggregate-items : (t : ℕ) → array-lts.Need-slice-aggregate-items (
+  open-array-reads.Asked,
+  open-array-reads.Learnt,
+  items-below t,
+  items.Post,
+) (array-at t) array.Post
+array-slice-aggregate-items t c = search (needs, part-long)
+
+-- src/value.rt:172:61
+array-sub-items : (t : ℕ) → array-lts.Need-sub-items (
+  open-array-reads.Asked,
+  open-array-reads.Learnt,
+  items-below t,
+  items.Post,
+) (array-at t) array.Post
+array-sub-items t c = search needs
+
+-- src/value.rt:172:13
+array-items-requires : (t : ℕ) → array-lts.Need-items-requires (
+  open-array-reads.Asked,
+  open-array-reads.Learnt,
+  items-below t,
+  items.Post,
+) (array-at t) array.Post
+array-items-requires t c κs = search (needs, array-ready)
+
+-- src/value.rt:158:1
+array-same-length : (t : ℕ) → array-lts.Need-same-length (
+  open-array-reads.Asked,
+  open-array-reads.Learnt,
+  items-below t,
+  items.Post,
+) (array-at t) array.Post
+array-same-length t c = search needs
+
+-- src/value.rt:158:1
+array-returns-2 : (t : ℕ) → array-lts.Need-returns-2 (
+  open-array-reads.Asked,
+  open-array-reads.Learnt,
+  items-below t,
+  items.Post,
+) (array-at t) array.Post
+array-returns-2 t c = search (needs, array-fault)
+
+-- src/value.rt:158:1
+array-same-length-2 : (t : ℕ) → array-lts.Need-same-length-2 (
+  open-array-reads.Asked,
+  open-array-reads.Learnt,
+  items-below t,
+  items.Post,
+) (array-at t) array.Post
+array-same-length-2 t c = search needs
+
+-- src/value.rt:158:1
+array-same-length-3 : (t : ℕ) → array-lts.Need-same-length-3 (
+  open-array-reads.Asked,
+  open-array-reads.Learnt,
+  items-below t,
+  items.Post,
+) (array-at t) array.Post
+array-same-length-3 t c = search needs
+
+-- src/value.rt:158:1
+array-returns-3 : (t : ℕ) → array-lts.Need-returns-3 (
+  open-array-reads.Asked,
+  open-array-reads.Learnt,
+  items-below t,
+  items.Post,
+) (array-at t) array.Post
+array-returns-3 t c = search (needs, array-read)
+
+abbrev items-Inv-loop : items-lts.InvT-loop
+items-Inv-loop s store₀ tree₀ parent limit depth i₀ cur₀ store tree i cur = Held limit depth parent s store₀ tree₀ cur₀ store tree i cur
+
+abbrev items-μ-loop : items-lts.MeasureT-loop
+items-μ-loop s store₀ tree₀ parent limit depth i₀ cur₀ store tree i cur = length s - i
+
+-- src/value.rt:184:5
+items-loop-holds : (t : ℕ) → items-lts.Need-loop-holds (
+  item-reads.Asked,
+  item-reads.Learnt,
+  blank-reads.Asked,
+  blank-reads.Learnt,
+  value-below t,
+  value.Post,
+) (items-at t) items.Post items-Inv-loop items-μ-loop
+items-loop-holds t c = search (needs, start)
+
+-- src/value.rt:185:28
+items-sub-item : (t : ℕ) → items-lts.Need-sub-item (
+  item-reads.Asked,
+  item-reads.Learnt,
+  blank-reads.Asked,
+  blank-reads.Learnt,
+  value-below t,
+  value.Post,
+) (items-at t) items.Post items-Inv-loop items-μ-loop
+items-sub-item t c = search needs
+
+-- src/value.rt:185:28
+items-part-item-start : (t : ℕ) → items-lts.Need-part-item-start (
+  item-reads.Asked,
+  item-reads.Learnt,
+  blank-reads.Asked,
+  blank-reads.Learnt,
+  value-below t,
+  value.Post,
+) (items-at t) items.Post items-Inv-loop items-μ-loop
+items-part-item-start t c = search needs
+
+-- src/value.rt:185:28
+items-part-item-end : (t : ℕ) → items-lts.Need-part-item-end (
+  item-reads.Asked,
+  item-reads.Learnt,
+  blank-reads.Asked,
+  blank-reads.Learnt,
+  value-below t,
+  value.Post,
+) (items-at t) items.Post items-Inv-loop items-μ-loop
+items-part-item-end t c = search needs
+
+-- src/value.rt:185:13
+items-item-requires : (t : ℕ) → items-lts.Need-item-requires (
+  item-reads.Asked,
+  item-reads.Learnt,
+  blank-reads.Asked,
+  blank-reads.Learnt,
+  value-below t,
+  value.Post,
+) (items-at t) items.Post items-Inv-loop items-μ-loop
+items-item-requires t c κs = search needs
+
+-- src/value.rt:186:17
+items-add-e : (t : ℕ) → items-lts.Need-add-e (
+  item-reads.Asked,
+  item-reads.Learnt,
+  blank-reads.Asked,
+  blank-reads.Learnt,
+  value-below t,
+  value.Post,
+) (items-at t) items.Post items-Inv-loop items-μ-loop
+items-add-e t c = search (needs, item-fits)
+
+-- src/value.rt:187:25
+items-sub-blank : (t : ℕ) → items-lts.Need-sub-blank (
+  item-reads.Asked,
+  item-reads.Learnt,
+  blank-reads.Asked,
+  blank-reads.Learnt,
+  value-below t,
+  value.Post,
+) (items-at t) items.Post items-Inv-loop items-μ-loop
+items-sub-blank t c = search (needs, item-high)
+
+-- src/value.rt:187:25
+items-part-blank-start : (t : ℕ) → items-lts.Need-part-blank-start (
+  item-reads.Asked,
+  item-reads.Learnt,
+  blank-reads.Asked,
+  blank-reads.Learnt,
+  value-below t,
+  value.Post,
+) (items-at t) items.Post items-Inv-loop items-μ-loop
+items-part-blank-start t c = search needs
+
+-- src/value.rt:187:25
+items-part-blank-end : (t : ℕ) → items-lts.Need-part-blank-end (
+  item-reads.Asked,
+  item-reads.Learnt,
+  blank-reads.Asked,
+  blank-reads.Learnt,
+  value-below t,
+  value.Post,
+) (items-at t) items.Post items-Inv-loop items-μ-loop
+items-part-blank-end t c = search (needs, item-high)
+
+-- src/value.rt:187:12
+items-blank-requires : (t : ℕ) → items-lts.Need-blank-requires (
+  item-reads.Asked,
+  item-reads.Learnt,
+  blank-reads.Asked,
+  blank-reads.Learnt,
+  value-below t,
+  value.Post,
+) (items-at t) items.Post items-Inv-loop items-μ-loop
+items-blank-requires t c κs = search needs
+
+-- src/value.rt:188:17
+items-add-i : (t : ℕ) → items-lts.Need-add-i (
+  item-reads.Asked,
+  item-reads.Learnt,
+  blank-reads.Asked,
+  blank-reads.Learnt,
+  value-below t,
+  value.Post,
+) (items-at t) items.Post items-Inv-loop items-μ-loop
+items-add-i t c = search (needs, next-fits)
+
+-- src/value.rt:184:5
+items-loop-less : (t : ℕ) → items-lts.Need-loop-less (
+  item-reads.Asked,
+  item-reads.Learnt,
+  blank-reads.Asked,
+  blank-reads.Learnt,
+  value-below t,
+  value.Post,
+) (items-at t) items.Post items-Inv-loop items-μ-loop
+items-loop-less t c = search (needs, item-less)
+
+-- src/value.rt:184:5
+items-loop-again : (t : ℕ) → items-lts.Need-loop-again (
+  item-reads.Asked,
+  item-reads.Learnt,
+  blank-reads.Asked,
+  blank-reads.Learnt,
+  value-below t,
+  value.Post,
+) (items-at t) items.Post items-Inv-loop items-μ-loop
+items-loop-again t c = search (needs, item-blank)
+
+-- src/value.rt:190:27
+items-sub-value : (t : ℕ) → items-lts.Need-sub-value (
+  item-reads.Asked,
+  item-reads.Learnt,
+  blank-reads.Asked,
+  blank-reads.Learnt,
+  value-below t,
+  value.Post,
+) (items-at t) items.Post items-Inv-loop items-μ-loop
+items-sub-value t c = search (needs, item-high)
+
+-- src/value.rt:190:27
+items-part-value-start : (t : ℕ) → items-lts.Need-part-value-start (
+  item-reads.Asked,
+  item-reads.Learnt,
+  blank-reads.Asked,
+  blank-reads.Learnt,
+  value-below t,
+  value.Post,
+) (items-at t) items.Post items-Inv-loop items-μ-loop
+items-part-value-start t c = search needs
+
+-- src/value.rt:190:27
+items-part-value-end : (t : ℕ) → items-lts.Need-part-value-end (
+  item-reads.Asked,
+  item-reads.Learnt,
+  blank-reads.Asked,
+  blank-reads.Learnt,
+  value-below t,
+  value.Post,
+) (items-at t) items.Post items-Inv-loop items-μ-loop
+items-part-value-end t c = search (needs, item-high)
+
+-- src/value.rt:190:17
+items-value-requires : (t : ℕ) → items-lts.Need-value-requires (
+  item-reads.Asked,
+  item-reads.Learnt,
+  blank-reads.Asked,
+  blank-reads.Learnt,
+  value-below t,
+  value.Post,
+) (items-at t) items.Post items-Inv-loop items-μ-loop
+items-value-requires t c κs = search (needs, item-ready)
+
+-- src/value.rt:192:30
+items-enum-known-r : (t : ℕ) → items-lts.Need-enum-known-r (
+  item-reads.Asked,
+  item-reads.Learnt,
+  blank-reads.Asked,
+  blank-reads.Learnt,
+  value-below t,
+  value.Post,
+) (items-at t) items.Post items-Inv-loop items-μ-loop
+items-enum-known-r t c = search needs
+
+-- src/value.rt:193:21
+items-same-length : (t : ℕ) → items-lts.Need-same-length (
+  item-reads.Asked,
+  item-reads.Learnt,
+  blank-reads.Asked,
+  blank-reads.Learnt,
+  value-below t,
+  value.Post,
+) (items-at t) items.Post items-Inv-loop items-μ-loop
+items-same-length t c = search needs
+
+-- src/value.rt:193:21
+items-same-length-2 : (t : ℕ) → items-lts.Need-same-length-2 (
+  item-reads.Asked,
+  item-reads.Learnt,
+  blank-reads.Asked,
+  blank-reads.Learnt,
+  value-below t,
+  value.Post,
+) (items-at t) items.Post items-Inv-loop items-μ-loop
+items-same-length-2 t c = search needs
+
+-- src/value.rt:193:21
+items-returns : (t : ℕ) → items-lts.Need-returns (
+  item-reads.Asked,
+  item-reads.Learnt,
+  blank-reads.Asked,
+  blank-reads.Learnt,
+  value-below t,
+  value.Post,
+) (items-at t) items.Post items-Inv-loop items-μ-loop
+items-returns t c = search (needs, item-fault)
+
+-- src/value.rt:195:29
+items-enum-known-r-2 : (t : ℕ) → items-lts.Need-enum-known-r-2 (
+  item-reads.Asked,
+  item-reads.Learnt,
+  blank-reads.Asked,
+  blank-reads.Learnt,
+  value-below t,
+  value.Post,
+) (items-at t) items.Post items-Inv-loop items-μ-loop
+items-enum-known-r-2 t c = search needs
+
+-- src/value.rt:197:25
+items-add-i-2 : (t : ℕ) → items-lts.Need-add-i-2 (
+  item-reads.Asked,
+  item-reads.Learnt,
+  blank-reads.Asked,
+  blank-reads.Learnt,
+  value-below t,
+  value.Post,
+) (items-at t) items.Post items-Inv-loop items-μ-loop
+items-add-i-2 t c = search (needs, next-fits)
+
+-- src/value.rt:184:5
+items-loop-less-2 : (t : ℕ) → items-lts.Need-loop-less-2 (
+  item-reads.Asked,
+  item-reads.Learnt,
+  blank-reads.Asked,
+  blank-reads.Learnt,
+  value-below t,
+  value.Post,
+) (items-at t) items.Post items-Inv-loop items-μ-loop
+items-loop-less-2 t c = search (needs, item-less)
+
+-- src/value.rt:184:5
+items-loop-again-2 : (t : ℕ) → items-lts.Need-loop-again-2 (
+  item-reads.Asked,
+  item-reads.Learnt,
+  blank-reads.Asked,
+  blank-reads.Learnt,
+  value-below t,
+  value.Post,
+) (items-at t) items.Post items-Inv-loop items-μ-loop
+items-loop-again-2 t c = search (needs, item-fine)
+
+-- src/value.rt:178:1
+items-same-length-3 : (t : ℕ) → items-lts.Need-same-length-3 (
+  item-reads.Asked,
+  item-reads.Learnt,
+  blank-reads.Asked,
+  blank-reads.Learnt,
+  value-below t,
+  value.Post,
+) (items-at t) items.Post items-Inv-loop items-μ-loop
+items-same-length-3 t c = search needs
+
+-- src/value.rt:178:1
+items-same-length-4 : (t : ℕ) → items-lts.Need-same-length-4 (
+  item-reads.Asked,
+  item-reads.Learnt,
+  blank-reads.Asked,
+  blank-reads.Learnt,
+  value-below t,
+  value.Post,
+) (items-at t) items.Post items-Inv-loop items-μ-loop
+items-same-length-4 t c = search needs
+
+-- src/value.rt:178:1
+items-returns-2 : (t : ℕ) → items-lts.Need-returns-2 (
+  item-reads.Asked,
+  item-reads.Learnt,
+  blank-reads.Asked,
+  blank-reads.Learnt,
+  value-below t,
+  value.Post,
+) (items-at t) items.Post items-Inv-loop items-μ-loop
+items-returns-2 t c = search (needs, done)
+
+-- src/value.rt:142:9
+value-trim-requires : (t : ℕ) → value-lts.Need-trim-requires (
+  trim-reads.Asked,
+  trim-reads.Learnt,
+  peek-reads.Asked,
+  peek-reads.Learnt,
+  string-reads.Asked,
+  string-reads.Learnt,
+  array-below t,
+  array.Post,
+  plain-reads.Asked,
+  plain-reads.Learnt,
+) (value-at t) value.Post
+value-trim-requires t c κs = search needs
+
+-- src/value.rt:145:26
+value-sub-peek : (t : ℕ) → value-lts.Need-sub-peek (
+  trim-reads.Asked,
+  trim-reads.Learnt,
+  peek-reads.Asked,
+  peek-reads.Learnt,
+  string-reads.Asked,
+  string-reads.Learnt,
+  array-below t,
+  array.Post,
+  plain-reads.Asked,
+  plain-reads.Learnt,
+) (value-at t) value.Post
+value-sub-peek t c = search needs
+
+-- src/value.rt:145:26
+value-part-peek-start : (t : ℕ) → value-lts.Need-part-peek-start (
+  trim-reads.Asked,
+  trim-reads.Learnt,
+  peek-reads.Asked,
+  peek-reads.Learnt,
+  string-reads.Asked,
+  string-reads.Learnt,
+  array-below t,
+  array.Post,
+  plain-reads.Asked,
+  plain-reads.Learnt,
+) (value-at t) value.Post
+value-part-peek-start t c = search needs
+
+-- src/value.rt:145:26
+value-part-peek-end : (t : ℕ) → value-lts.Need-part-peek-end (
+  trim-reads.Asked,
+  trim-reads.Learnt,
+  peek-reads.Asked,
+  peek-reads.Learnt,
+  string-reads.Asked,
+  string-reads.Learnt,
+  array-below t,
+  array.Post,
+  plain-reads.Asked,
+  plain-reads.Learnt,
+) (value-at t) value.Post
+value-part-peek-end t c = search needs
+
+-- src/value.rt:145:9
+value-peek-requires : (t : ℕ) → value-lts.Need-peek-requires (
+  trim-reads.Asked,
+  trim-reads.Learnt,
+  peek-reads.Asked,
+  peek-reads.Learnt,
+  string-reads.Asked,
+  string-reads.Learnt,
+  array-below t,
+  array.Post,
+  plain-reads.Asked,
+  plain-reads.Learnt,
+) (value-at t) value.Post
+value-peek-requires t c κs = search needs
+
+-- src/value.rt:147:17
+value-add-a : (t : ℕ) → value-lts.Need-add-a (
+  trim-reads.Asked,
+  trim-reads.Learnt,
+  peek-reads.Asked,
+  peek-reads.Learnt,
+  string-reads.Asked,
+  string-reads.Learnt,
+  array-below t,
+  array.Post,
+  plain-reads.Asked,
+  plain-reads.Learnt,
+) (value-at t) value.Post
+value-add-a t c = search (needs, quote-fits)
+
+-- src/value.rt:148:23
+value-sub-string : (t : ℕ) → value-lts.Need-sub-string (
+  trim-reads.Asked,
+  trim-reads.Learnt,
+  peek-reads.Asked,
+  peek-reads.Learnt,
+  string-reads.Asked,
+  string-reads.Learnt,
+  array-below t,
+  array.Post,
+  plain-reads.Asked,
+  plain-reads.Learnt,
+) (value-at t) value.Post
+value-sub-string t c = search (needs, quote-some)
+
+-- src/value.rt:148:23
+value-part-string-start : (t : ℕ) → value-lts.Need-part-string-start (
+  trim-reads.Asked,
+  trim-reads.Learnt,
+  peek-reads.Asked,
+  peek-reads.Learnt,
+  string-reads.Asked,
+  string-reads.Learnt,
+  array-below t,
+  array.Post,
+  plain-reads.Asked,
+  plain-reads.Learnt,
+) (value-at t) value.Post
+value-part-string-start t c = search (needs, quote-some)
+
+-- src/value.rt:148:23
+value-part-string-end : (t : ℕ) → value-lts.Need-part-string-end (
+  trim-reads.Asked,
+  trim-reads.Learnt,
+  peek-reads.Asked,
+  peek-reads.Learnt,
+  string-reads.Asked,
+  string-reads.Learnt,
+  array-below t,
+  array.Post,
+  plain-reads.Asked,
+  plain-reads.Learnt,
+) (value-at t) value.Post
+value-part-string-end t c = search needs
+
+-- src/value.rt:148:9
+value-string-requires : (t : ℕ) → value-lts.Need-string-requires (
+  trim-reads.Asked,
+  trim-reads.Learnt,
+  peek-reads.Asked,
+  peek-reads.Learnt,
+  string-reads.Asked,
+  string-reads.Learnt,
+  array-below t,
+  array.Post,
+  plain-reads.Asked,
+  plain-reads.Learnt,
+) (value-at t) value.Post
+value-string-requires t c κs = search (needs, quote-ready)
+
+-- src/value.rt:148:9
+value-same-length : (t : ℕ) → value-lts.Need-same-length (
+  trim-reads.Asked,
+  trim-reads.Learnt,
+  peek-reads.Asked,
+  peek-reads.Learnt,
+  string-reads.Asked,
+  string-reads.Learnt,
+  array-below t,
+  array.Post,
+  plain-reads.Asked,
+  plain-reads.Learnt,
+) (value-at t) value.Post
+value-same-length t c = search needs
+
+-- src/value.rt:148:9
+value-same-length-2 : (t : ℕ) → value-lts.Need-same-length-2 (
+  trim-reads.Asked,
+  trim-reads.Learnt,
+  peek-reads.Asked,
+  peek-reads.Learnt,
+  string-reads.Asked,
+  string-reads.Learnt,
+  array-below t,
+  array.Post,
+  plain-reads.Asked,
+  plain-reads.Learnt,
+) (value-at t) value.Post
+value-same-length-2 t c = search needs
+
+-- src/value.rt:148:9
+value-returns : (t : ℕ) → value-lts.Need-returns (
+  trim-reads.Asked,
+  trim-reads.Learnt,
+  peek-reads.Asked,
+  peek-reads.Learnt,
+  string-reads.Asked,
+  string-reads.Learnt,
+  array-below t,
+  array.Post,
+  plain-reads.Asked,
+  plain-reads.Learnt,
+) (value-at t) value.Post
+value-returns t c = search (needs, value-string)
+
+-- src/value.rt:151:17
+value-add-a-2 : (t : ℕ) → value-lts.Need-add-a-2 (
+  trim-reads.Asked,
+  trim-reads.Learnt,
+  peek-reads.Asked,
+  peek-reads.Learnt,
+  string-reads.Asked,
+  string-reads.Learnt,
+  array-below t,
+  array.Post,
+  plain-reads.Asked,
+  plain-reads.Learnt,
+) (value-at t) value.Post
+value-add-a-2 t c = search (needs, bracket-fits)
+
+-- src/value.rt:152:22
+value-sub-array : (t : ℕ) → value-lts.Need-sub-array (
+  trim-reads.Asked,
+  trim-reads.Learnt,
+  peek-reads.Asked,
+  peek-reads.Learnt,
+  string-reads.Asked,
+  string-reads.Learnt,
+  array-below t,
+  array.Post,
+  plain-reads.Asked,
+  plain-reads.Learnt,
+) (value-at t) value.Post
+value-sub-array t c = search (needs, bracket-some)
+
+-- src/value.rt:152:22
+value-part-array-start : (t : ℕ) → value-lts.Need-part-array-start (
+  trim-reads.Asked,
+  trim-reads.Learnt,
+  peek-reads.Asked,
+  peek-reads.Learnt,
+  string-reads.Asked,
+  string-reads.Learnt,
+  array-below t,
+  array.Post,
+  plain-reads.Asked,
+  plain-reads.Learnt,
+) (value-at t) value.Post
+value-part-array-start t c = search (needs, bracket-some)
+
+-- src/value.rt:152:22
+value-part-array-end : (t : ℕ) → value-lts.Need-part-array-end (
+  trim-reads.Asked,
+  trim-reads.Learnt,
+  peek-reads.Asked,
+  peek-reads.Learnt,
+  string-reads.Asked,
+  string-reads.Learnt,
+  array-below t,
+  array.Post,
+  plain-reads.Asked,
+  plain-reads.Learnt,
+) (value-at t) value.Post
+value-part-array-end t c = search needs
+
+-- src/value.rt:152:9
+value-array-requires : (t : ℕ) → value-lts.Need-array-requires (
+  trim-reads.Asked,
+  trim-reads.Learnt,
+  peek-reads.Asked,
+  peek-reads.Learnt,
+  string-reads.Asked,
+  string-reads.Learnt,
+  array-below t,
+  array.Post,
+  plain-reads.Asked,
+  plain-reads.Learnt,
+) (value-at t) value.Post
+value-array-requires t c κs = search (needs, bracket-ready)
+
+-- src/value.rt:152:9
+value-same-length-3 : (t : ℕ) → value-lts.Need-same-length-3 (
+  trim-reads.Asked,
+  trim-reads.Learnt,
+  peek-reads.Asked,
+  peek-reads.Learnt,
+  string-reads.Asked,
+  string-reads.Learnt,
+  array-below t,
+  array.Post,
+  plain-reads.Asked,
+  plain-reads.Learnt,
+) (value-at t) value.Post
+value-same-length-3 t c = search needs
+
+-- src/value.rt:152:9
+value-same-length-4 : (t : ℕ) → value-lts.Need-same-length-4 (
+  trim-reads.Asked,
+  trim-reads.Learnt,
+  peek-reads.Asked,
+  peek-reads.Learnt,
+  string-reads.Asked,
+  string-reads.Learnt,
+  array-below t,
+  array.Post,
+  plain-reads.Asked,
+  plain-reads.Learnt,
+) (value-at t) value.Post
+value-same-length-4 t c = search needs
+
+-- src/value.rt:152:9
+value-returns-2 : (t : ℕ) → value-lts.Need-returns-2 (
+  trim-reads.Asked,
+  trim-reads.Learnt,
+  peek-reads.Asked,
+  peek-reads.Learnt,
+  string-reads.Asked,
+  string-reads.Learnt,
+  array-below t,
+  array.Post,
+  plain-reads.Asked,
+  plain-reads.Learnt,
+) (value-at t) value.Post
+value-returns-2 t c = search (needs, value-array)
+
+-- src/value.rt:154:11
+value-sub-plain : (t : ℕ) → value-lts.Need-sub-plain (
+  trim-reads.Asked,
+  trim-reads.Learnt,
+  peek-reads.Asked,
+  peek-reads.Learnt,
+  string-reads.Asked,
+  string-reads.Learnt,
+  array-below t,
+  array.Post,
+  plain-reads.Asked,
+  plain-reads.Learnt,
+) (value-at t) value.Post
+value-sub-plain t c = search needs
+
+-- src/value.rt:154:11
+value-part-plain-start : (t : ℕ) → value-lts.Need-part-plain-start (
+  trim-reads.Asked,
+  trim-reads.Learnt,
+  peek-reads.Asked,
+  peek-reads.Learnt,
+  string-reads.Asked,
+  string-reads.Learnt,
+  array-below t,
+  array.Post,
+  plain-reads.Asked,
+  plain-reads.Learnt,
+) (value-at t) value.Post
+value-part-plain-start t c = search needs
+
+-- src/value.rt:154:11
+value-part-plain-end : (t : ℕ) → value-lts.Need-part-plain-end (
+  trim-reads.Asked,
+  trim-reads.Learnt,
+  peek-reads.Asked,
+  peek-reads.Learnt,
+  string-reads.Asked,
+  string-reads.Learnt,
+  array-below t,
+  array.Post,
+  plain-reads.Asked,
+  plain-reads.Learnt,
+) (value-at t) value.Post
+value-part-plain-end t c = search needs
+
+-- src/value.rt:154:5
+value-plain-requires : (t : ℕ) → value-lts.Need-plain-requires (
+  trim-reads.Asked,
+  trim-reads.Learnt,
+  peek-reads.Asked,
+  peek-reads.Learnt,
+  string-reads.Asked,
+  string-reads.Learnt,
+  array-below t,
+  array.Post,
+  plain-reads.Asked,
+  plain-reads.Learnt,
+) (value-at t) value.Post
+value-plain-requires t c κs = search needs
+
+-- src/value.rt:138:1
+value-same-length-5 : (t : ℕ) → value-lts.Need-same-length-5 (
+  trim-reads.Asked,
+  trim-reads.Learnt,
+  peek-reads.Asked,
+  peek-reads.Learnt,
+  string-reads.Asked,
+  string-reads.Learnt,
+  array-below t,
+  array.Post,
+  plain-reads.Asked,
+  plain-reads.Learnt,
+) (value-at t) value.Post
+value-same-length-5 t c = search needs
+
+-- src/value.rt:138:1
+value-returns-3 : (t : ℕ) → value-lts.Need-returns-3 (
+  trim-reads.Asked,
+  trim-reads.Learnt,
+  peek-reads.Asked,
+  peek-reads.Learnt,
+  string-reads.Asked,
+  string-reads.Learnt,
+  array-below t,
+  array.Post,
+  plain-reads.Asked,
+  plain-reads.Learnt,
+) (value-at t) value.Post
+value-returns-3 t c = search (needs, value-plain)
+
+pub +array+items+value-spec : {M : Type 1} → statement M
++array+items+value-spec = close μ-array μ-items μ-value (λ t. array-lts.spec (
+  open-array-reads.Asked,
+  open-array-reads.Learnt,
+  items-below t,
+  items.Post,
+)
+    (array-at t)
+    array.Post
+    (array-returns t)
+    (array-open-array-requires t)
+    (array-enum-known-r t)
+    (array-enum-known-r-2 t)
+    (array-sub-e t)
+    (array-add-under t)
+    (array-cast-under t)
+    (array-slice-aggregate-items t)
+    (array-sub-items t)
+    (array-items-requires t)
+    (array-same-length t)
+    (array-returns-2 t)
+    (array-same-length-2 t)
+    (array-same-length-3 t)
+    (array-returns-3 t))
+    (λ t. items-lts.spec (
+      item-reads.Asked,
+      item-reads.Learnt,
+      blank-reads.Asked,
+      blank-reads.Learnt,
+      value-below t,
+      value.Post,
+    )
+    (items-at t)
+    items.Post
+    items-Inv-loop
+    items-μ-loop
+    (items-loop-holds t)
+    (items-sub-item t)
+    (items-part-item-start t)
+    (items-part-item-end t)
+    (items-item-requires t)
+    (items-add-e t)
+    (items-sub-blank t)
+    (items-part-blank-start t)
+    (items-part-blank-end t)
+    (items-blank-requires t)
+    (items-add-i t)
+    (items-loop-less t)
+    (items-loop-again t)
+    (items-sub-value t)
+    (items-part-value-start t)
+    (items-part-value-end t)
+    (items-value-requires t)
+    (items-enum-known-r t)
+    (items-same-length t)
+    (items-same-length-2 t)
+    (items-returns t)
+    (items-enum-known-r-2 t)
+    (items-add-i-2 t)
+    (items-loop-less-2 t)
+    (items-loop-again-2 t)
+    (items-same-length-3 t)
+    (items-same-length-4 t)
+    (items-returns-2 t))
+    λ t. value-lts.spec (
+      trim-reads.Asked,
+      trim-reads.Learnt,
+      peek-reads.Asked,
+      peek-reads.Learnt,
+      string-reads.Asked,
+      string-reads.Learnt,
+      array-below t,
+      array.Post,
+      plain-reads.Asked,
+      plain-reads.Learnt,
+    )
+    (value-at t)
+    value.Post
+    (value-trim-requires t)
+    (value-sub-peek t)
+    (value-part-peek-start t)
+    (value-part-peek-end t)
+    (value-peek-requires t)
+    (value-add-a t)
+    (value-sub-string t)
+    (value-part-string-start t)
+    (value-part-string-end t)
+    (value-string-requires t)
+    (value-same-length t)
+    (value-same-length-2 t)
+    (value-returns t)
+    (value-add-a-2 t)
+    (value-sub-array t)
+    (value-part-array-start t)
+    (value-part-array-end t)
+    (value-array-requires t)
+    (value-same-length-3 t)
+    (value-same-length-4 t)
+    (value-returns-2 t)
+    (value-sub-plain t)
+    (value-part-plain-start t)
+    (value-part-plain-end t)
+    (value-plain-requires t)
+    (value-same-length-5 t)
+    (value-returns-3 t)

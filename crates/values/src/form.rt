@@ -1,0 +1,67 @@
+// What a joined line is, told by its first and last bytes and its first `=` outside a string.
+
+ghost use mathlib.Core.Path.{_≡_};
+ghost use Rattle.meaning.specs.Document as meant;
+ghost use Rattle.values.specs.Forms.{Formed};
+
+// `[[..]]`, `[..]`, an assignment whose `=` stands at a place, or neither.
+pub enum Form {
+    Pushes,
+    Heads,
+    Sets(usize),
+    Neither,
+}
+
+// `[[..]]`
+fn double(l: &[u8]) -> bool
+    ensures { λ r. ⌜ r ≡ meant.double (now (l .entry)) ⌝ }
+{
+    let n = l.len();
+    if n < 4 {
+        return false;
+    }
+    if l[0] == 91 {
+        if l[1] == 91 {
+            if l[n - 1] == 93 {
+                return l[n - 2] == 93;
+            }
+            return false;
+        }
+        return false;
+    }
+    false
+}
+
+// `[..]` not starting `[[`
+fn single(l: &[u8]) -> bool
+    ensures { λ r. ⌜ r ≡ meant.single (now (l .entry)) ⌝ }
+{
+    let n = l.len();
+    if n < 2 {
+        return false;
+    }
+    if l[0] == 91 {
+        if l[1] == 91 {
+            return false;
+        }
+        return l[n - 1] == 93;
+    }
+    false
+}
+
+// What the trimmed line l is.
+pub fn classify(l: &[u8]) -> Form
+    ensures { λ r. ⌜ Formed (now (l .entry)) r ⌝ }
+{
+    if double(l) {
+        return Form::Pushes;
+    }
+    if single(l) {
+        return Form::Heads;
+    }
+    let at = text::outside(l, 61);
+    if at < l.len() {
+        return Form::Sets(at);
+    }
+    Form::Neither
+}
