@@ -9,35 +9,27 @@ use Rattle.parse.proofs.check_components.Reads as check-components-read
 use Rattle.parse.proofs.check_front.Reads as check-front-reads
 use Rattle.parse.proofs.check_partitions.Reads as check-partitions-reads
 
--- src/lib.rt:112:9
 check-front-requires : tie.Need-check-front-requires
 check-front-requires c κs = search needs
 
--- src/lib.rt:114:9
 returns : tie.Need-returns
 returns c = search (needs, front-refused)
 
--- src/lib.rt:116:9
 check-partitions-requires : tie.Need-check-partitions-requires
 check-partitions-requires c κs = search needs
 
--- src/lib.rt:118:9
 returns-2 : tie.Need-returns-2
 returns-2 c = search (needs, partitions-refused)
 
--- src/lib.rt:120:9
 check-components-requires : tie.Need-check-components-requires
 check-components-requires c κs = search needs
 
--- src/lib.rt:122:9
 returns-3 : tie.Need-returns-3
 returns-3 c = search (needs, components-refused)
 
--- src/lib.rt:124:5
 check-applications-requires : tie.Need-check-applications-requires
 check-applications-requires c κs = search needs
 
--- src/lib.rt:108:1
 returns-4 : tie.Need-returns-4
 returns-4 c = search (needs, all-judged)
 

@@ -9,23 +9,18 @@ use Rattle.parse.proofs.entry.check_applications.Reads as check-applica
 use Rattle.parse.proofs.in_section.Reads as in-section-reads
 use Rattle.parse.proofs.view.application_list.Reads as application-list-reads
 
--- src/lib.rt:102:9
 application-list-requires : tie.Need-application-list-requires
 application-list-requires c κs = search needs
 
--- src/lib.rt:103:9
 check-applications-requires : tie.Need-check-applications-requires
 check-applications-requires c κs = search (needs, applications-among)
 
--- src/lib.rt:104:13
 in-section-requires : tie.Need-in-section-requires
 in-section-requires c κs = search needs
 
--- src/lib.rt:104:5
 earlier-requires : tie.Need-earlier-requires
 earlier-requires c κs = search needs
 
--- src/lib.rt:98:1
 returns : tie.Need-returns
 returns c = search (needs, applications-judged)
 

@@ -9,23 +9,18 @@ use Rattle.parse.proofs.entry.check_components.Reads as check-component
 use Rattle.parse.proofs.in_section.Reads as in-section-reads
 use Rattle.parse.proofs.view.component_list.Reads as component-list-reads
 
--- src/lib.rt:93:9
 component-list-requires : tie.Need-component-list-requires
 component-list-requires c κs = search needs
 
--- src/lib.rt:94:9
 check-components-requires : tie.Need-check-components-requires
 check-components-requires c κs = search (needs, components-among)
 
--- src/lib.rt:95:13
 in-section-requires : tie.Need-in-section-requires
 in-section-requires c κs = search needs
 
--- src/lib.rt:95:5
 earlier-requires : tie.Need-earlier-requires
 earlier-requires c κs = search needs
 
--- src/lib.rt:89:1
 returns : tie.Need-returns
 returns c = search (needs, components-judged)
 

@@ -8,19 +8,15 @@ use Rattle.parse.proofs.front.read_front.Reads as read-front-reads
 use Rattle.parse.proofs.lent_name.Reads as lent-name-reads
 use Rattle.tree.proofs.fields_at.Reads as fields-at-reads
 
--- src/lib.rt:75:9
 fields-at-requires : tie.Need-fields-at-requires
 fields-at-requires c κs = search needs
 
--- src/lib.rt:76:56
 lent-name-requires : tie.Need-lent-name-requires
 lent-name-requires c κs = search needs
 
--- src/lib.rt:76:9
 read-front-requires : tie.Need-read-front-requires
 read-front-requires c κs = search (needs, root-spread)
 
--- src/lib.rt:71:1
 returns : tie.Need-returns
 returns c = search (needs, front-root)
 

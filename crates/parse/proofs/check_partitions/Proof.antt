@@ -9,23 +9,18 @@ use Rattle.parse.proofs.entry.read_partitions.Reads as read-partitions-
 use Rattle.parse.proofs.in_section.Reads as in-section-reads
 use Rattle.parse.proofs.view.partition_list.Reads as partition-list-reads
 
--- src/lib.rt:84:9
 partition-list-requires : tie.Need-partition-list-requires
 partition-list-requires c κs = search needs
 
--- src/lib.rt:85:9
 read-partitions-requires : tie.Need-read-partitions-requires
 read-partitions-requires c κs = search (needs, partitions-among)
 
--- src/lib.rt:86:13
 in-section-requires : tie.Need-in-section-requires
 in-section-requires c κs = search needs
 
--- src/lib.rt:86:5
 earlier-requires : tie.Need-earlier-requires
 earlier-requires c κs = search needs
 
--- src/lib.rt:80:1
 returns : tie.Need-returns
 returns c = search (needs, partitions-judged)
 

@@ -4,11 +4,9 @@ use Rattle.parse.proofs.earlier.Tie as tie
 use Rattle.parse.proofs.earlier.Reads as reads
 use Rattle.parse.proofs.earlier.Lts as lts
 
--- src/lib.rt:33:9
 returns : tie.Need-returns
 returns c = search tests
 
--- src/lib.rt:29:1
 returns-2 : tie.Need-returns-2
 returns-2 c = search tests
 

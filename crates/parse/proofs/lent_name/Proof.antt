@@ -7,16 +7,13 @@ use Rattle.parse.proofs.lent_name.Reads as reads
 use Rattle.parse.proofs.lent_name.Lts as lts
 use Rattle.chars.proofs.valid.Reads as valid-reads
 
--- src/lib.rt:65:8
 valid-requires : tie.Need-valid-requires
 valid-requires c κs = search needs
 
--- src/lib.rt:66:9
 returns : tie.Need-returns
 unfolding lentText
 returns c = search calls
 
--- src/lib.rt:62:1
 returns-2 : tie.Need-returns-2
 unfolding lentText
 returns-2 c = search calls

@@ -7,19 +7,15 @@ use Rattle.plan.proofs.judge.Lts as lts
 use Rattle.plan.proofs.choice.check.Reads as check-reads
 use Rattle.validate.proofs.judge.Reads as judge-reads
 
--- src/lib.rt:22:9
 judge-requires : tie.Need-judge-requires
 judge-requires c κs = search needs
 
--- src/lib.rt:24:9
 returns : tie.Need-returns
 returns c = search (needs, rules-refused)
 
--- src/lib.rt:26:5
 check-requires : tie.Need-check-requires
 check-requires c κs = search needs
 
--- src/lib.rt:18:1
 returns-2 : tie.Need-returns-2
 returns-2 c = search (needs, choice-told)
 

@@ -6,27 +6,21 @@ use Rattle.preset.proofs.settle.Reads as reads
 use Rattle.preset.proofs.settle.Lts as lts
 use Rattle.slices.proofs.zero.Reads as zero-reads
 
--- src/lib.rt:38:9
 returns : tie.Need-returns
 returns c = search (needs, kept-fine)
 
--- src/lib.rt:45:5
 zero-requires : tie.Need-zero-requires
 zero-requires c κs = search needs
 
--- src/lib.rt:46:5
 zero-requires-2 : tie.Need-zero-requires-2
 zero-requires-2 c κs = search needs
 
--- src/lib.rt:33:1
 same-length : tie.Need-same-length
 same-length c = search needs
 
--- src/lib.rt:33:1
 same-length-2 : tie.Need-same-length-2
 same-length-2 c = search needs
 
--- src/lib.rt:33:1
 returns-2 : tie.Need-returns-2
 returns-2 c = search (needs, kept-not)
 

@@ -7,19 +7,15 @@ use Rattle.report.proofs.lines.Lts as lts
 use Rattle.report.proofs.entries.Reads as entries-reads
 use Rattle.report.proofs.outcome.Reads as outcome-reads
 
--- src/lib.rt:45:9
 entries-requires : tie.Need-entries-requires
 entries-requires c κs = search needs
 
--- src/lib.rt:46:5
 outcome-requires : tie.Need-outcome-requires
 outcome-requires c κs = search needs
 
--- src/lib.rt:34:1
 same-length : tie.Need-same-length
 same-length c = search needs
 
--- src/lib.rt:34:1
 returns : tie.Need-returns
 returns c = search (needs, wrote-then)
 

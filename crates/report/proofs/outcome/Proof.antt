@@ -8,23 +8,18 @@ use Rattle.plan.proofs.stem.stem.Reads as stem-stem-reads
 use Rattle.report.proofs.line.stem.Reads as line-stem-reads
 use Rattle.report.proofs.lists.builds.Reads as builds-reads
 
--- src/lib.rt:28:9
 builds-requires : tie.Need-builds-requires
 builds-requires c κs = search needs
 
--- src/lib.rt:29:9
 stem-requires : tie.Need-stem-requires
 stem-requires c κs = search needs
 
--- src/lib.rt:30:5
 stem-requires-2 : tie.Need-stem-requires-2
 stem-requires-2 c κs = search needs
 
--- src/lib.rt:24:1
 same-length : tie.Need-same-length
 same-length c = search needs
 
--- src/lib.rt:24:1
 returns : tie.Need-returns
 returns c = search (needs, outcome-wrote)
 

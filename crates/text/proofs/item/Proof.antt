@@ -15,39 +15,30 @@ Inv-loop s i₀ x₀ i x = Parting s i x
 abbrev μ-loop : tie.MeasureT-loop
 μ-loop s i₀ x₀ i x = length s - i
 
--- src/lib.rt:173:5
 loop-holds : tie.Need-loop-holds Inv-loop μ-loop
 loop-holds c = search (needs, part-start)
 
--- src/lib.rt:174:17
 shared-slice-read-b : tie.Need-shared-slice-read-b Inv-loop μ-loop
 shared-slice-read-b c = search needs
 
--- src/lib.rt:175:12
 parts-requires : tie.Need-parts-requires Inv-loop μ-loop
 parts-requires c κs = search needs
 
--- src/lib.rt:176:13
 returns : tie.Need-returns Inv-loop μ-loop
 returns c = search (needs, part-hit)
 
--- src/lib.rt:178:9
 step-requires : tie.Need-step-requires Inv-loop μ-loop
 step-requires c κs = search needs
 
--- src/lib.rt:179:9
 add-i : tie.Need-add-i Inv-loop μ-loop
 add-i c = search needs
 
--- src/lib.rt:173:5
 loop-less : tie.Need-loop-less Inv-loop μ-loop
 loop-less c = search needs
 
--- src/lib.rt:173:5
 loop-again : tie.Need-loop-again Inv-loop μ-loop
 loop-again c = search (needs, part-on)
 
--- src/lib.rt:164:1
 returns-2 : tie.Need-returns-2 Inv-loop μ-loop
 returns-2 c = search (needs, part-end)
 

@@ -7,16 +7,13 @@ use Rattle.text.proofs.parts.Reads as reads
 use Rattle.text.proofs.parts.Lts as lts
 use Rattle.text.proofs.hits.Reads as hits-reads
 
--- src/lib.rt:157:8
 hits-requires : tie.Need-hits-requires
 hits-requires c κs = search needs
 
--- src/lib.rt:158:9
 returns : tie.Need-returns
 unfolding parts?
 returns c = search calls
 
--- src/lib.rt:154:1
 returns-2 : tie.Need-returns-2
 unfolding parts?
 returns-2 c = search calls

@@ -7,35 +7,27 @@ use Rattle.toml_lite.proofs.assignment.Lts as lts
 use Rattle.chars.proofs.trim.Reads as trim-reads
 use Rattle.toml_lite.proofs.setting.Reads as setting-reads
 
--- src/lib.rt:166:9
 trim-requires : tie.Need-trim-requires
 trim-requires c κs = search needs
 
--- src/lib.rt:169:13
 sub-setting : tie.Need-sub-setting
 sub-setting c = search needs
 
--- src/lib.rt:169:13
 part-setting-start : tie.Need-part-setting-start
 part-setting-start c = search needs
 
--- src/lib.rt:169:13
 part-setting-end : tie.Need-part-setting-end
 part-setting-end c = search needs
 
--- src/lib.rt:169:5
 setting-requires : tie.Need-setting-requires
 setting-requires c κs = search needs
 
--- src/lib.rt:154:1
 same-length : tie.Need-same-length
 same-length c = search needs
 
--- src/lib.rt:154:1
 same-length-2 : tie.Need-same-length-2
 same-length-2 c = search needs
 
--- src/lib.rt:154:1
 returns : tie.Need-returns
 returns c = search (needs, assignment-done, assignment-does)
 

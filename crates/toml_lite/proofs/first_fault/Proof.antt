@@ -6,31 +6,24 @@ use Rattle.toml_lite.proofs.first_fault.Reads as reads
 use Rattle.toml_lite.proofs.first_fault.Lts as lts
 use Rattle.text.proofs.check.Reads as check-reads
 
--- src/lib.rt:236:9
 check-requires : tie.Need-check-requires
 check-requires c κs = search needs
 
--- src/lib.rt:238:29
 enum-told : tie.Need-enum-told
 enum-told c = search needs
 
--- src/lib.rt:242:23
 enum-known-c : tie.Need-enum-known-c
 enum-known-c c = search needs
 
--- src/lib.rt:243:23
 enum-known-c-2 : tie.Need-enum-known-c-2
 enum-known-c-2 c = search needs
 
--- src/lib.rt:232:1
 returns : tie.Need-returns
 returns c = search (needs, fault-alone)
 
--- src/lib.rt:232:1
 returns-2 : tie.Need-returns-2
 returns-2 c = search (needs, fault-over)
 
--- src/lib.rt:232:1
 returns-3 : tie.Need-returns-3
 returns-3 c = search (needs, fault-open)
 

@@ -6,19 +6,15 @@ use Rattle.toml_lite.proofs.large.Reads as reads
 use Rattle.toml_lite.proofs.large.Lts as lts
 use Rattle.tree.proofs.capacity.Reads as capacity-reads
 
--- src/lib.rt:338:9
 returns : tie.Need-returns
 returns c = search (needs, small-store)
 
--- src/lib.rt:340:8
 capacity-requires : tie.Need-capacity-requires
 capacity-requires c κs = search needs
 
--- src/lib.rt:341:9
 returns-2 : tie.Need-returns-2
 returns-2 c = search (needs, small-tree)
 
--- src/lib.rt:334:1
 returns-3 : tie.Need-returns-3
 returns-3 c = search (needs, both-large)
 

@@ -7,35 +7,27 @@ use Rattle.toml_lite.proofs.read_empty.Lts as lts
 use Rattle.toml_lite.proofs.large.Reads as large-reads
 use Rattle.toml_lite.proofs.read_roomy.Reads as read-roomy-reads
 
--- src/lib.rt:351:8
 large-requires : tie.Need-large-requires
 large-requires c κs = search needs
 
--- src/lib.rt:352:9
 read-roomy-requires : tie.Need-read-roomy-requires
 read-roomy-requires c κs = search (needs, rooms-ready)
 
--- src/lib.rt:352:9
 same-length : tie.Need-same-length
 same-length c = search needs
 
--- src/lib.rt:352:9
 same-length-2 : tie.Need-same-length-2
 same-length-2 c = search needs
 
--- src/lib.rt:352:9
 returns : tie.Need-returns
 returns c = search (needs, text-read)
 
--- src/lib.rt:347:1
 same-length-3 : tie.Need-same-length-3
 same-length-3 c = search needs
 
--- src/lib.rt:347:1
 same-length-4 : tie.Need-same-length-4
 same-length-4 c = search needs
 
--- src/lib.rt:347:1
 returns-2 : tie.Need-returns-2
 returns-2 c = search (needs, too-small)
 

@@ -9,127 +9,96 @@ use Rattle.toml_lite.proofs.header.Reads as header-reads
 use Rattle.toml_lite.proofs.header_item.Reads as header-item-reads
 use Rattle.values.proofs.form.classify.Reads as classify-reads
 
--- src/lib.rt:184:9
 classify-requires : tie.Need-classify-requires
 classify-requires c κs = search needs
 
--- src/lib.rt:187:21
 enum-told : tie.Need-enum-told
 enum-told c = search needs
 
--- src/lib.rt:187:21
 sub-e : tie.Need-sub-e
 sub-e c = search (needs, pushes-long)
 
--- src/lib.rt:188:25
 sub-header-item : tie.Need-sub-header-item
 sub-header-item c = search (needs, pushes-mid)
 
--- src/lib.rt:188:25
 part-header-item-start : tie.Need-part-header-item-start
 part-header-item-start c = search (needs, pushes-mid)
 
--- src/lib.rt:188:25
 part-header-item-end : tie.Need-part-header-item-end
 part-header-item-end c = search needs
 
--- src/lib.rt:188:13
 header-item-requires : tie.Need-header-item-requires
 header-item-requires c κs = search needs
 
--- src/lib.rt:191:21
 enum-told-2 : tie.Need-enum-told-2
 enum-told-2 c = search needs
 
--- src/lib.rt:191:21
 sub-e-2 : tie.Need-sub-e-2
 sub-e-2 c = search (needs, heads-long)
 
--- src/lib.rt:192:20
 sub-header : tie.Need-sub-header
 sub-header c = search (needs, heads-mid)
 
--- src/lib.rt:192:20
 part-header-start : tie.Need-part-header-start
 part-header-start c = search (needs, heads-mid)
 
--- src/lib.rt:192:20
 part-header-end : tie.Need-part-header-end
 part-header-end c = search needs
 
--- src/lib.rt:192:13
 header-requires : tie.Need-header-requires
 header-requires c κs = search needs
 
--- src/lib.rt:194:20
 enum-known-f : tie.Need-enum-known-f
 enum-known-f c = search needs
 
--- src/lib.rt:195:21
 add-b : tie.Need-add-b
 add-b c = search (needs, sets-fits)
 
--- src/lib.rt:196:24
 slice-aggregate-assignment : tie.Need-slice-aggregate-assignment
 slice-aggregate-assignment c = search (needs, sets-part)
 
--- src/lib.rt:196:34
 sub-assignment : tie.Need-sub-assignment
 sub-assignment c = search (needs, sets-in)
 
--- src/lib.rt:196:34
 part-assignment-start : tie.Need-part-assignment-start
 part-assignment-start c = search (needs, sets-in)
 
--- src/lib.rt:196:34
 part-assignment-end : tie.Need-part-assignment-end
 part-assignment-end c = search needs
 
--- src/lib.rt:196:13
 assignment-requires : tie.Need-assignment-requires
 assignment-requires c κs = search (needs, sets-taking, sets-takes)
 
--- src/lib.rt:198:26
 enum-told-3 : tie.Need-enum-told-3
 enum-told-3 c = search needs
 
--- src/lib.rt:173:1
 same-length : tie.Need-same-length
 same-length c = search needs
 
--- src/lib.rt:173:1
 same-length-2 : tie.Need-same-length-2
 same-length-2 c = search needs
 
--- src/lib.rt:173:1
 returns : tie.Need-returns
 returns c = search (needs, pushes-done, pushes-does)
 
--- src/lib.rt:173:1
 same-length-3 : tie.Need-same-length-3
 same-length-3 c = search needs
 
--- src/lib.rt:173:1
 same-length-4 : tie.Need-same-length-4
 same-length-4 c = search needs
 
--- src/lib.rt:173:1
 returns-2 : tie.Need-returns-2
 returns-2 c = search (needs, heads-done, heads-does)
 
--- src/lib.rt:173:1
 same-length-5 : tie.Need-same-length-5
 same-length-5 c = search needs
 
--- src/lib.rt:173:1
 same-length-6 : tie.Need-same-length-6
 same-length-6 c = search needs
 
--- src/lib.rt:173:1
 returns-3 : tie.Need-returns-3
 returns-3 c = search (needs, sets-done, sets-does)
 
--- src/lib.rt:173:1
 returns-4 : tie.Need-returns-4
 returns-4 c = search (needs, neither-done)
 

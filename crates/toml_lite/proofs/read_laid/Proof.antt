@@ -7,47 +7,36 @@ use Rattle.toml_lite.proofs.read_laid.Lts as lts
 use Rattle.toml_lite.proofs.read_lines.Reads as read-lines-reads
 use Rattle.slices.proofs.zero.Reads as zero-reads
 
--- src/lib.rt:280:9
 read-lines-requires : tie.Need-read-lines-requires
 read-lines-requires c κs = search needs
 
--- src/lib.rt:282:20
 enum-known-r : tie.Need-enum-known-r
 enum-known-r c = search needs
 
--- src/lib.rt:283:23
 enum-known-r-2 : tie.Need-enum-known-r-2
 enum-known-r-2 c = search needs
 
--- src/lib.rt:284:13
 zero-requires : tie.Need-zero-requires
 zero-requires c κs = search needs
 
--- src/lib.rt:285:13
 zero-requires-2 : tie.Need-zero-requires-2
 zero-requires-2 c κs = search needs
 
--- src/lib.rt:276:1
 same-length : tie.Need-same-length
 same-length c = search needs
 
--- src/lib.rt:276:1
 same-length-2 : tie.Need-same-length-2
 same-length-2 c = search needs
 
--- src/lib.rt:276:1
 returns : tie.Need-returns
 returns c = search (needs, cleared-fine, cleared-fault)
 
--- src/lib.rt:276:1
 same-length-3 : tie.Need-same-length-3
 same-length-3 c = search needs
 
--- src/lib.rt:276:1
 same-length-4 : tie.Need-same-length-4
 same-length-4 c = search needs
 
--- src/lib.rt:276:1
 returns-2 : tie.Need-returns-2
 returns-2 c = search (needs, cleared-fine, cleared-fault)
 

@@ -7,35 +7,27 @@ use Rattle.toml_lite.proofs.read_line.Lts as lts
 use Rattle.chars.proofs.trim.Reads as trim-reads
 use Rattle.toml_lite.proofs.read_form.Reads as read-form-reads
 
--- src/lib.rt:214:9
 trim-requires : tie.Need-trim-requires
 trim-requires c κs = search needs
 
--- src/lib.rt:217:15
 sub-read-form : tie.Need-sub-read-form
 sub-read-form c = search needs
 
--- src/lib.rt:217:15
 part-read-form-start : tie.Need-part-read-form-start
 part-read-form-start c = search needs
 
--- src/lib.rt:217:15
 part-read-form-end : tie.Need-part-read-form-end
 part-read-form-end c = search needs
 
--- src/lib.rt:217:5
 read-form-requires : tie.Need-read-form-requires
 read-form-requires c κs = search needs
 
--- src/lib.rt:203:1
 same-length : tie.Need-same-length
 same-length c = search needs
 
--- src/lib.rt:203:1
 same-length-2 : tie.Need-same-length-2
 same-length-2 c = search needs
 
--- src/lib.rt:203:1
 returns : tie.Need-returns
 returns c = search (needs, line-done, line-does)
 

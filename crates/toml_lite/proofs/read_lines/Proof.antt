@@ -16,123 +16,93 @@ Inv-loop s store₀ tree₀ limits at₀ line₀ here₀ cur₀ store tree at li
 abbrev μ-loop : tie.MeasureT-loop
 μ-loop s store₀ tree₀ limits at₀ line₀ here₀ cur₀ store tree at line here cur = length s - at
 
--- src/lib.rt:257:5
 loop-holds : tie.Need-loop-holds Inv-loop μ-loop
 loop-holds c = search (needs, ahead-start)
 
--- src/lib.rt:258:13
 next-line-requires : tie.Need-next-line-requires Inv-loop μ-loop
 next-line-requires c κs = search needs
 
--- src/lib.rt:260:26
 enum-told : tie.Need-enum-told Inv-loop μ-loop
 enum-told c = search needs
 
--- src/lib.rt:260:26
 same-length : tie.Need-same-length Inv-loop μ-loop
 same-length c = search needs
 
--- src/lib.rt:260:26
 same-length-2 : tie.Need-same-length-2 Inv-loop μ-loop
 same-length-2 c = search needs
 
--- src/lib.rt:260:26
 returns : tie.Need-returns Inv-loop μ-loop
 returns c = search (needs, ahead-none)
 
--- src/lib.rt:261:24
 enum-known-n : tie.Need-enum-known-n Inv-loop μ-loop
 enum-known-n c = search needs
 
--- src/lib.rt:261:30
 same-length-3 : tie.Need-same-length-3 Inv-loop μ-loop
 same-length-3 c = search needs
 
--- src/lib.rt:261:30
 same-length-4 : tie.Need-same-length-4 Inv-loop μ-loop
 same-length-4 c = search needs
 
--- src/lib.rt:261:30
 returns-2 : tie.Need-returns-2 Inv-loop μ-loop
 returns-2 c = search (needs, ahead-over)
 
--- src/lib.rt:262:24
 enum-known-n-2 : tie.Need-enum-known-n-2 Inv-loop μ-loop
 enum-known-n-2 c = search needs
 
--- src/lib.rt:262:30
 same-length-5 : tie.Need-same-length-5 Inv-loop μ-loop
 same-length-5 c = search needs
 
--- src/lib.rt:262:30
 same-length-6 : tie.Need-same-length-6 Inv-loop μ-loop
 same-length-6 c = search needs
 
--- src/lib.rt:262:30
 returns-3 : tie.Need-returns-3 Inv-loop μ-loop
 returns-3 c = search (needs, ahead-open)
 
--- src/lib.rt:264:17
 enum-known-n-3 : tie.Need-enum-known-n-3 Inv-loop μ-loop
 enum-known-n-3 c = search needs
 
--- src/lib.rt:269:35
 sub-read-line : tie.Need-sub-read-line Inv-loop μ-loop
 sub-read-line c = search (needs, ahead-from)
 
--- src/lib.rt:269:35
 part-read-line-start : tie.Need-part-read-line-start Inv-loop μ-loop
 part-read-line-start c = search (needs, ahead-from)
 
--- src/lib.rt:269:35
 part-read-line-end : tie.Need-part-read-line-end Inv-loop μ-loop
 part-read-line-end c = search (needs, ahead-in)
 
--- src/lib.rt:269:21
 read-line-requires : tie.Need-read-line-requires Inv-loop μ-loop
 read-line-requires c κs = search (needs, ahead-taking)
 
--- src/lib.rt:271:37
 enum-known-r : tie.Need-enum-known-r Inv-loop μ-loop
 enum-known-r c = search needs
 
--- src/lib.rt:271:48
 first-fault-requires : tie.Need-first-fault-requires Inv-loop μ-loop
 first-fault-requires c κs = search (needs, ahead-behind)
 
--- src/lib.rt:271:48
 same-length-7 : tie.Need-same-length-7 Inv-loop μ-loop
 same-length-7 c = search needs
 
--- src/lib.rt:271:48
 same-length-8 : tie.Need-same-length-8 Inv-loop μ-loop
 same-length-8 c = search needs
 
--- src/lib.rt:271:48
 returns-4 : tie.Need-returns-4 Inv-loop μ-loop
 returns-4 c = search (needs, ahead-fault)
 
--- src/lib.rt:272:38
 enum-known-r-2 : tie.Need-enum-known-r-2 Inv-loop μ-loop
 enum-known-r-2 c = search needs
 
--- src/lib.rt:257:5
 loop-less : tie.Need-loop-less Inv-loop μ-loop
 loop-less c = search (needs, ahead-less)
 
--- src/lib.rt:257:5
 loop-again : tie.Need-loop-again Inv-loop μ-loop
 loop-again c = search (needs, ahead-on)
 
--- src/lib.rt:249:1
 same-length-9 : tie.Need-same-length-9 Inv-loop μ-loop
 same-length-9 c = search needs
 
--- src/lib.rt:249:1
 same-length-10 : tie.Need-same-length-10 Inv-loop μ-loop
 same-length-10 c = search needs
 
--- src/lib.rt:249:1
 returns-5 : tie.Need-returns-5 Inv-loop μ-loop
 returns-5 c = search (needs, ahead-end)
 

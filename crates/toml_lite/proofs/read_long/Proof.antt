@@ -7,27 +7,21 @@ use Rattle.toml_lite.proofs.read_long.Lts as lts
 use Rattle.toml_lite.proofs.read_text.Reads as read-text-reads
 use Rattle.meaning.proofs.of01.Reads as of01-reads
 
--- src/lib.rt:331:21
 slice-aggregate-read-text : tie.Need-slice-aggregate-read-text
 slice-aggregate-read-text c = search needs
 
--- src/lib.rt:331:48
 of01-requires : tie.Need-of01-requires
 of01-requires c κs = search needs
 
--- src/lib.rt:331:5
 read-text-requires : tie.Need-read-text-requires
 read-text-requires c κs = search (needs, long-ready)
 
--- src/lib.rt:326:1
 same-length : tie.Need-same-length
 same-length c = search needs
 
--- src/lib.rt:326:1
 same-length-2 : tie.Need-same-length-2
 same-length-2 c = search needs
 
--- src/lib.rt:326:1
 returns : tie.Need-returns
 returns c = search (needs, limits-01)
 

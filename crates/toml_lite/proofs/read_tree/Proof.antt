@@ -7,27 +7,21 @@ use Rattle.toml_lite.proofs.read_tree.Lts as lts
 use Rattle.toml_lite.proofs.read_empty.Reads as read-empty-reads
 use Rattle.slices.proofs.zero.Reads as zero-reads
 
--- src/lib.rt:364:5
 zero-requires : tie.Need-zero-requires
 zero-requires c κs = search needs
 
--- src/lib.rt:365:5
 zero-requires-2 : tie.Need-zero-requires-2
 zero-requires-2 c κs = search needs
 
--- src/lib.rt:366:5
 read-empty-requires : tie.Need-read-empty-requires
 read-empty-requires c κs = search (needs, emptied)
 
--- src/lib.rt:361:1
 same-length : tie.Need-same-length
 same-length c = search needs
 
--- src/lib.rt:361:1
 same-length-2 : tie.Need-same-length-2
 same-length-2 c = search needs
 
--- src/lib.rt:361:1
 returns : tie.Need-returns
 returns c = search (needs, emptied-read)
 

@@ -7,50 +7,39 @@ use Rattle.toml_lite.proofs.setting.Lts as lts
 use Rattle.toml_lite.proofs.hang_key.Reads as hang-key-reads
 use Rattle.values.proofs.value.value.Reads as value-reads
 
--- src/lib.rt:141:9
 returns : tie.Need-returns
 returns c = search (needs, setting-none)
 
--- src/lib.rt:144:9
 value-requires : tie.Need-value-requires
 value-requires c κs = search needs
 
--- src/lib.rt:146:22
 enum-known-r : tie.Need-enum-known-r
 enum-known-r c = search needs
 
--- src/lib.rt:147:21
 enum-known-r-2 : tie.Need-enum-known-r-2
 enum-known-r-2 c = search needs
 
--- src/lib.rt:147:30
 hang-key-requires : tie.Need-hang-key-requires
 hang-key-requires c κs =
     let d = c .before .before .before .before .before .before .before .before .before in
     let a = d .before .before .before .before .before .before .before .before in
     setting-hangs _ _ _ _ _ _ (a .pre) (d .before .before .before .if1 .left) _ _ _ (d .value .ensures) _ (c .before .before .before .r2 .given .1)
 
--- src/lib.rt:128:1
 same-length : tie.Need-same-length
 same-length c = search needs
 
--- src/lib.rt:128:1
 same-length-2 : tie.Need-same-length-2
 same-length-2 c = search needs
 
--- src/lib.rt:128:1
 returns-2 : tie.Need-returns-2
 returns-2 c = search (needs, setting-fault)
 
--- src/lib.rt:128:1
 same-length-3 : tie.Need-same-length-3
 same-length-3 c = search needs
 
--- src/lib.rt:128:1
 same-length-4 : tie.Need-same-length-4
 same-length-4 c = search needs
 
--- src/lib.rt:128:1
 returns-3 : tie.Need-returns-3
 returns-3 c = search (needs, setting-done)
 

@@ -5,27 +5,21 @@ use Rattle.toml_lite.proofs.settle.Tie as tie
 use Rattle.toml_lite.proofs.settle.Reads as reads
 use Rattle.toml_lite.proofs.settle.Lts as lts
 
--- src/lib.rt:37:21
 enum-known-g : tie.Need-enum-known-g
 enum-known-g c = search needs
 
--- src/lib.rt:44:24
 enum-told : tie.Need-enum-told
 enum-told c = search needs
 
--- src/lib.rt:45:25
 enum-told-2 : tie.Need-enum-told-2
 enum-told-2 c = search needs
 
--- src/lib.rt:33:1
 returns : tie.Need-returns
 returns c = search (needs, settled-there)
 
--- src/lib.rt:33:1
 returns-2 : tie.Need-returns-2
 returns-2 c = search needs
 
--- src/lib.rt:33:1
 returns-3 : tie.Need-returns-3
 returns-3 c = search needs
 

@@ -5,27 +5,21 @@ use Rattle.toml_lite.proofs.settle_at.Tie as tie
 use Rattle.toml_lite.proofs.settle_at.Reads as reads
 use Rattle.toml_lite.proofs.settle_at.Lts as lts
 
--- src/lib.rt:54:21
 enum-known-g : tie.Need-enum-known-g
 enum-known-g c = search needs
 
--- src/lib.rt:61:24
 enum-told : tie.Need-enum-told
 enum-told c = search needs
 
--- src/lib.rt:62:25
 enum-told-2 : tie.Need-enum-told-2
 enum-told-2 c = search needs
 
--- src/lib.rt:50:1
 returns : tie.Need-returns
 returns c = search (needs, settled-stays)
 
--- src/lib.rt:50:1
 returns-2 : tie.Need-returns-2
 returns-2 c = search needs
 
--- src/lib.rt:50:1
 returns-3 : tie.Need-returns-3
 returns-3 c = search needs
 

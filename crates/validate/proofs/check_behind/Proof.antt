@@ -8,27 +8,21 @@ use Rattle.validate.proofs.check_first.Reads as check-first-reads
 use Rattle.validate.proofs.check_uses.Reads as check-uses-reads
 use Rattle.validate.proofs.in_entry.Reads as in-entry-reads
 
--- src/lib.rt:87:9
 check-uses-requires : tie.Need-check-uses-requires
 check-uses-requires c κs = search needs
 
--- src/lib.rt:89:9
 returns : tie.Need-returns
 returns c = search (needs, behind-uses)
 
--- src/lib.rt:91:9
 in-entry-requires : tie.Need-in-entry-requires
 in-entry-requires c κs = search needs
 
--- src/lib.rt:93:9
 returns-2 : tie.Need-returns-2
 returns-2 c = search (needs, behind-applications)
 
--- src/lib.rt:95:5
 check-first-requires : tie.Need-check-first-requires
 check-first-requires c κs = search needs
 
--- src/lib.rt:82:1
 returns-3 : tie.Need-returns-3
 returns-3 c = search (needs, behind-first)
 

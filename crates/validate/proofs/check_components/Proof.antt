@@ -7,19 +7,15 @@ use Rattle.validate.proofs.check_components.Lts as lts
 use Rattle.parse.proofs.told.Reads as told-reads
 use Rattle.validate.proofs.in_entry.Reads as in-entry-reads
 
--- src/lib.rt:51:9
 told-requires : tie.Need-told-requires
 told-requires c κs = search needs
 
--- src/lib.rt:51:9
 returns : tie.Need-returns
 returns c = search (needs, components-none)
 
--- src/lib.rt:53:5
 in-entry-requires : tie.Need-in-entry-requires
 in-entry-requires c κs = search needs
 
--- src/lib.rt:47:1
 returns-2 : tie.Need-returns-2
 returns-2 c = search (needs, components-some)
 

@@ -6,31 +6,24 @@ use Rattle.validate.proofs.check_uses.Reads as reads
 use Rattle.validate.proofs.check_uses.Lts as lts
 use Rattle.parse.proofs.told.Reads as told-reads
 
--- src/lib.rt:61:15
 add-all : tie.Need-add-all
 add-all c = search needs
 
--- src/lib.rt:63:9
 told-requires : tie.Need-told-requires
 told-requires c κs = search needs
 
--- src/lib.rt:63:9
 returns : tie.Need-returns
 returns c = search (needs, clash-component)
 
--- src/lib.rt:66:9
 told-requires-2 : tie.Need-told-requires-2
 told-requires-2 c κs = search needs
 
--- src/lib.rt:66:9
 returns-2 : tie.Need-returns-2
 returns-2 c = search (needs, clash-application)
 
--- src/lib.rt:68:5
 told-requires-3 : tie.Need-told-requires-3
 told-requires-3 c κs = search needs
 
--- src/lib.rt:57:1
 returns-3 : tie.Need-returns-3
 returns-3 c = search (needs, clash-none)
 

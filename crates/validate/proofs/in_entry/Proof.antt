@@ -6,19 +6,15 @@ use Rattle.validate.proofs.in_entry.Reads as reads
 use Rattle.validate.proofs.in_entry.Lts as lts
 use Rattle.parse.proofs.told.Reads as told-reads
 
--- src/lib.rt:42:9
 told-requires : tie.Need-told-requires
 told-requires c κs = search needs
 
--- src/lib.rt:42:9
 returns : tie.Need-returns
 returns c = search (needs, in-none)
 
--- src/lib.rt:44:5
 told-requires-2 : tie.Need-told-requires-2
 told-requires-2 c κs = search needs
 
--- src/lib.rt:38:1
 returns-2 : tie.Need-returns-2
 returns-2 c = search (needs, in-some)
 

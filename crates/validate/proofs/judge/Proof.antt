@@ -11,31 +11,24 @@ use Rattle.tree.proofs.fields_at.Reads as fields-at-reads
 use Rattle.validate.proofs.front.check.Reads as check-reads
 use Rattle.validate.proofs.judge_partitions.Reads as judge-partitions-reads
 
--- src/lib.rt:213:9
 fields-at-requires : tie.Need-fields-at-requires
 fields-at-requires c κs = search needs
 
--- src/lib.rt:214:63
 lent-name-requires : tie.Need-lent-name-requires
 lent-name-requires c κs = search needs
 
--- src/lib.rt:214:9
 read-front-requires : tie.Need-read-front-requires
 read-front-requires c κs = search (needs, root-spread)
 
--- src/lib.rt:217:9
 returns : tie.Need-returns
 returns c = search (needs, front-told)
 
--- src/lib.rt:222:9
 check-requires : tie.Need-check-requires
 check-requires c κs = search (needs, front-fronted)
 
--- src/lib.rt:223:5
 judge-partitions-requires : tie.Need-judge-partitions-requires
 judge-partitions-requires c κs = search needs
 
--- src/lib.rt:209:1
 returns-2 : tie.Need-returns-2
 returns-2 c = search (needs, all-told)
 

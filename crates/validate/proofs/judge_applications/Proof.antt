@@ -10,35 +10,27 @@ use Rattle.parse.proofs.view.application_list.Reads as application-list-reads
 use Rattle.validate.proofs.check_behind.Reads as check-behind-reads
 use Rattle.validate.proofs.gather.each_application.Reads as each-application-reads
 
--- src/lib.rt:111:9
 application-list-requires : tie.Need-application-list-requires
 application-list-requires c κs = search needs
 
--- src/lib.rt:115:9
 each-application-requires : tie.Need-each-application-requires
 each-application-requires c κs = search (needs, applications-followed)
 
--- src/lib.rt:117:28
 in-section-requires : tie.Need-in-section-requires
 in-section-requires c κs = search needs
 
--- src/lib.rt:117:9
 earlier-requires : tie.Need-earlier-requires
 earlier-requires c κs = search needs
 
--- src/lib.rt:119:9
 returns : tie.Need-returns
 returns c = search (needs, applications-refused)
 
--- src/lib.rt:122:9
 returns-2 : tie.Need-returns-2
 returns-2 c = search (needs, rules-refused)
 
--- src/lib.rt:124:5
 check-behind-requires : tie.Need-check-behind-requires
 check-behind-requires c κs = search (needs, applications-few)
 
--- src/lib.rt:99:1
 returns-3 : tie.Need-returns-3
 returns-3 c = search (needs, applications-passed)
 

@@ -14,47 +14,36 @@ use Rattle.validate.proofs.check_length.Reads as check-length-reads
 use Rattle.validate.proofs.gather.each_component.Reads as each-component-reads
 use Rattle.validate.proofs.judge_applications.Reads as judge-applications-reads
 
--- src/lib.rt:149:9
 component-list-requires : tie.Need-component-list-requires
 component-list-requires c κs = search needs
 
--- src/lib.rt:150:9
 count-requires : tie.Need-count-requires
 count-requires c κs = search (needs, components-hold)
 
--- src/lib.rt:151:28
 in-section-requires : tie.Need-in-section-requires
 in-section-requires c κs = search needs
 
--- src/lib.rt:151:59
 check-length-requires : tie.Need-check-length-requires
 check-length-requires c κs = search needs
 
--- src/lib.rt:151:9
 earlier-requires : tie.Need-earlier-requires
 earlier-requires c κs = search needs
 
--- src/lib.rt:153:9
 returns : tie.Need-returns
 returns c = search (needs, list-refused)
 
--- src/lib.rt:155:9
 each-component-requires : tie.Need-each-component-requires
 each-component-requires c κs = search (needs, components-counted)
 
--- src/lib.rt:158:9
 returns-2 : tie.Need-returns-2
 returns-2 c = search (needs, components-refused)
 
--- src/lib.rt:161:37
 check-components-requires : tie.Need-check-components-requires
 check-components-requires c κs = search needs
 
--- src/lib.rt:161:9
 earlier-requires-2 : tie.Need-earlier-requires-2
 earlier-requires-2 c κs = search needs
 
--- src/lib.rt:162:5
 judge-applications-requires : tie.Need-judge-applications-requires
 judge-applications-requires c κs =
     let g = c .before .before .before .before .before .before in
@@ -67,7 +56,6 @@ judge-applications-requires c κs =
           (g .before .if1 .left) _ _ (g .each-component .ensures) (c .before .before .before .if2 .left),
     )
 
--- src/lib.rt:138:1
 returns-3 : tie.Need-returns-3
 returns-3 c =
     let d = c .before in

@@ -13,43 +13,33 @@ use Rattle.parse.proofs.view.partition_list.Reads as partition-list-reads
 use Rattle.validate.proofs.in_entry.Reads as in-entry-reads
 use Rattle.validate.proofs.judge_components.Reads as judge-components-reads
 
--- src/lib.rt:195:9
 partition-list-requires : tie.Need-partition-list-requires
 partition-list-requires c κs = search needs
 
--- src/lib.rt:196:9
 read-partitions-requires : tie.Need-read-partitions-requires
 read-partitions-requires c κs = search (needs, partitions-among)
 
--- src/lib.rt:198:28
 in-section-requires : tie.Need-in-section-requires
 in-section-requires c κs = search needs
 
--- src/lib.rt:198:9
 earlier-requires : tie.Need-earlier-requires
 earlier-requires c κs = search needs
 
--- src/lib.rt:200:9
 returns : tie.Need-returns
 returns c = search (needs, partitions-refused)
 
--- src/lib.rt:204:49
 check-requires : tie.Need-check-requires
 check-requires c κs = search (needs, parts-fit)
 
--- src/lib.rt:204:37
 in-entry-requires : tie.Need-in-entry-requires
 in-entry-requires c κs = search needs
 
--- src/lib.rt:204:9
 earlier-requires-2 : tie.Need-earlier-requires-2
 earlier-requires-2 c κs = search needs
 
--- src/lib.rt:205:5
 judge-components-requires : tie.Need-judge-components-requires
 judge-components-requires c κs = search (needs, parts-fit)
 
--- src/lib.rt:191:1
 returns-2 : tie.Need-returns-2
 returns-2 c = search (needs, partitions-passed)
 

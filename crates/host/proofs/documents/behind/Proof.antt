@@ -5,11 +5,9 @@ use Rattle.host.proofs.documents.behind.Tie as tie
 use Rattle.host.proofs.documents.behind.Reads as reads
 use Rattle.host.proofs.documents.behind.Lts as lts
 
--- src/documents.rt:101:9
 returns : tie.Need-returns
 returns c = search (needs, behind-start)
 
--- src/documents.rt:97:1
 returns-2 : tie.Need-returns-2
 returns-2 c = search (needs, behind-value)
 

@@ -6,47 +6,36 @@ use Rattle.host.proofs.documents.document_read.Reads as reads
 use Rattle.host.proofs.documents.document_read.Lts as lts
 use Rattle.toml_lite.proofs.read_tree.Reads as read-tree-reads
 
--- src/documents.rt:37:9
 read-tree-requires : tie.Need-read-tree-requires
 read-tree-requires c κs = search needs
 
--- src/documents.rt:39:20
 enum-known-r : tie.Need-enum-known-r
 enum-known-r c = search needs
 
--- src/documents.rt:43:19
 cast-t13 : tie.Need-cast-t13
 cast-t13 c = search (needs, made-fits)
 
--- src/documents.rt:45:23
 enum-known-r-2 : tie.Need-enum-known-r-2
 enum-known-r-2 c = search needs
 
--- src/documents.rt:48:20
 cast-t14 : tie.Need-cast-t14
 cast-t14 c = search (needs, line-fits)
 
--- src/documents.rt:33:1
 same-length : tie.Need-same-length
 same-length c = search needs
 
--- src/documents.rt:33:1
 same-length-2 : tie.Need-same-length-2
 same-length-2 c = search needs
 
--- src/documents.rt:33:1
 returns : tie.Need-returns
 returns c = search (needs, fine-out)
 
--- src/documents.rt:33:1
 same-length-3 : tie.Need-same-length-3
 same-length-3 c = search needs
 
--- src/documents.rt:33:1
 same-length-4 : tie.Need-same-length-4
 same-length-4 c = search needs
 
--- src/documents.rt:33:1
 returns-2 : tie.Need-returns-2
 returns-2 c = search (needs, fault-out)
 

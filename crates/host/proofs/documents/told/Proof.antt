@@ -5,19 +5,15 @@ use Rattle.host.proofs.documents.told.Tie as tie
 use Rattle.host.proofs.documents.told.Reads as reads
 use Rattle.host.proofs.documents.told.Lts as lts
 
--- src/documents.rt:58:19
 enum-known-f : tie.Need-enum-known-f
 enum-known-f c = search needs
 
--- src/documents.rt:62:27
 enum-told : tie.Need-enum-told
 enum-told c = search needs
 
--- src/documents.rt:54:1
 returns : tie.Need-returns
 returns c = search (needs, at-told)
 
--- src/documents.rt:54:1
 returns-2 : tie.Need-returns-2
 returns-2 c = search (needs, at-told)
 

@@ -8,27 +8,21 @@ use Rattle.host.proofs.documents.told.Reads as told-reads
 use Rattle.tree.proofs.capacity.Reads as capacity-reads
 use Rattle.tree.proofs.child.Reads as child-reads
 
--- src/documents.rt:90:8
 capacity-requires : tie.Need-capacity-requires
 capacity-requires c κs = search needs
 
--- src/documents.rt:91:9
 told-requires : tie.Need-told-requires
 told-requires c κs = search needs
 
--- src/documents.rt:91:9
 returns : tie.Need-returns
 returns c = search (needs, none-there)
 
--- src/documents.rt:93:10
 child-requires : tie.Need-child-requires
 child-requires c κs = search needs
 
--- src/documents.rt:93:5
 told-requires-2 : tie.Need-told-requires-2
 told-requires-2 c κs = search needs
 
--- src/documents.rt:86:1
 returns-2 : tie.Need-returns-2
 returns-2 c = search (needs, found-there)
 

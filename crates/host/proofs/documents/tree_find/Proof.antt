@@ -8,27 +8,21 @@ use Rattle.host.proofs.documents.told.Reads as told-reads
 use Rattle.tree.proofs.capacity.Reads as capacity-reads
 use Rattle.tree.proofs.find.Reads as find-reads
 
--- src/documents.rt:79:8
 capacity-requires : tie.Need-capacity-requires
 capacity-requires c κs = search needs
 
--- src/documents.rt:80:9
 told-requires : tie.Need-told-requires
 told-requires c κs = search needs
 
--- src/documents.rt:80:9
 returns : tie.Need-returns
 returns c = search (needs, none-there)
 
--- src/documents.rt:82:10
 find-requires : tie.Need-find-requires
 find-requires c κs = search needs
 
--- src/documents.rt:82:5
 told-requires-2 : tie.Need-told-requires-2
 told-requires-2 c κs = search needs
 
--- src/documents.rt:75:1
 returns-2 : tie.Need-returns-2
 returns-2 c = search (needs, found-there)
 

@@ -10,34 +10,27 @@ use Rattle.tree.proofs.capacity.Reads as capacity-reads
 use Rattle.tree.proofs.next.Reads as next-reads
 use Rattle.tree.proofs.skip_up.Reads as skip-up-reads
 
--- src/documents.rt:118:8
 capacity-requires : tie.Need-capacity-requires
 capacity-requires c κs = search needs
 
--- src/documents.rt:119:9
 told-requires : tie.Need-told-requires
 told-requires c κs = search needs
 
--- src/documents.rt:119:9
 returns : tie.Need-returns
 returns c = search (needs, none-there)
 
 skip-up-requires : tie.Need-skip-up-requires
 skip-up-requires c κs = search needs
 
--- src/documents.rt:121:48
 behind-requires : tie.Need-behind-requires
 behind-requires c κs = search needs
 
--- src/documents.rt:121:10
 next-requires : tie.Need-next-requires
 next-requires c κs = search needs
 
--- src/documents.rt:121:5
 told-requires-2 : tie.Need-told-requires-2
 told-requires-2 c κs = search needs
 
--- src/documents.rt:107:1
 returns-2 : tie.Need-returns-2
 returns-2 c = search (needs, next-there)
 

@@ -6,31 +6,24 @@ use Rattle.host.proofs.listings.preset_listing.Reads as reads
 use Rattle.host.proofs.listings.preset_listing.Lts as lts
 use Rattle.preset.proofs.listing.listing.Reads as listing-reads
 
--- src/listings.rt:25:9
 listing-requires : tie.Need-listing-requires
 listing-requires c κs = search needs
 
--- src/listings.rt:29:16
 cast-t13 : tie.Need-cast-t13
 cast-t13 c = search needs
 
--- src/listings.rt:30:18
 cast-t15 : tie.Need-cast-t15
 cast-t15 c = search needs
 
--- src/listings.rt:15:1
 same-length : tie.Need-same-length
 same-length c = search needs
 
--- src/listings.rt:15:1
 same-length-2 : tie.Need-same-length-2
 same-length-2 c = search needs
 
--- src/listings.rt:15:1
 same-length-3 : tie.Need-same-length-3
 same-length-3 c = search needs
 
--- src/listings.rt:15:1
 returns : tie.Need-returns
 returns c = search (needs, listing-is)
 

@@ -7,43 +7,33 @@ use Rattle.host.proofs.plans.build_of.Lts as lts
 use Rattle.host.proofs.records.bytes_of.Reads as bytes-of-reads
 use Rattle.host.proofs.records.list_of.Reads as list-of-reads
 
--- src/plans.rt:286:31
 enum-told : tie.Need-enum-told
 enum-told c = search needs
 
--- src/plans.rt:286:22
 bytes-of-requires : tie.Need-bytes-of-requires
 bytes-of-requires c κs = search needs
 
--- src/plans.rt:287:18
 bytes-of-requires-2 : tie.Need-bytes-of-requires-2
 bytes-of-requires-2 c κs = search needs
 
--- src/plans.rt:288:23
 list-of-requires : tie.Need-list-of-requires
 list-of-requires c κs = search needs
 
--- src/plans.rt:290:24
 enum-known-f : tie.Need-enum-known-f
 enum-known-f c = search needs
 
--- src/plans.rt:296:26
 bytes-of-requires-3 : tie.Need-bytes-of-requires-3
 bytes-of-requires-3 c κs = search needs
 
--- src/plans.rt:297:22
 bytes-of-requires-4 : tie.Need-bytes-of-requires-4
 bytes-of-requires-4 c κs = search needs
 
--- src/plans.rt:298:27
 list-of-requires-2 : tie.Need-list-of-requires-2
 list-of-requires-2 c κs = search needs
 
--- src/plans.rt:280:1
 returns : tie.Need-returns
 returns c = search (needs, build-none)
 
--- src/plans.rt:280:1
 returns-2 : tie.Need-returns-2
 returns-2 c = search (needs, build-told)
 

@@ -7,23 +7,18 @@ use Rattle.host.proofs.plans.no_source.Lts as lts
 use Rattle.host.proofs.records.bytes_of.Reads as bytes-of-reads
 use Rattle.host.proofs.records.list_of.Reads as list-of-reads
 
--- src/plans.rt:195:18
 bytes-of-requires : tie.Need-bytes-of-requires
 bytes-of-requires c κs = search needs
 
--- src/plans.rt:196:14
 bytes-of-requires-2 : tie.Need-bytes-of-requires-2
 bytes-of-requires-2 c κs = search needs
 
--- src/plans.rt:197:19
 list-of-requires : tie.Need-list-of-requires
 list-of-requires c κs = search needs
 
--- src/plans.rt:198:15
 bytes-of-requires-3 : tie.Need-bytes-of-requires-3
 bytes-of-requires-3 c κs = search needs
 
--- src/plans.rt:190:1
 returns : tie.Need-returns
 returns c = search (needs, source-none)
 

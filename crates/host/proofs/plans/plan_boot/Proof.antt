@@ -8,19 +8,15 @@ use Rattle.host.proofs.plans.planned_at.Reads as planned-at-reads
 use Rattle.host.proofs.plans.spec_of.Reads as spec-of-reads
 use Rattle.host.proofs.records.boot_of.Reads as boot-of-reads
 
--- src/plans.rt:145:21
 planned-at-requires : tie.Need-planned-at-requires
 planned-at-requires c κs = search needs
 
--- src/plans.rt:145:13
 spec-of-requires : tie.Need-spec-of-requires
 spec-of-requires c κs = search needs
 
--- src/plans.rt:145:5
 boot-of-requires : tie.Need-boot-of-requires
 boot-of-requires c κs = search needs
 
--- src/plans.rt:134:1
 returns : tie.Need-returns
 returns c = search (needs, boot-planned)
 

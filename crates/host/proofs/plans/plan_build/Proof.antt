@@ -10,31 +10,24 @@ use Rattle.parse.proofs.view.sound.Reads as sound-reads
 use Rattle.plan.proofs.builds.build.Reads as build-reads
 use Rattle.plan.proofs.choice.choose.Reads as choose-reads
 
--- src/plans.rt:316:8
 sound-requires : tie.Need-sound-requires
 sound-requires c κs = search needs
 
--- src/plans.rt:317:13
 choose-requires : tie.Need-choose-requires
 choose-requires c κs = search (needs, sound-rooms)
 
--- src/plans.rt:318:25
 build-requires : tie.Need-build-requires
 build-requires c κs = search (needs, sound-rooms)
 
--- src/plans.rt:318:9
 build-of-requires : tie.Need-build-of-requires
 build-of-requires c κs = search needs
 
--- src/plans.rt:318:9
 returns : tie.Need-returns
 returns c = search (needs, build-shown)
 
--- src/plans.rt:320:5
 build-of-requires-2 : tie.Need-build-of-requires-2
 build-of-requires-2 c κs = search needs
 
--- src/plans.rt:305:1
 returns-2 : tie.Need-returns-2
 returns-2 c = search (needs, no-build)
 

@@ -10,27 +10,21 @@ use Rattle.plan.proofs.builds.builds.Reads as builds-reads
 use Rattle.plan.proofs.choice.choose.Reads as choose-reads
 use Rattle.plan.proofs.component.count.Reads as count-reads
 
--- src/plans.rt:334:8
 sound-requires : tie.Need-sound-requires
 sound-requires c κs = search needs
 
--- src/plans.rt:335:13
 choose-requires : tie.Need-choose-requires
 choose-requires c κs = search (needs, sound-rooms)
 
--- src/plans.rt:336:13
 builds-requires : tie.Need-builds-requires
 builds-requires c κs = search (needs, sound-rooms)
 
--- src/plans.rt:338:25
 count-requires : tie.Need-count-requires
 count-requires c κs = search (needs, sound-rooms)
 
--- src/plans.rt:337:9
 returns : tie.Need-returns
 returns c = search (needs, counts-shown)
 
--- src/plans.rt:324:1
 returns-2 : tie.Need-returns-2
 returns-2 c = search (needs, no-counts)
 

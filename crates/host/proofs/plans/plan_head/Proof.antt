@@ -8,19 +8,15 @@ use Rattle.host.proofs.plans.planned_at.Reads as planned-at-reads
 use Rattle.host.proofs.plans.spec_of.Reads as spec-of-reads
 use Rattle.host.proofs.records.head_of.Reads as head-of-reads
 
--- src/plans.rt:115:21
 planned-at-requires : tie.Need-planned-at-requires
 planned-at-requires c κs = search needs
 
--- src/plans.rt:115:13
 spec-of-requires : tie.Need-spec-of-requires
 spec-of-requires c κs = search needs
 
--- src/plans.rt:115:5
 head-of-requires : tie.Need-head-of-requires
 head-of-requires c κs = search needs
 
--- src/plans.rt:104:1
 returns : tie.Need-returns
 returns c = search (needs, head-planned)
 

@@ -8,19 +8,15 @@ use Rattle.host.proofs.plans.planned_at.Reads as planned-at-reads
 use Rattle.host.proofs.plans.spec_of.Reads as spec-of-reads
 use Rattle.host.proofs.records.load_of.Reads as load-of-reads
 
--- src/plans.rt:160:21
 planned-at-requires : tie.Need-planned-at-requires
 planned-at-requires c κs = search needs
 
--- src/plans.rt:160:13
 spec-of-requires : tie.Need-spec-of-requires
 spec-of-requires c κs = search needs
 
--- src/plans.rt:160:5
 load-of-requires : tie.Need-load-of-requires
 load-of-requires c κs = search needs
 
--- src/plans.rt:149:1
 returns : tie.Need-returns
 returns c = search (needs, load-planned)
 

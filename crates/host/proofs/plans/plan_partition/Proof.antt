@@ -10,31 +10,24 @@ use Rattle.host.proofs.plans.target_of.Reads as target-of-reads
 use Rattle.host.proofs.records.partition_of.Reads as partition-of-reads
 use Rattle.parse.proofs.view.sound.Reads as sound-reads
 
--- src/plans.rt:273:9
 planned-at-requires : tie.Need-planned-at-requires
 planned-at-requires c κs = search needs
 
--- src/plans.rt:274:8
 sound-requires : tie.Need-sound-requires
 sound-requires c κs = search needs
 
--- src/plans.rt:275:29
 target-of-requires : tie.Need-target-of-requires
 target-of-requires c κs = search (needs, sound-rooms)
 
--- src/plans.rt:275:9
 partition-of-requires : tie.Need-partition-of-requires
 partition-of-requires c κs = search needs
 
--- src/plans.rt:275:9
 returns : tie.Need-returns
 returns c = search (needs, target-shown)
 
--- src/plans.rt:277:5
 partition-of-requires-2 : tie.Need-partition-of-requires-2
 partition-of-requires-2 c κs = search needs
 
--- src/plans.rt:262:1
 returns-2 : tie.Need-returns-2
 returns-2 c = search (needs, no-target)
 

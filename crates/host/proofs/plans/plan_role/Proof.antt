@@ -8,19 +8,15 @@ use Rattle.host.proofs.plans.planned_at.Reads as planned-at-reads
 use Rattle.host.proofs.plans.spec_of.Reads as spec-of-reads
 use Rattle.host.proofs.records.role_of.Reads as role-of-reads
 
--- src/plans.rt:130:21
 planned-at-requires : tie.Need-planned-at-requires
 planned-at-requires c κs = search needs
 
--- src/plans.rt:130:13
 spec-of-requires : tie.Need-spec-of-requires
 spec-of-requires c κs = search needs
 
--- src/plans.rt:130:5
 role-of-requires : tie.Need-role-of-requires
 role-of-requires c κs = search needs
 
--- src/plans.rt:119:1
 returns : tie.Need-returns
 returns c = search (needs, role-planned)
 

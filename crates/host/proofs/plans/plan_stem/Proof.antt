@@ -10,31 +10,24 @@ use Rattle.parse.proofs.view.sound.Reads as sound-reads
 use Rattle.plan.proofs.choice.choose.Reads as choose-reads
 use Rattle.plan.proofs.stem.stem.Reads as stem-reads
 
--- src/plans.rt:360:8
 sound-requires : tie.Need-sound-requires
 sound-requires c κs = search needs
 
--- src/plans.rt:361:13
 choose-requires : tie.Need-choose-requires
 choose-requires c κs = search (needs, sound-rooms)
 
--- src/plans.rt:362:25
 stem-requires : tie.Need-stem-requires
 stem-requires c κs = search (needs, sound-rooms)
 
--- src/plans.rt:362:9
 bytes-of-requires : tie.Need-bytes-of-requires
 bytes-of-requires c κs = search needs
 
--- src/plans.rt:362:9
 returns : tie.Need-returns
 returns c = search (needs, stem-shown)
 
--- src/plans.rt:364:5
 bytes-of-requires-2 : tie.Need-bytes-of-requires-2
 bytes-of-requires-2 c κs = search needs
 
--- src/plans.rt:349:1
 returns-2 : tie.Need-returns-2
 returns-2 c = search (needs, no-stem)
 

@@ -7,23 +7,18 @@ use Rattle.host.proofs.plans.preset_plan.Lts as lts
 use Rattle.host.proofs.presets.exported.Reads as exported-reads
 use Rattle.preset.proofs.planning.plan.Reads as plan-reads
 
--- src/plans.rt:69:14
 plan-requires : tie.Need-plan-requires
 plan-requires c κs = search needs
 
--- src/plans.rt:69:5
 exported-requires : tie.Need-exported-requires
 exported-requires c κs = search needs
 
--- src/plans.rt:58:1
 same-length : tie.Need-same-length
 same-length c = search needs
 
--- src/plans.rt:58:1
 same-length-2 : tie.Need-same-length-2
 same-length-2 c = search needs
 
--- src/plans.rt:58:1
 returns : tie.Need-returns
 returns c = search (needs, plan-is)
 

@@ -8,63 +8,48 @@ use Rattle.host.proofs.plans.no_source.Reads as no-source-reads
 use Rattle.host.proofs.records.bytes_of.Reads as bytes-of-reads
 use Rattle.host.proofs.records.list_of.Reads as list-of-reads
 
--- src/plans.rt:167:28
 enum-told : tie.Need-enum-told
 enum-told c = search needs
 
--- src/plans.rt:167:28
 no-source-requires : tie.Need-no-source-requires
 no-source-requires c κs = search needs
 
--- src/plans.rt:168:25
 enum-known-s : tie.Need-enum-known-s
 enum-known-s c = search needs
 
--- src/plans.rt:174:26
 bytes-of-requires : tie.Need-bytes-of-requires
 bytes-of-requires c κs = search needs
 
--- src/plans.rt:175:22
 bytes-of-requires-2 : tie.Need-bytes-of-requires-2
 bytes-of-requires-2 c κs = search needs
 
--- src/plans.rt:176:27
 list-of-requires : tie.Need-list-of-requires
 list-of-requires c κs = search needs
 
--- src/plans.rt:177:23
 bytes-of-requires-3 : tie.Need-bytes-of-requires-3
 bytes-of-requires-3 c κs = search needs
 
--- src/plans.rt:180:22
 enum-known-s-2 : tie.Need-enum-known-s-2
 enum-known-s-2 c = search needs
 
--- src/plans.rt:182:22
 bytes-of-requires-4 : tie.Need-bytes-of-requires-4
 bytes-of-requires-4 c κs = search needs
 
--- src/plans.rt:183:18
 bytes-of-requires-5 : tie.Need-bytes-of-requires-5
 bytes-of-requires-5 c κs = search needs
 
--- src/plans.rt:184:23
 list-of-requires-2 : tie.Need-list-of-requires-2
 list-of-requires-2 c κs = search needs
 
--- src/plans.rt:185:19
 bytes-of-requires-6 : tie.Need-bytes-of-requires-6
 bytes-of-requires-6 c κs = search needs
 
--- src/plans.rt:163:1
 returns : tie.Need-returns
 returns c = search needs
 
--- src/plans.rt:163:1
 returns-2 : tie.Need-returns-2
 returns-2 c = search (needs, source-package)
 
--- src/plans.rt:163:1
 returns-3 : tie.Need-returns-3
 returns-3 c = search (needs, source-file)
 

@@ -5,19 +5,15 @@ use Rattle.host.proofs.plans.spec_of.Tie as tie
 use Rattle.host.proofs.plans.spec_of.Reads as reads
 use Rattle.host.proofs.plans.spec_of.Lts as lts
 
--- src/plans.rt:95:34
 enum-told : tie.Need-enum-told
 enum-told c = search needs
 
--- src/plans.rt:96:26
 enum-known-f : tie.Need-enum-known-f
 enum-known-f c = search needs
 
--- src/plans.rt:91:1
 returns : tie.Need-returns
 returns c = search needs
 
--- src/plans.rt:91:1
 returns-2 : tie.Need-returns-2
 returns-2 c = search (needs, spec-told)
 

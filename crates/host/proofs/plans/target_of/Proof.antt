@@ -6,23 +6,18 @@ use Rattle.host.proofs.plans.target_of.Reads as reads
 use Rattle.host.proofs.plans.target_of.Lts as lts
 use Rattle.plan.proofs.target.partition.Reads as partition-reads
 
--- src/plans.rt:252:34
 enum-told : tie.Need-enum-told
 enum-told c = search needs
 
--- src/plans.rt:253:26
 enum-known-f : tie.Need-enum-known-f
 enum-known-f c = search needs
 
--- src/plans.rt:257:13
 partition-requires : tie.Need-partition-requires
 partition-requires c κs = search needs
 
--- src/plans.rt:247:1
 returns : tie.Need-returns
 returns c = search needs
 
--- src/plans.rt:247:1
 returns-2 : tie.Need-returns-2
 returns-2 c = search (needs, target-told)
 

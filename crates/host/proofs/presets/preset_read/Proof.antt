@@ -7,23 +7,18 @@ use Rattle.host.proofs.presets.preset_read.Lts as lts
 use Rattle.host.proofs.presets.exported.Reads as exported-reads
 use Rattle.preset.proofs.reading.read.Reads as read-reads
 
--- src/presets.rt:32:14
 read-requires : tie.Need-read-requires
 read-requires c κs = search needs
 
--- src/presets.rt:32:5
 exported-requires : tie.Need-exported-requires
 exported-requires c κs = search needs
 
--- src/presets.rt:23:1
 same-length : tie.Need-same-length
 same-length c = search needs
 
--- src/presets.rt:23:1
 same-length-2 : tie.Need-same-length-2
 same-length-2 c = search needs
 
--- src/presets.rt:23:1
 returns : tie.Need-returns
 returns c = search (needs, preset-is)
 

@@ -7,23 +7,18 @@ use Rattle.host.proofs.presets.preset_validate.Lts as lts
 use Rattle.host.proofs.presets.exported.Reads as exported-reads
 use Rattle.preset.proofs.validating.validate.Reads as validate-reads
 
--- src/presets.rt:45:14
 validate-requires : tie.Need-validate-requires
 validate-requires c κs = search needs
 
--- src/presets.rt:45:5
 exported-requires : tie.Need-exported-requires
 exported-requires c κs = search needs
 
--- src/presets.rt:36:1
 same-length : tie.Need-same-length
 same-length c = search needs
 
--- src/presets.rt:36:1
 same-length-2 : tie.Need-same-length-2
 same-length-2 c = search needs
 
--- src/presets.rt:36:1
 returns : tie.Need-returns
 returns c = search (needs, valid-is)
 

@@ -5,19 +5,15 @@ use Rattle.host.proofs.records.amount_of.Tie as tie
 use Rattle.host.proofs.records.amount_of.Reads as reads
 use Rattle.host.proofs.records.amount_of.Lts as lts
 
--- src/records.rt:218:27
 enum-told : tie.Need-enum-told
 enum-told c = search needs
 
--- src/records.rt:219:20
 enum-known-n : tie.Need-enum-known-n
 enum-known-n c = search needs
 
--- src/records.rt:214:1
 returns : tie.Need-returns
 returns c = search (needs, amount-told)
 
--- src/records.rt:214:1
 returns-2 : tie.Need-returns-2
 returns-2 c = search (needs, amount-told)
 

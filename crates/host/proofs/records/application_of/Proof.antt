@@ -9,55 +9,42 @@ use Rattle.host.proofs.records.bytes_of.Reads as bytes-of-reads
 use Rattle.host.proofs.records.list_of.Reads as list-of-reads
 use Rattle.host.proofs.records.no_application.Reads as no-application-reads
 
--- src/records.rt:624:38
 enum-told : tie.Need-enum-told
 enum-told c = search needs
 
--- src/records.rt:624:38
 no-application-requires : tie.Need-no-application-requires
 no-application-requires c κs = search needs
 
--- src/records.rt:625:30
 enum-known-f : tie.Need-enum-known-f
 enum-known-f c = search needs
 
--- src/records.rt:636:26
 bytes-of-requires : tie.Need-bytes-of-requires
 bytes-of-requires c κs = search needs
 
--- src/records.rt:637:23
 bytes-of-requires-2 : tie.Need-bytes-of-requires-2
 bytes-of-requires-2 c κs = search needs
 
--- src/records.rt:638:28
 bytes-of-requires-3 : tie.Need-bytes-of-requires-3
 bytes-of-requires-3 c κs = search needs
 
--- src/records.rt:639:27
 bytes-of-requires-4 : tie.Need-bytes-of-requires-4
 bytes-of-requires-4 c κs = search needs
 
--- src/records.rt:640:23
 bytes-of-requires-5 : tie.Need-bytes-of-requires-5
 bytes-of-requires-5 c κs = search needs
 
--- src/records.rt:641:27
 list-of-requires : tie.Need-list-of-requires
 list-of-requires c κs = search needs
 
--- src/records.rt:642:31
 amount-of-requires : tie.Need-amount-of-requires
 amount-of-requires c κs = search needs
 
--- src/records.rt:643:31
 amount-of-requires-2 : tie.Need-amount-of-requires-2
 amount-of-requires-2 c κs = search needs
 
--- src/records.rt:620:1
 returns : tie.Need-returns
 returns c = search needs
 
--- src/records.rt:620:1
 returns-2 : tie.Need-returns-2
 returns-2 c = search (needs, application-told)
 

@@ -5,12 +5,10 @@ use Rattle.host.proofs.records.behind_item.Tie as tie
 use Rattle.host.proofs.records.behind_item.Reads as reads
 use Rattle.host.proofs.records.behind_item.Lts as lts
 
--- src/records.rt:701:9
 returns : tie.Need-returns
 unfolding behindItem
 returns c = search tests
 
--- src/records.rt:697:1
 returns-2 : tie.Need-returns-2
 unfolding behindItem
 returns-2 c = search tests

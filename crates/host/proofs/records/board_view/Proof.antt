@@ -9,35 +9,27 @@ use Rattle.host.proofs.records.chip_number.Reads as chip-number-reads
 use Rattle.host.proofs.records.front_at.Reads as front-at-reads
 use Rattle.host.proofs.records.no_board.Reads as no-board-reads
 
--- src/records.rt:306:9
 front-at-requires : tie.Need-front-at-requires
 front-at-requires c κs = search needs
 
--- src/records.rt:309:9
 no-board-requires : tie.Need-no-board-requires
 no-board-requires c κs = search needs
 
--- src/records.rt:309:9
 returns : tie.Need-returns
 returns c = search (needs, board-refused)
 
--- src/records.rt:318:15
 chip-number-requires : tie.Need-chip-number-requires
 chip-number-requires c κs = search needs
 
--- src/records.rt:319:15
 bytes-of-requires : tie.Need-bytes-of-requires
 bytes-of-requires c κs = search needs
 
--- src/records.rt:320:17
 bytes-of-requires-2 : tie.Need-bytes-of-requires-2
 bytes-of-requires-2 c κs = search needs
 
--- src/records.rt:321:18
 bytes-of-requires-3 : tie.Need-bytes-of-requires-3
 bytes-of-requires-3 c κs = search needs
 
--- src/records.rt:302:1
 returns-2 : tie.Need-returns-2
 returns-2 c = search (needs, board-told)
 

@@ -8,55 +8,42 @@ use Rattle.host.proofs.records.amount_of.Reads as amount-of-reads
 use Rattle.host.proofs.records.bytes_of.Reads as bytes-of-reads
 use Rattle.host.proofs.records.flag_number.Reads as flag-number-reads
 
--- src/records.rt:533:28
 enum-told : tie.Need-enum-told
 enum-told c = search needs
 
--- src/records.rt:533:18
 amount-of-requires : tie.Need-amount-of-requires
 amount-of-requires c κs = search needs
 
--- src/records.rt:534:18
 bytes-of-requires : tie.Need-bytes-of-requires
 bytes-of-requires c κs = search needs
 
--- src/records.rt:535:26
 bytes-of-requires-2 : tie.Need-bytes-of-requires-2
 bytes-of-requires-2 c κs = search needs
 
--- src/records.rt:536:22
 bytes-of-requires-3 : tie.Need-bytes-of-requires-3
 bytes-of-requires-3 c κs = search needs
 
--- src/records.rt:538:28
 enum-known-f : tie.Need-enum-known-f
 enum-known-f c = search needs
 
--- src/records.rt:546:26
 flag-number-requires : tie.Need-flag-number-requires
 flag-number-requires c κs = search needs
 
--- src/records.rt:547:22
 amount-of-requires-2 : tie.Need-amount-of-requires-2
 amount-of-requires-2 c κs = search needs
 
--- src/records.rt:548:22
 bytes-of-requires-4 : tie.Need-bytes-of-requires-4
 bytes-of-requires-4 c κs = search needs
 
--- src/records.rt:549:30
 bytes-of-requires-5 : tie.Need-bytes-of-requires-5
 bytes-of-requires-5 c κs = search needs
 
--- src/records.rt:550:26
 bytes-of-requires-6 : tie.Need-bytes-of-requires-6
 bytes-of-requires-6 c κs = search needs
 
--- src/records.rt:526:1
 returns : tie.Need-returns
 returns c = search (needs, boot-none)
 
--- src/records.rt:526:1
 returns-2 : tie.Need-returns-2
 returns-2 c = search (needs, boot-told)
 

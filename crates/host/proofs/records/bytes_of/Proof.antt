@@ -6,47 +6,36 @@ use Rattle.host.proofs.records.bytes_of.Reads as reads
 use Rattle.host.proofs.records.bytes_of.Lts as lts
 use Rattle.host.proofs.records.word_number.Reads as word-number-reads
 
--- src/records.rt:181:25
 enum-told : tie.Need-enum-told
 enum-told c = search needs
 
--- src/records.rt:187:24
 enum-known-t : tie.Need-enum-known-t
 enum-known-t c = search needs
 
--- src/records.rt:193:23
 enum-told-2 : tie.Need-enum-told-2
 enum-told-2 c = search needs
 
--- src/records.rt:199:21
 enum-known-t-2 : tie.Need-enum-known-t-2
 enum-known-t-2 c = search needs
 
--- src/records.rt:201:19
 word-number-requires : tie.Need-word-number-requires
 word-number-requires c κs = search needs
 
--- src/records.rt:205:25
 enum-known-t-3 : tie.Need-enum-known-t-3
 enum-known-t-3 c = search needs
 
--- src/records.rt:177:1
 returns : tie.Need-returns
 returns c = search (needs, bytes-told)
 
--- src/records.rt:177:1
 returns-2 : tie.Need-returns-2
 returns-2 c = search (needs, bytes-told)
 
--- src/records.rt:177:1
 returns-3 : tie.Need-returns-3
 returns-3 c = search (needs, bytes-told)
 
--- src/records.rt:177:1
 returns-4 : tie.Need-returns-4
 returns-4 c = search (needs, fixed-told)
 
--- src/records.rt:177:1
 returns-5 : tie.Need-returns-5
 returns-5 c = search (needs, bytes-told)
 

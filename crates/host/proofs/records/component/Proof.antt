@@ -8,19 +8,15 @@ use Rattle.host.proofs.records.component.Lts as lts
 use Rattle.parse.proofs.view.component.Reads as component-reads
 use Rattle.parse.proofs.view.sound.Reads as sound-reads
 
--- src/records.rt:436:8
 sound-requires : tie.Need-sound-requires
 sound-requires c κs = search needs
 
--- src/records.rt:437:9
 component-requires : tie.Need-component-requires
 component-requires c κs = search (needs, sound-rooms)
 
--- src/records.rt:437:9
 returns : tie.Need-returns
 returns c = search calls
 
--- src/records.rt:433:1
 returns-2 : tie.Need-returns-2
 returns-2 c = search calls
 

@@ -7,15 +7,12 @@ use Rattle.host.proofs.records.component_boot.Lts as lts
 use Rattle.host.proofs.records.boot_of.Reads as boot-of-reads
 use Rattle.host.proofs.records.component.Reads as component-reads
 
--- src/records.rt:561:13
 component-requires : tie.Need-component-requires
 component-requires c κs = search needs
 
--- src/records.rt:561:5
 boot-of-requires : tie.Need-boot-of-requires
 boot-of-requires c κs = search needs
 
--- src/records.rt:557:1
 returns : tie.Need-returns
 returns c = search (needs, boot-shown)
 

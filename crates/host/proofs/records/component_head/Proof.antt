@@ -7,15 +7,12 @@ use Rattle.host.proofs.records.component_head.Lts as lts
 use Rattle.host.proofs.records.component.Reads as component-reads
 use Rattle.host.proofs.records.head_of.Reads as head-of-reads
 
--- src/records.rt:481:13
 component-requires : tie.Need-component-requires
 component-requires c κs = search needs
 
--- src/records.rt:481:5
 head-of-requires : tie.Need-head-of-requires
 head-of-requires c κs = search needs
 
--- src/records.rt:477:1
 returns : tie.Need-returns
 returns c = search (needs, head-shown)
 

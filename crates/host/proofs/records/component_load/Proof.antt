@@ -7,15 +7,12 @@ use Rattle.host.proofs.records.component_load.Lts as lts
 use Rattle.host.proofs.records.component.Reads as component-reads
 use Rattle.host.proofs.records.load_of.Reads as load-of-reads
 
--- src/records.rt:601:13
 component-requires : tie.Need-component-requires
 component-requires c κs = search needs
 
--- src/records.rt:601:5
 load-of-requires : tie.Need-load-of-requires
 load-of-requires c κs = search needs
 
--- src/records.rt:597:1
 returns : tie.Need-returns
 returns c = search (needs, load-shown)
 

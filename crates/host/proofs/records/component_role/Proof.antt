@@ -7,15 +7,12 @@ use Rattle.host.proofs.records.component_role.Lts as lts
 use Rattle.host.proofs.records.component.Reads as component-reads
 use Rattle.host.proofs.records.role_of.Reads as role-of-reads
 
--- src/records.rt:523:13
 component-requires : tie.Need-component-requires
 component-requires c κs = search needs
 
--- src/records.rt:523:5
 role-of-requires : tie.Need-role-of-requires
 role-of-requires c κs = search needs
 
--- src/records.rt:519:1
 returns : tie.Need-returns
 returns c = search (needs, role-shown)
 

@@ -5,19 +5,15 @@ use Rattle.host.proofs.records.feature_of.Tie as tie
 use Rattle.host.proofs.records.feature_of.Reads as reads
 use Rattle.host.proofs.records.feature_of.Lts as lts
 
--- src/records.rt:713:29
 enum-told : tie.Need-enum-told
 enum-told c = search needs
 
--- src/records.rt:718:21
 enum-known-f : tie.Need-enum-known-f
 enum-known-f c = search needs
 
--- src/records.rt:709:1
 returns : tie.Need-returns
 returns c = search (needs, item-told)
 
--- src/records.rt:709:1
 returns-2 : tie.Need-returns-2
 returns-2 c = search (needs, item-told)
 

@@ -6,26 +6,21 @@ use Rattle.host.proofs.records.features_by.Tie as tie
 use Rattle.host.proofs.records.features_by.Reads as reads
 use Rattle.host.proofs.records.features_by.Lts as lts
 
--- src/records.rt:683:9
 returns : tie.Need-returns
 unfolding featuresBy
 returns c = search tests
 
--- src/records.rt:690:36
 cast-t6 : tie.Need-cast-t6
 cast-t6 c = search needs
 
--- src/records.rt:690:13
 returns-2 : tie.Need-returns-2
 unfolding featuresBy
 returns-2 c = search tests
 
--- src/records.rt:692:9
 returns-3 : tie.Need-returns-3
 unfolding featuresBy
 returns-3 c = search tests
 
--- src/records.rt:679:1
 returns-4 : tie.Need-returns-4
 unfolding featuresBy
 returns-4 c = search tests

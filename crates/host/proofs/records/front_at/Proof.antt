@@ -9,19 +9,15 @@ use Rattle.parse.proofs.front.read_front.Reads as read-front-reads
 use Rattle.parse.proofs.lent_name.Reads as lent-name-reads
 use Rattle.tree.proofs.fields_at.Reads as fields-at-reads
 
--- src/records.rt:286:9
 fields-at-requires : tie.Need-fields-at-requires
 fields-at-requires c κs = search needs
 
--- src/records.rt:287:55
 lent-name-requires : tie.Need-lent-name-requires
 lent-name-requires c κs = search needs
 
--- src/records.rt:287:5
 read-front-requires : tie.Need-read-front-requires
 read-front-requires c κs = search (needs, root-spread)
 
--- src/records.rt:282:1
 returns : tie.Need-returns
 returns c = search (needs, front-told)
 

@@ -7,63 +7,48 @@ use Rattle.host.proofs.records.head_of.Lts as lts
 use Rattle.host.proofs.records.bytes_of.Reads as bytes-of-reads
 use Rattle.host.proofs.records.kind_number.Reads as kind-number-reads
 
--- src/records.rt:449:28
 enum-told : tie.Need-enum-told
 enum-told c = search needs
 
--- src/records.rt:449:19
 bytes-of-requires : tie.Need-bytes-of-requires
 bytes-of-requires c κs = search needs
 
--- src/records.rt:450:22
 bytes-of-requires-2 : tie.Need-bytes-of-requires-2
 bytes-of-requires-2 c κs = search needs
 
--- src/records.rt:451:18
 bytes-of-requires-3 : tie.Need-bytes-of-requires-3
 bytes-of-requires-3 c κs = search needs
 
--- src/records.rt:452:19
 bytes-of-requires-4 : tie.Need-bytes-of-requires-4
 bytes-of-requires-4 c κs = search needs
 
--- src/records.rt:453:23
 bytes-of-requires-5 : tie.Need-bytes-of-requires-5
 bytes-of-requires-5 c κs = search needs
 
--- src/records.rt:455:28
 enum-known-f : tie.Need-enum-known-f
 enum-known-f c = search needs
 
--- src/records.rt:465:23
 kind-number-requires : tie.Need-kind-number-requires
 kind-number-requires c κs = search needs
 
--- src/records.rt:466:23
 bytes-of-requires-6 : tie.Need-bytes-of-requires-6
 bytes-of-requires-6 c κs = search needs
 
--- src/records.rt:467:26
 bytes-of-requires-7 : tie.Need-bytes-of-requires-7
 bytes-of-requires-7 c κs = search needs
 
--- src/records.rt:468:22
 bytes-of-requires-8 : tie.Need-bytes-of-requires-8
 bytes-of-requires-8 c κs = search needs
 
--- src/records.rt:469:23
 bytes-of-requires-9 : tie.Need-bytes-of-requires-9
 bytes-of-requires-9 c κs = search needs
 
--- src/records.rt:470:27
 bytes-of-requires-10 : tie.Need-bytes-of-requires-10
 bytes-of-requires-10 c κs = search needs
 
--- src/records.rt:442:1
 returns : tie.Need-returns
 returns c = search (needs, head-none)
 
--- src/records.rt:442:1
 returns-2 : tie.Need-returns-2
 returns-2 c = search (needs, head-told)
 

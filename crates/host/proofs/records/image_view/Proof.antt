@@ -9,47 +9,36 @@ use Rattle.host.proofs.records.front_at.Reads as front-at-reads
 use Rattle.host.proofs.records.media_number.Reads as media-number-reads
 use Rattle.host.proofs.records.no_image.Reads as no-image-reads
 
--- src/records.rt:355:41
 slice-aggregate-front-at : tie.Need-slice-aggregate-front-at
 slice-aggregate-front-at c = search needs
 
--- src/records.rt:355:9
 front-at-requires : tie.Need-front-at-requires
 front-at-requires c κs = search needs
 
--- src/records.rt:358:9
 no-image-requires : tie.Need-no-image-requires
 no-image-requires c κs = search needs
 
--- src/records.rt:358:9
 returns : tie.Need-returns
 returns c = search (needs, image-refused)
 
--- src/records.rt:369:16
 media-number-requires : tie.Need-media-number-requires
 media-number-requires c κs = search needs
 
--- src/records.rt:371:19
 bytes-of-requires : tie.Need-bytes-of-requires
 bytes-of-requires c κs = search needs
 
--- src/records.rt:372:18
 bytes-of-requires-2 : tie.Need-bytes-of-requires-2
 bytes-of-requires-2 c κs = search needs
 
--- src/records.rt:373:18
 bytes-of-requires-3 : tie.Need-bytes-of-requires-3
 bytes-of-requires-3 c κs = search needs
 
--- src/records.rt:374:19
 bytes-of-requires-4 : tie.Need-bytes-of-requires-4
 bytes-of-requires-4 c κs = search needs
 
--- src/records.rt:375:14
 bytes-of-requires-5 : tie.Need-bytes-of-requires-5
 bytes-of-requires-5 c κs = search needs
 
--- src/records.rt:351:1
 returns-2 : tie.Need-returns-2
 returns-2 c = search (needs, image-told)
 

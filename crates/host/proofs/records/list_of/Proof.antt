@@ -5,31 +5,24 @@ use Rattle.host.proofs.records.list_of.Tie as tie
 use Rattle.host.proofs.records.list_of.Reads as reads
 use Rattle.host.proofs.records.list_of.Lts as lts
 
--- src/records.rt:227:29
 enum-told : tie.Need-enum-told
 enum-told c = search needs
 
--- src/records.rt:232:27
 enum-known-f : tie.Need-enum-known-f
 enum-known-f c = search needs
 
--- src/records.rt:237:25
 enum-known-f-2 : tie.Need-enum-known-f-2
 enum-known-f-2 c = search needs
 
--- src/records.rt:239:19
 cast-t6 : tie.Need-cast-t6
 cast-t6 c = search needs
 
--- src/records.rt:223:1
 returns : tie.Need-returns
 returns c = search (needs, list-told)
 
--- src/records.rt:223:1
 returns-2 : tie.Need-returns-2
 returns-2 c = search (needs, list-told)
 
--- src/records.rt:223:1
 returns-3 : tie.Need-returns-3
 returns-3 c = search (needs, list-told)
 

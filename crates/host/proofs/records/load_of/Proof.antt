@@ -7,55 +7,42 @@ use Rattle.host.proofs.records.load_of.Lts as lts
 use Rattle.host.proofs.records.amount_of.Reads as amount-of-reads
 use Rattle.host.proofs.records.flag_number.Reads as flag-number-reads
 
--- src/records.rt:572:37
 enum-told : tie.Need-enum-told
 enum-told c = search needs
 
--- src/records.rt:572:27
 amount-of-requires : tie.Need-amount-of-requires
 amount-of-requires c κs = search needs
 
--- src/records.rt:573:26
 amount-of-requires-2 : tie.Need-amount-of-requires-2
 amount-of-requires-2 c κs = search needs
 
--- src/records.rt:574:27
 amount-of-requires-3 : tie.Need-amount-of-requires-3
 amount-of-requires-3 c κs = search needs
 
--- src/records.rt:575:29
 amount-of-requires-4 : tie.Need-amount-of-requires-4
 amount-of-requires-4 c κs = search needs
 
--- src/records.rt:577:28
 enum-known-f : tie.Need-enum-known-f
 enum-known-f c = search needs
 
--- src/records.rt:585:27
 flag-number-requires : tie.Need-flag-number-requires
 flag-number-requires c κs = search needs
 
--- src/records.rt:587:31
 amount-of-requires-5 : tie.Need-amount-of-requires-5
 amount-of-requires-5 c κs = search needs
 
--- src/records.rt:588:30
 amount-of-requires-6 : tie.Need-amount-of-requires-6
 amount-of-requires-6 c κs = search needs
 
--- src/records.rt:589:31
 amount-of-requires-7 : tie.Need-amount-of-requires-7
 amount-of-requires-7 c κs = search needs
 
--- src/records.rt:590:33
 amount-of-requires-8 : tie.Need-amount-of-requires-8
 amount-of-requires-8 c κs = search needs
 
--- src/records.rt:564:1
 returns : tie.Need-returns
 returns c = search (needs, load-none)
 
--- src/records.rt:564:1
 returns-2 : tie.Need-returns-2
 returns-2 c = search (needs, load-told)
 

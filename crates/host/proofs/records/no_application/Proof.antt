@@ -8,39 +8,30 @@ use Rattle.host.proofs.records.amount_of.Reads as amount-of-reads
 use Rattle.host.proofs.records.bytes_of.Reads as bytes-of-reads
 use Rattle.host.proofs.records.list_of.Reads as list-of-reads
 
--- src/records.rt:609:18
 bytes-of-requires : tie.Need-bytes-of-requires
 bytes-of-requires c κs = search needs
 
--- src/records.rt:610:15
 bytes-of-requires-2 : tie.Need-bytes-of-requires-2
 bytes-of-requires-2 c κs = search needs
 
--- src/records.rt:611:20
 bytes-of-requires-3 : tie.Need-bytes-of-requires-3
 bytes-of-requires-3 c κs = search needs
 
--- src/records.rt:612:19
 bytes-of-requires-4 : tie.Need-bytes-of-requires-4
 bytes-of-requires-4 c κs = search needs
 
--- src/records.rt:613:15
 bytes-of-requires-5 : tie.Need-bytes-of-requires-5
 bytes-of-requires-5 c κs = search needs
 
--- src/records.rt:614:19
 list-of-requires : tie.Need-list-of-requires
 list-of-requires c κs = search needs
 
--- src/records.rt:615:23
 amount-of-requires : tie.Need-amount-of-requires
 amount-of-requires c κs = search needs
 
--- src/records.rt:616:23
 amount-of-requires-2 : tie.Need-amount-of-requires-2
 amount-of-requires-2 c κs = search needs
 
--- src/records.rt:604:1
 returns : tie.Need-returns
 returns c = search (needs, application-none)
 

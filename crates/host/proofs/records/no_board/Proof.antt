@@ -6,19 +6,15 @@ use Rattle.host.proofs.records.no_board.Reads as reads
 use Rattle.host.proofs.records.no_board.Lts as lts
 use Rattle.host.proofs.records.bytes_of.Reads as bytes-of-reads
 
--- src/records.rt:296:15
 bytes-of-requires : tie.Need-bytes-of-requires
 bytes-of-requires c κs = search needs
 
--- src/records.rt:297:17
 bytes-of-requires-2 : tie.Need-bytes-of-requires-2
 bytes-of-requires-2 c κs = search needs
 
--- src/records.rt:298:18
 bytes-of-requires-3 : tie.Need-bytes-of-requires-3
 bytes-of-requires-3 c κs = search needs
 
--- src/records.rt:290:1
 returns : tie.Need-returns
 returns c = search (needs, board-none)
 

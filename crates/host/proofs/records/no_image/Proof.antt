@@ -6,27 +6,21 @@ use Rattle.host.proofs.records.no_image.Reads as reads
 use Rattle.host.proofs.records.no_image.Lts as lts
 use Rattle.host.proofs.records.bytes_of.Reads as bytes-of-reads
 
--- src/records.rt:343:19
 bytes-of-requires : tie.Need-bytes-of-requires
 bytes-of-requires c κs = search needs
 
--- src/records.rt:344:18
 bytes-of-requires-2 : tie.Need-bytes-of-requires-2
 bytes-of-requires-2 c κs = search needs
 
--- src/records.rt:345:18
 bytes-of-requires-3 : tie.Need-bytes-of-requires-3
 bytes-of-requires-3 c κs = search needs
 
--- src/records.rt:346:19
 bytes-of-requires-4 : tie.Need-bytes-of-requires-4
 bytes-of-requires-4 c κs = search needs
 
--- src/records.rt:347:14
 bytes-of-requires-5 : tie.Need-bytes-of-requires-5
 bytes-of-requires-5 c κs = search needs
 
--- src/records.rt:336:1
 returns : tie.Need-returns
 returns c = search (needs, image-none)
 

@@ -6,23 +6,18 @@ use Rattle.host.proofs.records.partition_of.Reads as reads
 use Rattle.host.proofs.records.partition_of.Lts as lts
 use Rattle.host.proofs.records.no_partition.Reads as no-partition-reads
 
--- src/records.rt:405:36
 enum-told : tie.Need-enum-told
 enum-told c = search needs
 
--- src/records.rt:405:36
 no-partition-requires : tie.Need-no-partition-requires
 no-partition-requires c κs = search needs
 
--- src/records.rt:406:28
 enum-known-f : tie.Need-enum-known-f
 enum-known-f c = search needs
 
--- src/records.rt:401:1
 returns : tie.Need-returns
 returns c = search needs
 
--- src/records.rt:401:1
 returns-2 : tie.Need-returns-2
 returns-2 c = search (needs, partition-told)
 

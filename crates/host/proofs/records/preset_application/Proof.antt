@@ -11,27 +11,21 @@ use Rattle.host.proofs.records.no_application.Reads as no-application-r
 use Rattle.parse.proofs.view.application.Reads as application-reads
 use Rattle.parse.proofs.view.sound.Reads as sound-reads
 
--- src/records.rt:659:8
 sound-requires : tie.Need-sound-requires
 sound-requires c κs = search needs
 
--- src/records.rt:660:31
 application-requires : tie.Need-application-requires
 application-requires c κs = search (needs, sound-rooms)
 
--- src/records.rt:660:9
 application-of-requires : tie.Need-application-of-requires
 application-of-requires c κs = search needs
 
--- src/records.rt:660:9
 returns : tie.Need-returns
 returns c = search (needs, application-shown)
 
--- src/records.rt:662:5
 no-application-requires : tie.Need-no-application-requires
 no-application-requires c κs = search needs
 
--- src/records.rt:650:1
 returns-2 : tie.Need-returns-2
 returns-2 c = search calls
 

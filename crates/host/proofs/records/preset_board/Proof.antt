@@ -9,23 +9,18 @@ use Rattle.host.proofs.records.board_view.Reads as board-view-reads
 use Rattle.host.proofs.records.no_board.Reads as no-board-reads
 use Rattle.parse.proofs.view.sound.Reads as sound-reads
 
--- src/records.rt:330:8
 sound-requires : tie.Need-sound-requires
 sound-requires c κs = search needs
 
--- src/records.rt:331:9
 board-view-requires : tie.Need-board-view-requires
 board-view-requires c κs = search (needs, sound-rooms)
 
--- src/records.rt:331:9
 returns : tie.Need-returns
 returns c = search calls
 
--- src/records.rt:333:5
 no-board-requires : tie.Need-no-board-requires
 no-board-requires c κs = search needs
 
--- src/records.rt:326:1
 returns-2 : tie.Need-returns-2
 returns-2 c = search calls
 

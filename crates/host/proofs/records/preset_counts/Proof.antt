@@ -6,11 +6,9 @@ use Rattle.host.proofs.records.preset_counts.Reads as reads
 use Rattle.host.proofs.records.preset_counts.Lts as lts
 use Rattle.parse.proofs.view.counts_at.Reads as counts-at-reads
 
--- src/records.rt:670:9
 counts-at-requires : tie.Need-counts-at-requires
 counts-at-requires c κs = search needs
 
--- src/records.rt:666:1
 returns : tie.Need-returns
 returns c = search (needs, counts-told)
 

@@ -12,35 +12,27 @@ use Rattle.host.proofs.records.feature_of.Reads as feature-of-reads
 use Rattle.host.proofs.records.features_by.Reads as features-by-reads
 use Rattle.parse.proofs.view.sound.Reads as sound-reads
 
--- src/records.rt:741:8
 sound-requires : tie.Need-sound-requires
 sound-requires c κs = search needs
 
--- src/records.rt:742:13
 features-by-requires : tie.Need-features-by-requires
 features-by-requires c κs = search needs
 
--- src/records.rt:743:64
 behind-item-requires : tie.Need-behind-item-requires
 behind-item-requires c κs = search needs
 
--- src/records.rt:743:27
 next-requires : tie.Need-next-requires
 next-requires c κs = search (needs, sound-rooms)
 
--- src/records.rt:743:9
 feature-of-requires : tie.Need-feature-of-requires
 feature-of-requires c κs = search needs
 
--- src/records.rt:743:9
 returns : tie.Need-returns
 returns c = search (needs, feature-shown)
 
--- src/records.rt:745:5
 feature-of-requires-2 : tie.Need-feature-of-requires-2
 feature-of-requires-2 c κs = search needs
 
--- src/records.rt:727:1
 returns-2 : tie.Need-returns-2
 returns-2 c = search calls
 

@@ -9,23 +9,18 @@ use Rattle.host.proofs.records.image_view.Reads as image-view-reads
 use Rattle.host.proofs.records.no_image.Reads as no-image-reads
 use Rattle.parse.proofs.view.sound.Reads as sound-reads
 
--- src/records.rt:383:8
 sound-requires : tie.Need-sound-requires
 sound-requires c κs = search needs
 
--- src/records.rt:384:9
 image-view-requires : tie.Need-image-view-requires
 image-view-requires c κs = search (needs, sound-rooms)
 
--- src/records.rt:384:9
 returns : tie.Need-returns
 returns c = search calls
 
--- src/records.rt:386:5
 no-image-requires : tie.Need-no-image-requires
 no-image-requires c κs = search needs
 
--- src/records.rt:379:1
 returns-2 : tie.Need-returns-2
 returns-2 c = search calls
 

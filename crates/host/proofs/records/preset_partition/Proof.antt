@@ -11,27 +11,21 @@ use Rattle.host.proofs.records.partition_of.Reads as partition-of-reads
 use Rattle.parse.proofs.view.partition.Reads as partition-reads
 use Rattle.parse.proofs.view.sound.Reads as sound-reads
 
--- src/records.rt:426:8
 sound-requires : tie.Need-sound-requires
 sound-requires c κs = search needs
 
--- src/records.rt:427:29
 partition-requires : tie.Need-partition-requires
 partition-requires c κs = search (needs, sound-rooms)
 
--- src/records.rt:427:9
 partition-of-requires : tie.Need-partition-of-requires
 partition-of-requires c κs = search needs
 
--- src/records.rt:427:9
 returns : tie.Need-returns
 returns c = search (needs, partition-shown)
 
--- src/records.rt:429:5
 no-partition-requires : tie.Need-no-partition-requires
 no-partition-requires c κs = search needs
 
--- src/records.rt:417:1
 returns-2 : tie.Need-returns-2
 returns-2 c = search calls
 

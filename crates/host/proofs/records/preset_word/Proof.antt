@@ -8,39 +8,30 @@ use Rattle.host.proofs.records.word_by.Reads as word-by-reads
 use Rattle.schema.proofs.Word.put.Reads as put-reads
 use Rattle.slices.proofs.zero.Reads as zero-reads
 
--- src/records.rt:778:5
 zero-requires : tie.Need-zero-requires
 zero-requires c κs = search needs
 
--- src/records.rt:780:9
 same-length : tie.Need-same-length
 same-length c = search needs
 
--- src/records.rt:780:9
 returns : tie.Need-returns
 returns c = search (needs, word-none)
 
--- src/records.rt:783:9
 same-length-2 : tie.Need-same-length-2
 same-length-2 c = search needs
 
--- src/records.rt:783:9
 returns-2 : tie.Need-returns-2
 returns-2 c = search (needs, word-past)
 
--- src/records.rt:785:9
 word-by-requires : tie.Need-word-by-requires
 word-by-requires c κs = search needs
 
--- src/records.rt:786:5
 put-requires : tie.Need-put-requires
 put-requires c κs = search needs
 
--- src/records.rt:774:1
 same-length-3 : tie.Need-same-length-3
 same-length-3 c = search needs
 
--- src/records.rt:774:1
 returns-3 : tie.Need-returns-3
 returns-3 c = search (needs, word-put)
 

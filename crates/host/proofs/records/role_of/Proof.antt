@@ -7,67 +7,51 @@ use Rattle.host.proofs.records.role_of.Lts as lts
 use Rattle.host.proofs.records.bytes_of.Reads as bytes-of-reads
 use Rattle.host.proofs.records.list_of.Reads as list-of-reads
 
--- src/records.rt:490:31
 enum-told : tie.Need-enum-told
 enum-told c = search needs
 
--- src/records.rt:490:23
 list-of-requires : tie.Need-list-of-requires
 list-of-requires c κs = search needs
 
--- src/records.rt:491:27
 list-of-requires-2 : tie.Need-list-of-requires-2
 list-of-requires-2 c κs = search needs
 
--- src/records.rt:492:24
 bytes-of-requires : tie.Need-bytes-of-requires
 bytes-of-requires c κs = search needs
 
--- src/records.rt:493:19
 bytes-of-requires-2 : tie.Need-bytes-of-requires-2
 bytes-of-requires-2 c κs = search needs
 
--- src/records.rt:494:26
 bytes-of-requires-3 : tie.Need-bytes-of-requires-3
 bytes-of-requires-3 c κs = search needs
 
--- src/records.rt:495:30
 bytes-of-requires-4 : tie.Need-bytes-of-requires-4
 bytes-of-requires-4 c κs = search needs
 
--- src/records.rt:497:28
 enum-known-f : tie.Need-enum-known-f
 enum-known-f c = search needs
 
--- src/records.rt:507:27
 list-of-requires-3 : tie.Need-list-of-requires-3
 list-of-requires-3 c κs = search needs
 
--- src/records.rt:508:31
 list-of-requires-4 : tie.Need-list-of-requires-4
 list-of-requires-4 c κs = search needs
 
--- src/records.rt:509:28
 bytes-of-requires-5 : tie.Need-bytes-of-requires-5
 bytes-of-requires-5 c κs = search needs
 
--- src/records.rt:510:23
 bytes-of-requires-6 : tie.Need-bytes-of-requires-6
 bytes-of-requires-6 c κs = search needs
 
--- src/records.rt:511:30
 bytes-of-requires-7 : tie.Need-bytes-of-requires-7
 bytes-of-requires-7 c κs = search needs
 
--- src/records.rt:512:34
 bytes-of-requires-8 : tie.Need-bytes-of-requires-8
 bytes-of-requires-8 c κs = search needs
 
--- src/records.rt:484:1
 returns : tie.Need-returns
 returns c = search (needs, role-none)
 
--- src/records.rt:484:1
 returns-2 : tie.Need-returns-2
 returns-2 c = search (needs, role-told)
 

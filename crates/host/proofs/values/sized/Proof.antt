@@ -6,19 +6,15 @@ use Rattle.host.proofs.values.sized.Reads as reads
 use Rattle.host.proofs.values.sized.Lts as lts
 use Rattle.toml_lite.proofs.large.Reads as large-reads
 
--- src/values.rt:221:8
 large-requires : tie.Need-large-requires
 large-requires c κs = search needs
 
--- src/values.rt:223:13
 returns : tie.Need-returns
 returns c = search (needs, sized-large)
 
--- src/values.rt:225:9
 returns-2 : tie.Need-returns-2
 returns-2 c = search (needs, sized-well)
 
--- src/values.rt:218:1
 returns-3 : tie.Need-returns-3
 returns-3 c = search (needs, sized-small)
 

@@ -7,35 +7,27 @@ use Rattle.host.proofs.values.tree_slot.Lts as lts
 use Rattle.tree.proofs.capacity.Reads as capacity-reads
 use Rattle.tree.proofs.get.Reads as get-reads
 
--- src/values.rt:103:12
 capacity-requires : tie.Need-capacity-requires
 capacity-requires c κs = search needs
 
--- src/values.rt:104:13
 get-requires : tie.Need-get-requires
 get-requires c κs = search needs
 
--- src/values.rt:106:19
 cast-t6 : tie.Need-cast-t6
 cast-t6 c = search needs
 
--- src/values.rt:107:21
 cast-t7 : tie.Need-cast-t7
 cast-t7 c = search needs
 
--- src/values.rt:108:18
 cast-t8 : tie.Need-cast-t8
 cast-t8 c = search needs
 
--- src/values.rt:109:18
 cast-t9 : tie.Need-cast-t9
 cast-t9 c = search needs
 
--- src/values.rt:105:9
 returns : tie.Need-returns
 returns c = search (needs, slot-there)
 
--- src/values.rt:99:1
 returns-2 : tie.Need-returns-2
 returns-2 c = search (needs, slot-none)
 

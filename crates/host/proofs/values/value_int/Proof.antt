@@ -6,23 +6,18 @@ use Rattle.host.proofs.values.value_int.Reads as reads
 use Rattle.host.proofs.values.value_int.Lts as lts
 use Rattle.scalar.proofs.integer.read_int.Reads as read-int-reads
 
--- src/values.rt:41:9
 read-int-requires : tie.Need-read-int-requires
 read-int-requires c κs = search needs
 
--- src/values.rt:43:20
 enum-known-r : tie.Need-enum-known-r
 enum-known-r c = search needs
 
--- src/values.rt:48:23
 enum-told : tie.Need-enum-told
 enum-told c = search needs
 
--- src/values.rt:37:1
 returns : tie.Need-returns
 returns c = search (needs, int-told)
 
--- src/values.rt:37:1
 returns-2 : tie.Need-returns-2
 returns-2 c = search (needs, int-refused)
 

@@ -9,51 +9,39 @@ use Rattle.host.proofs.values.unsplit.Reads as unsplit-reads
 use Rattle.scalar.proofs.key.put_key.Reads as put-key-reads
 use Rattle.slices.proofs.zero.Reads as zero-reads
 
--- src/values.rt:156:5
 zero-requires : tie.Need-zero-requires
 zero-requires c κs = search needs
 
--- src/values.rt:158:9
 unsplit-requires : tie.Need-unsplit-requires
 unsplit-requires c κs = search needs
 
--- src/values.rt:158:9
 same-length : tie.Need-same-length
 same-length c = search needs
 
--- src/values.rt:158:9
 returns : tie.Need-returns
 returns c = search (needs, key-short)
 
--- src/values.rt:160:9
 put-key-requires : tie.Need-put-key-requires
 put-key-requires c κs = search needs
 
--- src/values.rt:162:9
 number-of-requires : tie.Need-number-of-requires
 number-of-requires c κs = search needs
 
--- src/values.rt:164:9
 same-length-2 : tie.Need-same-length-2
 same-length-2 c = search needs
 
--- src/values.rt:164:9
 returns-2 : tie.Need-returns-2
 returns-2 c = search (needs, key-out)
 
--- src/values.rt:170:5
 zero-requires-2 : tie.Need-zero-requires-2
 zero-requires-2 c κs = search needs
 
--- src/values.rt:171:5
 unsplit-requires-2 : tie.Need-unsplit-requires-2
 unsplit-requires-2 c κs = search needs
 
--- src/values.rt:152:1
 same-length-3 : tie.Need-same-length-3
 same-length-3 c = search needs
 
--- src/values.rt:152:1
 returns-3 : tie.Need-returns-3
 returns-3 c = search (needs, key-refused)
 

@@ -8,59 +8,45 @@ use Rattle.host.proofs.values.number_of.Reads as number-of-reads
 use Rattle.scalar.proofs.key.put_key.Reads as put-key-reads
 use Rattle.slices.proofs.zero.Reads as zero-reads
 
--- src/values.rt:179:5
 zero-requires : tie.Need-zero-requires
 zero-requires c κs = search needs
 
--- src/values.rt:181:9
 same-length : tie.Need-same-length
 same-length c = search needs
 
--- src/values.rt:181:9
 returns : tie.Need-returns
 returns c = search (needs, end-short)
 
--- src/values.rt:183:9
 put-key-requires : tie.Need-put-key-requires
 put-key-requires c κs = search needs
 
--- src/values.rt:185:9
 number-of-requires : tie.Need-number-of-requires
 number-of-requires c κs = search needs
 
--- src/values.rt:186:5
 zero-requires-2 : tie.Need-zero-requires-2
 zero-requires-2 c κs = search needs
 
--- src/values.rt:190:20
 mul-result : tie.Need-mul-result
 mul-result c = search needs
 
--- src/values.rt:190:20
 array-read-result : tie.Need-array-read-result
 array-read-result c = search needs
 
--- src/values.rt:190:13
 same-length-2 : tie.Need-same-length-2
 same-length-2 c = search needs
 
--- src/values.rt:190:13
 returns-2 : tie.Need-returns-2
 returns-2 c = search (needs, end-out)
 
--- src/values.rt:192:9
 same-length-3 : tie.Need-same-length-3
 same-length-3 c = search needs
 
--- src/values.rt:192:9
 returns-3 : tie.Need-returns-3
 returns-3 c = search (needs, end-past)
 
--- src/values.rt:175:1
 same-length-4 : tie.Need-same-length-4
 same-length-4 c = search needs
 
--- src/values.rt:175:1
 returns-4 : tie.Need-returns-4
 returns-4 c = search (needs, end-refused)
 

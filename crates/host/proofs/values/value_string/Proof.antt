@@ -8,75 +8,57 @@ use Rattle.host.proofs.values.misspelt.Reads as misspelt-reads
 use Rattle.scalar.proofs.string.decode.Reads as decode-reads
 use Rattle.slices.proofs.zero.Reads as zero-reads
 
--- src/values.rt:72:5
 zero-requires : tie.Need-zero-requires
 zero-requires c κs = search needs
 
--- src/values.rt:74:9
 misspelt-requires : tie.Need-misspelt-requires
 misspelt-requires c κs = search needs
 
--- src/values.rt:74:9
 same-length : tie.Need-same-length
 same-length c = search needs
 
--- src/values.rt:74:9
 returns : tie.Need-returns
 returns c = search (needs, too-short)
 
--- src/values.rt:76:9
 decode-requires : tie.Need-decode-requires
 decode-requires c κs = search needs
 
--- src/values.rt:78:25
 enum-known-d : tie.Need-enum-known-d
 enum-known-d c = search needs
 
--- src/values.rt:84:27
 enum-known-d-2 : tie.Need-enum-known-d-2
 enum-known-d-2 c = search needs
 
--- src/values.rt:85:13
 zero-requires-2 : tie.Need-zero-requires-2
 zero-requires-2 c κs = search needs
 
--- src/values.rt:86:13
 misspelt-requires-2 : tie.Need-misspelt-requires-2
 misspelt-requires-2 c κs = search needs
 
--- src/values.rt:89:26
 enum-told : tie.Need-enum-told
 enum-told c = search needs
 
--- src/values.rt:89:13
 zero-requires-3 : tie.Need-zero-requires-3
 zero-requires-3 c κs = search needs
 
--- src/values.rt:90:13
 misspelt-requires-3 : tie.Need-misspelt-requires-3
 misspelt-requires-3 c κs = search needs
 
--- src/values.rt:68:1
 same-length-2 : tie.Need-same-length-2
 same-length-2 c = search needs
 
--- src/values.rt:68:1
 returns-2 : tie.Need-returns-2
 returns-2 c = search (needs, string-out)
 
--- src/values.rt:68:1
 same-length-3 : tie.Need-same-length-3
 same-length-3 c = search needs
 
--- src/values.rt:68:1
 returns-3 : tie.Need-returns-3
 returns-3 c = search (needs, escape-out)
 
--- src/values.rt:68:1
 same-length-4 : tie.Need-same-length-4
 same-length-4 c = search needs
 
--- src/values.rt:68:1
 returns-4 : tie.Need-returns-4
 returns-4 c = search (needs, unended-out)
 

@@ -4,11 +4,9 @@ use Rattle.parse.proofs.field.first.Tie as tie
 use Rattle.parse.proofs.field.first.Reads as reads
 use Rattle.parse.proofs.field.first.Lts as lts
 
--- src/field.rt:36:9
 returns : tie.Need-returns
 returns c = search tests
 
--- src/field.rt:32:1
 returns-2 : tie.Need-returns-2
 returns-2 c = search tests
 

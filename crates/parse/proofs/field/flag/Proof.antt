@@ -7,15 +7,12 @@ use Rattle.parse.proofs.field.flag.Lts as lts
 use Rattle.parse.proofs.field.flag_of.Reads as flag-of-reads
 use Rattle.tree.proofs.field.Reads as field-reads
 
--- src/field.rt:174:13
 field-requires : tie.Need-field-requires
 field-requires c κs = search needs
 
--- src/field.rt:174:5
 flag-of-requires : tie.Need-flag-of-requires
 flag-of-requires c κs = search needs
 
--- src/field.rt:170:1
 returns : tie.Need-returns
 returns c = search (needs, flag-at)
 

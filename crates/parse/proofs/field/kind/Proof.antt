@@ -8,31 +8,24 @@ use Rattle.parse.proofs.field.text.Reads as text-reads
 use Rattle.schema.proofs.Kind.parse.Reads as parse-reads
 use Rattle.schema.proofs.stored.Reads as stored-reads
 
--- src/field.rt:208:34
 slice-aggregate-text : tie.Need-slice-aggregate-text
 slice-aggregate-text c = search needs
 
--- src/field.rt:208:9
 text-requires : tie.Need-text-requires
 text-requires c κs = search needs
 
--- src/field.rt:211:24
 enum-known-place : tie.Need-enum-known-place
 enum-known-place c = search needs
 
--- src/field.rt:211:59
 stored-requires : tie.Need-stored-requires
 stored-requires c κs = search needs
 
--- src/field.rt:211:39
 parse-requires : tie.Need-parse-requires
 parse-requires c κs = search needs
 
--- src/field.rt:204:1
 returns : tie.Need-returns
 returns c = search (needs, kind-stored)
 
--- src/field.rt:204:1
 returns-2 : tie.Need-returns-2
 returns-2 c = search (needs, kind-none)
 

@@ -8,31 +8,24 @@ use Rattle.parse.proofs.field.text.Reads as text-reads
 use Rattle.schema.proofs.Media.parse.Reads as parse-reads
 use Rattle.schema.proofs.stored.Reads as stored-reads
 
--- src/field.rt:224:34
 slice-aggregate-text : tie.Need-slice-aggregate-text
 slice-aggregate-text c = search needs
 
--- src/field.rt:224:9
 text-requires : tie.Need-text-requires
 text-requires c κs = search needs
 
--- src/field.rt:227:24
 enum-known-place : tie.Need-enum-known-place
 enum-known-place c = search needs
 
--- src/field.rt:227:60
 stored-requires : tie.Need-stored-requires
 stored-requires c κs = search needs
 
--- src/field.rt:227:39
 parse-requires : tie.Need-parse-requires
 parse-requires c κs = search needs
 
--- src/field.rt:220:1
 returns : tie.Need-returns
 returns c = search (needs, media-stored)
 
--- src/field.rt:220:1
 returns-2 : tie.Need-returns-2
 returns-2 c = search (needs, media-none)
 

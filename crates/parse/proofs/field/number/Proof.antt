@@ -7,15 +7,12 @@ use Rattle.parse.proofs.field.number.Lts as lts
 use Rattle.parse.proofs.field.number_of.Reads as number-of-reads
 use Rattle.tree.proofs.field.Reads as field-reads
 
--- src/field.rt:167:15
 field-requires : tie.Need-field-requires
 field-requires c κs = search needs
 
--- src/field.rt:167:5
 number-of-requires : tie.Need-number-of-requires
 number-of-requires c κs = search needs
 
--- src/field.rt:163:1
 returns : tie.Need-returns
 returns c = search (needs, number-at)
 

@@ -9,23 +9,18 @@ use Rattle.parse.proofs.field.missing.Reads as missing-reads
 use Rattle.parse.proofs.field.number_of.Reads as number-of-reads
 use Rattle.tree.proofs.field.Reads as field-reads
 
--- src/field.rt:217:9
 field-requires : tie.Need-field-requires
 field-requires c κs = search needs
 
--- src/field.rt:218:9
 number-of-requires : tie.Need-number-of-requires
 number-of-requires c κs = search needs
 
--- src/field.rt:221:31
 missing-requires : tie.Need-missing-requires
 missing-requires c κs = search needs
 
--- src/field.rt:221:16
 first-requires : tie.Need-first-requires
 first-requires c κs = search needs
 
--- src/field.rt:213:1
 returns : tie.Need-returns
 returns c = search (needs, number-needs)
 

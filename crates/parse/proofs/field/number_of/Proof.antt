@@ -7,75 +7,57 @@ use Rattle.parse.proofs.field.number_of.Lts as lts
 use Rattle.parse.proofs.field.no_number.Reads as no-number-reads
 use Rattle.parse.proofs.field.ranged.Reads as ranged-reads
 
--- src/field.rt:101:26
 enum-told : tie.Need-enum-told
 enum-told c = search needs
 
--- src/field.rt:101:26
 no-number-requires : tie.Need-no-number-requires
 no-number-requires c κs = search needs
 
--- src/field.rt:102:44
 enum-told-2 : tie.Need-enum-told-2
 enum-told-2 c = search needs
 
--- src/field.rt:102:44
 no-number-requires-2 : tie.Need-no-number-requires-2
 no-number-requires-2 c κs = search needs
 
--- src/field.rt:104:13
 enum-known-v : tie.Need-enum-known-v
 enum-known-v c = search needs
 
--- src/field.rt:106:14
 ranged-requires : tie.Need-ranged-requires
 ranged-requires c κs = search needs
 
--- src/field.rt:107:27
 enum-told-3 : tie.Need-enum-told-3
 enum-told-3 c = search needs
 
--- src/field.rt:107:27
 no-number-requires-3 : tie.Need-no-number-requires-3
 no-number-requires-3 c κs = search needs
 
--- src/field.rt:108:28
 enum-told-4 : tie.Need-enum-told-4
 enum-told-4 c = search needs
 
--- src/field.rt:108:28
 no-number-requires-4 : tie.Need-no-number-requires-4
 no-number-requires-4 c κs = search needs
 
--- src/field.rt:109:28
 enum-told-5 : tie.Need-enum-told-5
 enum-told-5 c = search needs
 
--- src/field.rt:109:28
 no-number-requires-5 : tie.Need-no-number-requires-5
 no-number-requires-5 c κs = search needs
 
--- src/field.rt:97:1
 returns : tie.Need-returns
 returns c = search (needs, number-is)
 
--- src/field.rt:97:1
 returns-2 : tie.Need-returns-2
 returns-2 c = search (needs, number-is)
 
--- src/field.rt:97:1
 returns-3 : tie.Need-returns-3
 returns-3 c = search (needs, number-is)
 
--- src/field.rt:97:1
 returns-4 : tie.Need-returns-4
 returns-4 c = search (needs, number-is)
 
--- src/field.rt:97:1
 returns-5 : tie.Need-returns-5
 returns-5 c = search (needs, number-is)
 
--- src/field.rt:97:1
 returns-6 : tie.Need-returns-6
 returns-6 c = search (needs, number-is)
 

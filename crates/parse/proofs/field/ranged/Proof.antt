@@ -6,27 +6,21 @@ use Rattle.parse.proofs.field.ranged.Reads as reads
 use Rattle.parse.proofs.field.ranged.Lts as lts
 use Rattle.parse.proofs.field.no_number.Reads as no-number-reads
 
--- src/field.rt:86:9
 no-number-requires : tie.Need-no-number-requires
 no-number-requires c κs = search needs
 
--- src/field.rt:86:9
 returns : tie.Need-returns
 returns c = search (needs, range-below)
 
--- src/field.rt:89:9
 no-number-requires-2 : tie.Need-no-number-requires-2
 no-number-requires-2 c κs = search needs
 
--- src/field.rt:89:9
 returns-2 : tie.Need-returns-2
 returns-2 c = search (needs, range-above)
 
--- src/field.rt:93:28
 cast-t4 : tie.Need-cast-t4
 cast-t4 c = search needs
 
--- src/field.rt:82:1
 returns-3 : tie.Need-returns-3
 returns-3 c = search (needs, range-in)
 

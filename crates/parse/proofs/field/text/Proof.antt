@@ -7,15 +7,12 @@ use Rattle.parse.proofs.field.text.Lts as lts
 use Rattle.parse.proofs.field.text_of.Reads as text-of-reads
 use Rattle.tree.proofs.field.Reads as field-reads
 
--- src/field.rt:160:13
 field-requires : tie.Need-field-requires
 field-requires c κs = search needs
 
--- src/field.rt:160:5
 text-of-requires : tie.Need-text-of-requires
 text-of-requires c κs = search needs
 
--- src/field.rt:156:1
 returns : tie.Need-returns
 returns c = search (needs, text-at)
 

@@ -9,23 +9,18 @@ use Rattle.parse.proofs.field.missing.Reads as missing-reads
 use Rattle.parse.proofs.field.text_of.Reads as text-of-reads
 use Rattle.tree.proofs.field.Reads as field-reads
 
--- src/field.rt:203:9
 field-requires : tie.Need-field-requires
 field-requires c κs = search needs
 
--- src/field.rt:204:9
 text-of-requires : tie.Need-text-of-requires
 text-of-requires c κs = search needs
 
--- src/field.rt:207:31
 missing-requires : tie.Need-missing-requires
 missing-requires c κs = search needs
 
--- src/field.rt:207:16
 first-requires : tie.Need-first-requires
 first-requires c κs = search needs
 
--- src/field.rt:199:1
 returns : tie.Need-returns
 returns c = search (needs, text-needs)
 

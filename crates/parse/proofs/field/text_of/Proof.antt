@@ -6,71 +6,54 @@ use Rattle.parse.proofs.field.text_of.Reads as reads
 use Rattle.parse.proofs.field.text_of.Lts as lts
 use Rattle.parse.proofs.field.no_text.Reads as no-text-reads
 
--- src/field.rt:54:26
 enum-told : tie.Need-enum-told
 enum-told c = search needs
 
--- src/field.rt:54:26
 no-text-requires : tie.Need-no-text-requires
 no-text-requires c κs = search needs
 
--- src/field.rt:55:23
 enum-known-v : tie.Need-enum-known-v
 enum-known-v c = search needs
 
--- src/field.rt:65:14
 enum-told-2 : tie.Need-enum-told-2
 enum-told-2 c = search needs
 
--- src/field.rt:65:14
 no-text-requires-2 : tie.Need-no-text-requires-2
 no-text-requires-2 c κs = search needs
 
--- src/field.rt:66:27
 enum-told-3 : tie.Need-enum-told-3
 enum-told-3 c = search needs
 
--- src/field.rt:66:27
 no-text-requires-3 : tie.Need-no-text-requires-3
 no-text-requires-3 c κs = search needs
 
--- src/field.rt:67:28
 enum-told-4 : tie.Need-enum-told-4
 enum-told-4 c = search needs
 
--- src/field.rt:67:28
 no-text-requires-4 : tie.Need-no-text-requires-4
 no-text-requires-4 c κs = search needs
 
--- src/field.rt:68:28
 enum-told-5 : tie.Need-enum-told-5
 enum-told-5 c = search needs
 
--- src/field.rt:68:28
 no-text-requires-5 : tie.Need-no-text-requires-5
 no-text-requires-5 c κs = search needs
 
--- src/field.rt:50:1
 returns : tie.Need-returns
 returns c = search (needs, text-is)
 
--- src/field.rt:50:1
 returns-2 : tie.Need-returns-2
 returns-2 c = search (needs, text-is)
 
--- src/field.rt:50:1
 returns-3 : tie.Need-returns-3
 returns-3 c = search (needs, text-is)
 
--- src/field.rt:50:1
 returns-4 : tie.Need-returns-4
 returns-4 c = search (needs, text-is)
 
--- src/field.rt:50:1
 returns-5 : tie.Need-returns-5
 returns-5 c = search (needs, text-is)
 
--- src/field.rt:50:1
 returns-6 : tie.Need-returns-6
 returns-6 c = search (needs, text-is)
 

@@ -6,31 +6,24 @@ use Rattle.parse.proofs.file.closed.Reads as reads
 use Rattle.parse.proofs.file.closed.Lts as lts
 use Rattle.parse.proofs.file.is_piece.Reads as is-piece-reads
 
--- src/file.rt:42:17
 sub-is-piece : tie.Need-sub-is-piece
 sub-is-piece c = search needs
 
--- src/file.rt:42:17
 part-is-piece-start : tie.Need-part-is-piece-start
 part-is-piece-start c = search needs
 
--- src/file.rt:42:17
 part-is-piece-end : tie.Need-part-is-piece-end
 part-is-piece-end c = search needs
 
--- src/file.rt:42:8
 is-piece-requires : tie.Need-is-piece-requires
 is-piece-requires c κs = search needs
 
--- src/file.rt:45:18
 sub-t10 : tie.Need-sub-t10
 sub-t10 c = search needs
 
--- src/file.rt:43:9
 returns : tie.Need-returns
 returns c = search (needs, closed-here)
 
--- src/file.rt:38:1
 returns-2 : tie.Need-returns-2
 returns-2 c = search (needs, closed-past)
 

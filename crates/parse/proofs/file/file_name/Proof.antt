@@ -7,51 +7,39 @@ use Rattle.parse.proofs.file.file_name.Lts as lts
 use Rattle.parse.proofs.file.last_piece.Reads as last-piece-reads
 use Rattle.slices.proofs.same.Reads as same-reads
 
--- src/file.rt:71:9
 last-piece-requires : tie.Need-last-piece-requires
 last-piece-requires c κs = search needs
 
--- src/file.rt:73:27
 enum-told : tie.Need-enum-told
 enum-told c = search needs
 
--- src/file.rt:74:21
 enum-known-p : tie.Need-enum-known-p
 enum-known-p c = search needs
 
--- src/file.rt:75:22
 add-to : tie.Need-add-to
 add-to c = search (needs, name-within)
 
--- src/file.rt:76:29
 sub-same : tie.Need-sub-same
 sub-same c = search needs
 
--- src/file.rt:76:29
 part-same-start : tie.Need-part-same-start
 part-same-start c = search needs
 
--- src/file.rt:76:29
 part-same-end : tie.Need-part-same-end
 part-same-end c = search (needs, name-fits)
 
--- src/file.rt:76:43
 slice-aggregate-same : tie.Need-slice-aggregate-same
 slice-aggregate-same c = search needs
 
--- src/file.rt:76:16
 same-requires : tie.Need-same-requires
 same-requires c κs = search needs
 
--- src/file.rt:77:17
 returns : tie.Need-returns
 returns c = search (needs, name-up)
 
--- src/file.rt:68:1
 returns-2 : tie.Need-returns-2
 returns-2 c = search (needs, name-none)
 
--- src/file.rt:68:1
 returns-3 : tie.Need-returns-3
 returns-3 c = search (needs, name-is)
 

@@ -6,23 +6,18 @@ use Rattle.parse.proofs.file.is_piece.Reads as reads
 use Rattle.parse.proofs.file.is_piece.Lts as lts
 use Rattle.slices.proofs.same.Reads as same-reads
 
--- src/file.rt:37:9
 returns : tie.Need-returns
 returns c = search (needs, piece-empty)
 
--- src/file.rt:39:24
 slice-aggregate-same : tie.Need-slice-aggregate-same
 slice-aggregate-same c = search needs
 
--- src/file.rt:39:8
 same-requires : tie.Need-same-requires
 same-requires c κs = search needs
 
--- src/file.rt:40:9
 returns-2 : tie.Need-returns-2
 returns-2 c = search (needs, piece-dot)
 
--- src/file.rt:33:1
 returns-3 : tie.Need-returns-3
 returns-3 c = search (needs, piece-is)
 

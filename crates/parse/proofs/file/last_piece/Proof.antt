@@ -15,35 +15,27 @@ Inv-loop s best₀ at₀ best at = Seeking s best at
 abbrev μ-loop : tie.MeasureT-loop
 μ-loop s best₀ at₀ best at = length s - at
 
--- src/file.rt:57:5
 loop-holds : tie.Need-loop-holds Inv-loop μ-loop
 loop-holds c = search (needs, seek-start)
 
--- src/file.rt:58:13
 piece-end-requires : tie.Need-piece-end-requires Inv-loop μ-loop
 piece-end-requires c κs = search needs
 
--- src/file.rt:59:9
 closed-requires : tie.Need-closed-requires Inv-loop μ-loop
 closed-requires c κs = search needs
 
--- src/file.rt:61:13
 returns : tie.Need-returns Inv-loop μ-loop
 returns c = search (needs, seek-out)
 
--- src/file.rt:63:14
 add-at : tie.Need-add-at Inv-loop μ-loop
 add-at c = search needs
 
--- src/file.rt:57:5
 loop-less : tie.Need-loop-less Inv-loop μ-loop
 loop-less c = search needs
 
--- src/file.rt:57:5
 loop-again : tie.Need-loop-again Inv-loop μ-loop
 loop-again c = search (needs, seek-on)
 
--- src/file.rt:52:1
 returns-2 : tie.Need-returns-2 Inv-loop μ-loop
 returns-2 c = search (needs, seek-end)
 

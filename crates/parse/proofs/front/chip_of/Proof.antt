@@ -9,35 +9,27 @@ use Rattle.parse.proofs.field.text.Reads as text-reads
 use Rattle.parse.proofs.front.chosen.Reads as chosen-reads
 use Rattle.parse.proofs.front.sections.Reads as sections-reads
 
--- src/front.rt:131:52
 slice-aggregate-text : tie.Need-slice-aggregate-text
 slice-aggregate-text c = search needs
 
--- src/front.rt:131:9
 text-requires : tie.Need-text-requires
 text-requires c κs = search needs
 
--- src/front.rt:132:52
 slice-aggregate-text-2 : tie.Need-slice-aggregate-text-2
 slice-aggregate-text-2 c = search needs
 
--- src/front.rt:132:9
 text-requires-2 : tie.Need-text-requires-2
 text-requires-2 c κs = search needs
 
--- src/front.rt:135:9
 chosen-requires : tie.Need-chosen-requires
 chosen-requires c κs = search needs
 
--- src/front.rt:139:31
 sections-requires : tie.Need-sections-requires
 sections-requires c κs = search needs
 
--- src/front.rt:139:16
 earlier-requires : tie.Need-earlier-requires
 earlier-requires c κs = search needs
 
--- src/front.rt:127:1
 returns : tie.Need-returns
 returns c = search (needs, chip-of)
 

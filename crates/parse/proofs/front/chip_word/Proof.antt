@@ -8,19 +8,15 @@ use Rattle.parse.proofs.in_section.Reads as in-section-reads
 use Rattle.schema.proofs.Chip.parse.Reads as parse-reads
 use Rattle.schema.proofs.stored.Reads as stored-reads
 
--- src/front.rt:88:33
 stored-requires : tie.Need-stored-requires
 stored-requires c κs = search needs
 
--- src/front.rt:88:9
 parse-requires : tie.Need-parse-requires
 parse-requires c κs = search needs
 
--- src/front.rt:91:16
 in-section-requires : tie.Need-in-section-requires
 in-section-requires c κs = search needs
 
--- src/front.rt:85:1
 returns : tie.Need-returns
 returns c = search (needs, chip-word)
 

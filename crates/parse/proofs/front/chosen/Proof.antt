@@ -7,35 +7,27 @@ use Rattle.parse.proofs.front.chosen.Lts as lts
 use Rattle.parse.proofs.front.chip_word.Reads as chip-word-reads
 use Rattle.parse.proofs.in_section.Reads as in-section-reads
 
--- src/front.rt:100:27
 enum-known-c : tie.Need-enum-known-c
 enum-known-c c = search needs
 
--- src/front.rt:101:9
 chip-word-requires : tie.Need-chip-word-requires
 chip-word-requires c κs = search needs
 
--- src/front.rt:101:9
 returns : tie.Need-returns
 returns c = search (needs, chosen-first)
 
--- src/front.rt:103:27
 enum-known-p : tie.Need-enum-known-p
 enum-known-p c = search needs
 
--- src/front.rt:104:9
 chip-word-requires-2 : tie.Need-chip-word-requires-2
 chip-word-requires-2 c κs = search needs
 
--- src/front.rt:104:9
 returns-2 : tie.Need-returns-2
 returns-2 c = search (needs, chosen-second)
 
--- src/front.rt:107:16
 in-section-requires : tie.Need-in-section-requires
 in-section-requires c κs = search needs
 
--- src/front.rt:97:1
 returns-3 : tie.Need-returns-3
 returns-3 c = search (needs, chosen-none)
 

@@ -10,35 +10,27 @@ use Rattle.parse.proofs.front.read_board.Reads as read-board-reads
 use Rattle.parse.proofs.front.read_image.Reads as read-image-reads
 use Rattle.parse.proofs.front.sections.Reads as sections-reads
 
--- src/front.rt:229:9
 chip-of-requires : tie.Need-chip-of-requires
 chip-of-requires c κs = search needs
 
--- src/front.rt:232:9
 read-board-requires : tie.Need-read-board-requires
 read-board-requires c κs = search needs
 
--- src/front.rt:233:9
 read-image-requires : tie.Need-read-image-requires
 read-image-requires c κs = search needs
 
--- src/front.rt:236:40
 sections-requires : tie.Need-sections-requires
 sections-requires c κs = search needs
 
--- src/front.rt:236:9
 earlier-requires : tie.Need-earlier-requires
 earlier-requires c κs = search needs
 
--- src/front.rt:238:31
 sections-requires-2 : tie.Need-sections-requires-2
 sections-requires-2 c κs = search needs
 
--- src/front.rt:238:16
 earlier-requires-2 : tie.Need-earlier-requires-2
 earlier-requires-2 c κs = search needs
 
--- src/front.rt:225:1
 returns : tie.Need-returns
 returns c = search (needs, front-is)
 

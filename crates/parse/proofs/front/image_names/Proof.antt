@@ -9,55 +9,42 @@ use Rattle.parse.proofs.field.first.Reads as first-reads
 use Rattle.parse.proofs.field.text.Reads as text-reads
 use Rattle.schema.proofs.Chip.name.Reads as name-reads
 
--- src/front.rt:154:55
 slice-aggregate-text : tie.Need-slice-aggregate-text
 slice-aggregate-text c = search needs
 
--- src/front.rt:154:9
 text-requires : tie.Need-text-requires
 text-requires c κs = search needs
 
--- src/front.rt:155:54
 slice-aggregate-text-2 : tie.Need-slice-aggregate-text-2
 slice-aggregate-text-2 c = search needs
 
--- src/front.rt:155:9
 text-requires-2 : tie.Need-text-requires-2
 text-requires-2 c κs = search needs
 
--- src/front.rt:156:54
 slice-aggregate-text-3 : tie.Need-slice-aggregate-text-3
 slice-aggregate-text-3 c = search needs
 
--- src/front.rt:156:9
 text-requires-3 : tie.Need-text-requires-3
 text-requires-3 c κs = search needs
 
--- src/front.rt:160:13
 first-requires : tie.Need-first-requires
 first-requires c κs = search needs
 
--- src/front.rt:158:16
 first-requires-2 : tie.Need-first-requires-2
 first-requires-2 c κs = search needs
 
--- src/front.rt:162:43
 name-requires : tie.Need-name-requires
 name-requires c κs = search needs
 
--- src/front.rt:162:19
 or-requires : tie.Need-or-requires
 or-requires c κs = search needs
 
--- src/front.rt:163:18
 or-requires-2 : tie.Need-or-requires-2
 or-requires-2 c κs = search needs
 
--- src/front.rt:164:18
 or-requires-3 : tie.Need-or-requires-3
 or-requires-3 c κs = search needs
 
--- src/front.rt:150:1
 returns : tie.Need-returns
 returns c = search (needs, names-are)
 

@@ -10,51 +10,39 @@ use Rattle.parse.proofs.field.first.Reads as first-reads
 use Rattle.parse.proofs.field.number.Reads as number-reads
 use Rattle.parse.proofs.field.text.Reads as text-reads
 
--- src/front.rt:186:52
 slice-aggregate-number : tie.Need-slice-aggregate-number
 slice-aggregate-number c = search needs
 
--- src/front.rt:186:9
 number-requires : tie.Need-number-requires
 number-requires c κs = search needs
 
--- src/front.rt:187:49
 slice-aggregate-text : tie.Need-slice-aggregate-text
 slice-aggregate-text c = search needs
 
--- src/front.rt:187:9
 text-requires : tie.Need-text-requires
 text-requires c κs = search needs
 
--- src/front.rt:188:50
 slice-aggregate-text-2 : tie.Need-slice-aggregate-text-2
 slice-aggregate-text-2 c = search needs
 
--- src/front.rt:188:9
 text-requires-2 : tie.Need-text-requires-2
 text-requires-2 c κs = search needs
 
--- src/front.rt:190:47
 first-requires : tie.Need-first-requires
 first-requires c κs = search needs
 
--- src/front.rt:190:16
 first-requires-2 : tie.Need-first-requires-2
 first-requires-2 c κs = search needs
 
--- src/front.rt:191:23
 or-requires : tie.Need-or-requires
 or-requires c κs = search needs
 
--- src/front.rt:192:19
 or-requires-2 : tie.Need-or-requires-2
 or-requires-2 c κs = search needs
 
--- src/front.rt:193:14
 or-requires-3 : tie.Need-or-requires-3
 or-requires-3 c κs = search needs
 
--- src/front.rt:182:1
 returns : tie.Need-returns
 returns c = search (needs, rest-is)
 

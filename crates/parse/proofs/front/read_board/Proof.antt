@@ -9,55 +9,42 @@ use Rattle.parse.proofs.field.first.Reads as first-reads
 use Rattle.parse.proofs.field.text.Reads as text-reads
 use Rattle.schema.proofs.Chip.default_target.Reads as default-target-reads
 
--- src/front.rt:135:51
 slice-aggregate-text : tie.Need-slice-aggregate-text
 slice-aggregate-text c = search needs
 
--- src/front.rt:135:9
 text-requires : tie.Need-text-requires
 text-requires c κs = search needs
 
--- src/front.rt:136:53
 slice-aggregate-text-2 : tie.Need-slice-aggregate-text-2
 slice-aggregate-text-2 c = search needs
 
--- src/front.rt:136:9
 text-requires-2 : tie.Need-text-requires-2
 text-requires-2 c κs = search needs
 
--- src/front.rt:137:54
 slice-aggregate-text-3 : tie.Need-slice-aggregate-text-3
 slice-aggregate-text-3 c = search needs
 
--- src/front.rt:137:9
 text-requires-3 : tie.Need-text-requires-3
 text-requires-3 c κs = search needs
 
--- src/front.rt:139:48
 first-requires : tie.Need-first-requires
 first-requires c κs = search needs
 
--- src/front.rt:139:16
 first-requires-2 : tie.Need-first-requires-2
 first-requires-2 c κs = search needs
 
--- src/front.rt:141:19
 or-requires : tie.Need-or-requires
 or-requires c κs = search needs
 
--- src/front.rt:143:43
 default-target-requires : tie.Need-default-target-requires
 default-target-requires c κs = search needs
 
--- src/front.rt:143:21
 or-requires-2 : tie.Need-or-requires-2
 or-requires-2 c κs = search needs
 
--- src/front.rt:144:22
 or-requires-3 : tie.Need-or-requires-3
 or-requires-3 c κs = search needs
 
--- src/front.rt:131:1
 returns : tie.Need-returns
 returns c = search (needs, board-is)
 

@@ -7,27 +7,21 @@ use Rattle.parse.proofs.front.read_front.Lts as lts
 use Rattle.parse.proofs.front.front_of.Reads as front-of-reads
 use Rattle.parse.proofs.front.table_at.Reads as table-at-reads
 
--- src/front.rt:224:47
 slice-aggregate-table-at : tie.Need-slice-aggregate-table-at
 slice-aggregate-table-at c = search needs
 
--- src/front.rt:224:9
 table-at-requires : tie.Need-table-at-requires
 table-at-requires c κs = search needs
 
--- src/front.rt:225:47
 slice-aggregate-table-at-2 : tie.Need-slice-aggregate-table-at-2
 slice-aggregate-table-at-2 c = search needs
 
--- src/front.rt:225:9
 table-at-requires-2 : tie.Need-table-at-requires-2
 table-at-requires-2 c κs = search needs
 
--- src/front.rt:226:5
 front-of-requires : tie.Need-front-of-requires
 front-of-requires c κs = search (needs, table-spreads)
 
--- src/front.rt:220:1
 returns : tie.Need-returns
 returns c = search (needs, front-read)
 

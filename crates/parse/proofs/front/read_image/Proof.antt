@@ -10,31 +10,24 @@ use Rattle.parse.proofs.front.image_names.Reads as image-names-reads
 use Rattle.parse.proofs.front.image_rest.Reads as image-rest-reads
 use Rattle.schema.proofs.Chip.default_media.Reads as default-media-reads
 
--- src/front.rt:201:9
 image-names-requires : tie.Need-image-names-requires
 image-names-requires c κs = search needs
 
--- src/front.rt:202:52
 default-media-requires : tie.Need-default-media-requires
 default-media-requires c κs = search needs
 
--- src/front.rt:202:9
 media-requires : tie.Need-media-requires
 media-requires c κs = search needs
 
--- src/front.rt:203:9
 image-rest-requires : tie.Need-image-rest-requires
 image-rest-requires c κs = search needs
 
--- src/front.rt:211:49
 first-requires : tie.Need-first-requires
 first-requires c κs = search needs
 
--- src/front.rt:211:16
 first-requires-2 : tie.Need-first-requires-2
 first-requires-2 c κs = search needs
 
--- src/front.rt:197:1
 returns : tie.Need-returns
 returns c = search (needs, image-is)
 

@@ -7,19 +7,15 @@ use Rattle.parse.proofs.front.sections.Lts as lts
 use Rattle.parse.proofs.earlier.Reads as earlier-reads
 use Rattle.parse.proofs.in_section.Reads as in-section-reads
 
--- src/front.rt:95:20
 in-section-requires : tie.Need-in-section-requires
 in-section-requires c κs = search needs
 
--- src/front.rt:95:49
 in-section-requires-2 : tie.Need-in-section-requires-2
 in-section-requires-2 c κs = search needs
 
--- src/front.rt:95:5
 earlier-requires : tie.Need-earlier-requires
 earlier-requires c κs = search needs
 
--- src/front.rt:92:1
 returns : tie.Need-returns
 returns c = search (needs, sections-are)
 

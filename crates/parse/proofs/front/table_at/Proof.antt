@@ -8,79 +8,60 @@ use Rattle.parse.proofs.front.no_table.Reads as no-table-reads
 use Rattle.tree.proofs.field.Reads as field-reads
 use Rattle.tree.proofs.fields_at.Reads as fields-at-reads
 
--- src/front.rt:67:9
 field-requires : tie.Need-field-requires
 field-requires c κs = search needs
 
--- src/front.rt:69:26
 enum-told : tie.Need-enum-told
 enum-told c = search needs
 
--- src/front.rt:69:26
 no-table-requires : tie.Need-no-table-requires
 no-table-requires c κs = search needs
 
--- src/front.rt:70:44
 enum-told-2 : tie.Need-enum-told-2
 enum-told-2 c = search needs
 
--- src/front.rt:70:44
 no-table-requires-2 : tie.Need-no-table-requires-2
 no-table-requires-2 c κs = search needs
 
--- src/front.rt:74:14
 enum-told-3 : tie.Need-enum-told-3
 enum-told-3 c = search needs
 
--- src/front.rt:74:14
 no-table-requires-3 : tie.Need-no-table-requires-3
 no-table-requires-3 c κs = search needs
 
--- src/front.rt:75:27
 enum-told-4 : tie.Need-enum-told-4
 enum-told-4 c = search needs
 
--- src/front.rt:75:27
 no-table-requires-4 : tie.Need-no-table-requires-4
 no-table-requires-4 c κs = search needs
 
--- src/front.rt:76:28
 enum-told-5 : tie.Need-enum-told-5
 enum-told-5 c = search needs
 
--- src/front.rt:76:28
 no-table-requires-5 : tie.Need-no-table-requires-5
 no-table-requires-5 c κs = search needs
 
--- src/front.rt:77:22
 enum-known-v : tie.Need-enum-known-v
 enum-known-v c = search needs
 
--- src/front.rt:79:21
 fields-at-requires : tie.Need-fields-at-requires
 fields-at-requires c κs = search needs
 
--- src/front.rt:63:1
 returns : tie.Need-returns
 returns c = search (needs, table-is)
 
--- src/front.rt:63:1
 returns-2 : tie.Need-returns-2
 returns-2 c = search (needs, table-is)
 
--- src/front.rt:63:1
 returns-3 : tie.Need-returns-3
 returns-3 c = search (needs, table-is)
 
--- src/front.rt:63:1
 returns-4 : tie.Need-returns-4
 returns-4 c = search (needs, table-is)
 
--- src/front.rt:63:1
 returns-5 : tie.Need-returns-5
 returns-5 c = search (needs, table-is)
 
--- src/front.rt:63:1
 returns-6 : tie.Need-returns-6
 returns-6 c = search (needs, table-there)
 

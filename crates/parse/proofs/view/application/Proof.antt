@@ -8,31 +8,24 @@ use Rattle.parse.proofs.entry.nth_key.Reads as nth-key-reads
 use Rattle.parse.proofs.view.application_list.Reads as application-list-reads
 use Rattle.parse.proofs.view.good_application.Reads as good-application-reads
 
--- src/view.rt:128:9
 application-list-requires : tie.Need-application-list-requires
 application-list-requires c κs = search needs
 
--- src/view.rt:129:9
 nth-key-requires : tie.Need-nth-key-requires
 nth-key-requires c κs = search (needs, applications-hold)
 
--- src/view.rt:131:19
 enum-known-found : tie.Need-enum-known-found
 enum-known-found c = search needs
 
--- src/view.rt:131:25
 good-application-requires : tie.Need-good-application-requires
 good-application-requires c κs = search (needs, application-stood)
 
--- src/view.rt:132:27
 enum-told : tie.Need-enum-told
 enum-told c = search needs
 
--- src/view.rt:118:1
 returns : tie.Need-returns
 returns c = search (needs, application-found)
 
--- src/view.rt:118:1
 returns-2 : tie.Need-returns-2
 returns-2 c = search (needs, application-none)
 

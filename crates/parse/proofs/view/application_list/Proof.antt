@@ -7,15 +7,12 @@ use Rattle.parse.proofs.view.application_list.Lts as lts
 use Rattle.parse.proofs.entry.keys_at.Reads as keys-at-reads
 use Rattle.tree.proofs.fields_at.Reads as fields-at-reads
 
--- src/view.rt:50:9
 fields-at-requires : tie.Need-fields-at-requires
 fields-at-requires c κs = search needs
 
--- src/view.rt:51:5
 keys-at-requires : tie.Need-keys-at-requires
 keys-at-requires c κs = search (needs, root-spread)
 
--- src/view.rt:46:1
 returns : tie.Need-returns
 returns c = search (needs, keys-root)
 

@@ -8,31 +8,24 @@ use Rattle.parse.proofs.view.component_list.Reads as component-list-rea
 use Rattle.parse.proofs.view.good_component.Reads as good-component-reads
 use Rattle.tree.proofs.nth.Reads as nth-reads
 
--- src/view.rt:110:9
 component-list-requires : tie.Need-component-list-requires
 component-list-requires c κs = search needs
 
--- src/view.rt:111:9
 nth-requires : tie.Need-nth-requires
 nth-requires c κs = search (needs, components-hold)
 
--- src/view.rt:113:19
 enum-known-found : tie.Need-enum-known-found
 enum-known-found c = search needs
 
--- src/view.rt:113:25
 good-component-requires : tie.Need-good-component-requires
 good-component-requires c κs = search (needs, component-stood)
 
--- src/view.rt:114:27
 enum-told : tie.Need-enum-told
 enum-told c = search needs
 
--- src/view.rt:106:1
 returns : tie.Need-returns
 returns c = search (needs, component-found)
 
--- src/view.rt:106:1
 returns-2 : tie.Need-returns-2
 returns-2 c = search (needs, component-none)
 

@@ -7,23 +7,18 @@ use Rattle.parse.proofs.view.component_list.Lts as lts
 use Rattle.parse.proofs.entry.list_at.Reads as list-at-reads
 use Rattle.tree.proofs.fields_at.Reads as fields-at-reads
 
--- src/view.rt:42:9
 fields-at-requires : tie.Need-fields-at-requires
 fields-at-requires c κs = search needs
 
--- src/view.rt:43:52
 slice-aggregate-list-at : tie.Need-slice-aggregate-list-at
 slice-aggregate-list-at c = search needs
 
--- src/view.rt:43:66
 slice-aggregate-list-at-2 : tie.Need-slice-aggregate-list-at-2
 slice-aggregate-list-at-2 c = search needs
 
--- src/view.rt:43:5
 list-at-requires : tie.Need-list-at-requires
 list-at-requires c κs = search (needs, root-spread)
 
--- src/view.rt:38:1
 returns : tie.Need-returns
 returns c = search (needs, list-root)
 

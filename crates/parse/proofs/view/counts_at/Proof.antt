@@ -8,19 +8,15 @@ use Rattle.parse.proofs.view.counts_at.Lts as lts
 use Rattle.parse.proofs.view.counts_of.Reads as counts-of-reads
 use Rattle.parse.proofs.view.sound.Reads as sound-reads
 
--- src/view.rt:176:8
 sound-requires : tie.Need-sound-requires
 sound-requires c κs = search needs
 
--- src/view.rt:177:9
 counts-of-requires : tie.Need-counts-of-requires
 counts-of-requires c κs = search (needs, sound-rooms)
 
--- src/view.rt:177:9
 returns : tie.Need-returns
 returns c = search calls
 
--- src/view.rt:173:1
 returns-2 : tie.Need-returns-2
 returns-2 c = search calls
 

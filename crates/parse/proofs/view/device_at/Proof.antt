@@ -8,19 +8,15 @@ use Rattle.parse.proofs.view.device_at.Lts as lts
 use Rattle.parse.proofs.view.device_of.Reads as device-of-reads
 use Rattle.parse.proofs.view.sound.Reads as sound-reads
 
--- src/view.rt:210:8
 sound-requires : tie.Need-sound-requires
 sound-requires c κs = search needs
 
--- src/view.rt:211:9
 device-of-requires : tie.Need-device-of-requires
 device-of-requires c κs = search (needs, sound-rooms)
 
--- src/view.rt:211:9
 returns : tie.Need-returns
 returns c = search calls
 
--- src/view.rt:207:1
 returns-2 : tie.Need-returns-2
 returns-2 c = search calls
 

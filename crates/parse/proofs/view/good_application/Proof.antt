@@ -6,15 +6,12 @@ use Rattle.parse.proofs.view.good_application.Reads as reads
 use Rattle.parse.proofs.view.good_application.Lts as lts
 use Rattle.parse.proofs.entry.application_at.Reads as application-at-reads
 
--- src/view.rt:91:9
 application-at-requires : tie.Need-application-at-requires
 application-at-requires c κs = search needs
 
--- src/view.rt:94:9
 returns : tie.Need-returns
 returns c = search (needs, application-good)
 
--- src/view.rt:81:1
 returns-2 : tie.Need-returns-2
 returns-2 c = search (needs, application-wrong)
 

@@ -6,15 +6,12 @@ use Rattle.parse.proofs.view.good_component.Reads as reads
 use Rattle.parse.proofs.view.good_component.Lts as lts
 use Rattle.parse.proofs.entry.component_at.Reads as component-at-reads
 
--- src/view.rt:73:9
 component-at-requires : tie.Need-component-at-requires
 component-at-requires c κs = search needs
 
--- src/view.rt:76:9
 returns : tie.Need-returns
 returns c = search (needs, component-good)
 
--- src/view.rt:69:1
 returns-2 : tie.Need-returns-2
 returns-2 c = search (needs, component-wrong)
 

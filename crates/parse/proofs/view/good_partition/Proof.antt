@@ -6,15 +6,12 @@ use Rattle.parse.proofs.view.good_partition.Reads as reads
 use Rattle.parse.proofs.view.good_partition.Lts as lts
 use Rattle.parse.proofs.entry.partition_at.Reads as partition-at-reads
 
--- src/view.rt:61:9
 partition-at-requires : tie.Need-partition-at-requires
 partition-at-requires c κs = search needs
 
--- src/view.rt:64:9
 returns : tie.Need-returns
 returns c = search (needs, partition-good)
 
--- src/view.rt:57:1
 returns-2 : tie.Need-returns-2
 returns-2 c = search (needs, partition-wrong)
 

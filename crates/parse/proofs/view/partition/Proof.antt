@@ -8,31 +8,24 @@ use Rattle.parse.proofs.view.good_partition.Reads as good-partition-rea
 use Rattle.parse.proofs.view.partition_list.Reads as partition-list-reads
 use Rattle.tree.proofs.nth.Reads as nth-reads
 
--- src/view.rt:98:9
 partition-list-requires : tie.Need-partition-list-requires
 partition-list-requires c κs = search needs
 
--- src/view.rt:99:9
 nth-requires : tie.Need-nth-requires
 nth-requires c κs = search (needs, partitions-hold)
 
--- src/view.rt:101:19
 enum-known-found : tie.Need-enum-known-found
 enum-known-found c = search needs
 
--- src/view.rt:101:25
 good-partition-requires : tie.Need-good-partition-requires
 good-partition-requires c κs = search (needs, partition-stood)
 
--- src/view.rt:102:27
 enum-told : tie.Need-enum-told
 enum-told c = search needs
 
--- src/view.rt:94:1
 returns : tie.Need-returns
 returns c = search (needs, partition-found)
 
--- src/view.rt:94:1
 returns-2 : tie.Need-returns-2
 returns-2 c = search (needs, partition-none)
 

@@ -6,19 +6,15 @@ use Rattle.parse.proofs.view.sound.Reads as reads
 use Rattle.parse.proofs.view.sound.Lts as lts
 use Rattle.tree.proofs.capacity.Reads as capacity-reads
 
--- src/view.rt:142:8
 capacity-requires : tie.Need-capacity-requires
 capacity-requires c κs = search needs
 
--- src/view.rt:143:9
 returns : tie.Need-returns
 returns c = search (needs, sound-short)
 
--- src/view.rt:146:9
 returns-2 : tie.Need-returns-2
 returns-2 c = search (needs, sound-many)
 
--- src/view.rt:139:1
 returns-3 : tie.Need-returns-3
 returns-3 c = search (needs, sound-well)
 

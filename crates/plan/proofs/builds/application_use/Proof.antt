@@ -8,19 +8,15 @@ use Rattle.parse.proofs.entry.application_at.Reads as application-at-reads
 use Rattle.tree.proofs.get.Reads as get-reads
 use Rattle.validate.proofs.uses.single.Reads as single-reads
 
--- src/builds.rt:139:9
 application-at-requires : tie.Need-application-at-requires
 application-at-requires c κs = search needs
 
--- src/builds.rt:142:9
 get-requires : tie.Need-get-requires
 get-requires c κs = search needs
 
--- src/builds.rt:143:9
 single-requires : tie.Need-single-requires
 single-requires c κs = search needs
 
--- src/builds.rt:135:1
 returns : tie.Need-returns
 returns c = search (needs, application-read)
 

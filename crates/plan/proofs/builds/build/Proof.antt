@@ -7,27 +7,21 @@ use Rattle.plan.proofs.builds.build.Lts as lts
 use Rattle.plan.proofs.builds.build_at.Reads as build-at-reads
 use Rattle.plan.proofs.builds.builds.Reads as builds-reads
 
--- src/builds.rt:229:9
 builds-requires : tie.Need-builds-requires
 builds-requires c κs = search needs
 
--- src/builds.rt:232:21
 mul-found : tie.Need-mul-found
 mul-found c = search needs
 
--- src/builds.rt:232:21
 array-copy-out-found : tie.Need-array-copy-out-found
 array-copy-out-found c = search needs
 
--- src/builds.rt:233:31
 build-at-requires : tie.Need-build-at-requires
 build-at-requires c κs = search needs
 
--- src/builds.rt:233:9
 returns : tie.Need-returns
 returns c = search (needs, build-found)
 
--- src/builds.rt:225:1
 returns-2 : tie.Need-returns-2
 returns-2 c = search (needs, build-none)
 

@@ -7,19 +7,15 @@ use Rattle.plan.proofs.builds.build_at.Lts as lts
 use Rattle.validate.proofs.uses.list_at.Reads as list-at-reads
 use Rattle.validate.proofs.uses.text_at.Reads as text-at-reads
 
--- src/builds.rt:61:18
 text-at-requires : tie.Need-text-at-requires
 text-at-requires c κs = search needs
 
--- src/builds.rt:62:14
 text-at-requires-2 : tie.Need-text-at-requires-2
 text-at-requires-2 c κs = search needs
 
--- src/builds.rt:63:19
 list-at-requires : tie.Need-list-at-requires
 list-at-requires c κs = search needs
 
--- src/builds.rt:54:1
 returns : tie.Need-returns
 returns c = search (needs, build-made)
 

@@ -7,15 +7,12 @@ use Rattle.plan.proofs.builds.builds.Lts as lts
 use Rattle.plan.proofs.builds.first_uses.Reads as first-uses-reads
 use Rattle.plan.proofs.builds.uses.Reads as uses-reads
 
--- src/builds.rt:219:9
 uses-requires : tie.Need-uses-requires
 uses-requires c κs = search needs
 
--- src/builds.rt:221:5
 first-uses-requires : tie.Need-first-uses-requires
 first-uses-requires c κs = search needs
 
--- src/builds.rt:215:1
 returns : tie.Need-returns
 returns c = search (needs, builds-used)
 

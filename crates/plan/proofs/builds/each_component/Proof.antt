@@ -16,75 +16,57 @@ Inv-loop tree store made place end items₀ i₀ from₀ items i from = Gatherin
 abbrev μ-loop : tie.MeasureT-loop
 μ-loop tree store made place end items₀ i₀ from₀ items i from = end - from
 
--- src/builds.rt:106:21
 no-builds-requires : tie.Need-no-builds-requires Inv-loop μ-loop
 no-builds-requires c κs = search needs
 
--- src/builds.rt:109:5
 loop-holds : tie.Need-loop-holds Inv-loop μ-loop
 loop-holds c = search (needs, comps-start)
 
--- src/builds.rt:110:13
 child-requires : tie.Need-child-requires Inv-loop μ-loop
 child-requires c κs = search (needs, holds-end)
 
--- src/builds.rt:112:31
 enum-told : tie.Need-enum-told Inv-loop μ-loop
 enum-told c = search needs
 
--- src/builds.rt:113:23
 enum-known-found : tie.Need-enum-known-found Inv-loop μ-loop
 enum-known-found c = search needs
 
--- src/builds.rt:117:21
 wanted-at-requires : tie.Need-wanted-at-requires Inv-loop μ-loop
 wanted-at-requires c κs = search (needs, item-stood)
 
--- src/builds.rt:120:28
 add-next : tie.Need-add-next Inv-loop μ-loop
 add-next c = search (needs, comps-room)
 
--- src/builds.rt:121:17
 mul-items : tie.Need-mul-items Inv-loop μ-loop
 mul-items c = search (needs, comps-room)
 
--- src/builds.rt:121:17
 array-set-from-items : tie.Need-array-set-from-items Inv-loop μ-loop
 array-set-from-items c = search (needs, comps-room)
 
--- src/builds.rt:122:17
 mul-items-2 : tie.Need-mul-items-2 Inv-loop μ-loop
 mul-items-2 c = search (needs, comps-room)
 
--- src/builds.rt:122:17
 array-set-from-items-2 : tie.Need-array-set-from-items-2 Inv-loop μ-loop
 array-set-from-items-2 c = search (needs, comps-room)
 
--- src/builds.rt:123:17
 add-i : tie.Need-add-i Inv-loop μ-loop
 add-i c = search (needs, comps-room)
 
--- src/builds.rt:124:24
 add-from : tie.Need-add-from Inv-loop μ-loop
 add-from c = search (needs, item-fits)
 
--- src/builds.rt:109:5
 loop-less : tie.Need-loop-less Inv-loop μ-loop
 loop-less c = search (needs, item-less)
 
--- src/builds.rt:109:5
 loop-again : tie.Need-loop-again Inv-loop μ-loop
 loop-again c = search (needs, comps-on)
 
--- src/builds.rt:102:1
 returns : tie.Need-returns Inv-loop μ-loop
 returns c = search (needs, comps-end, comps-none, comps-full)
 
--- src/builds.rt:102:1
 returns-2 : tie.Need-returns-2 Inv-loop μ-loop
 returns-2 c = search (needs, comps-end, comps-none, comps-full)
 
--- src/builds.rt:102:1
 returns-3 : tie.Need-returns-3 Inv-loop μ-loop
 returns-3 c = search (needs, comps-end, comps-none, comps-full)
 

@@ -22,99 +22,75 @@ Inv-next store count uses items₀ n₀ i₀ items n i = Firsts store uses count
 abbrev μ-next : tie.MeasureT-next
 μ-next store count uses items₀ n₀ i₀ items n i = count - i
 
--- src/builds.rt:172:21
 no-builds-requires : tie.Need-no-builds-requires Inv-loop μ-loop Inv-next μ-next
 no-builds-requires c κs = search needs
 
--- src/builds.rt:174:5
 next-holds : tie.Need-next-holds Inv-loop μ-loop Inv-next μ-next
 next-holds c = search (needs, firsts-start)
 
--- src/builds.rt:175:17
 mul-u : tie.Need-mul-u Inv-loop μ-loop Inv-next μ-next
 mul-u c = search needs
 
--- src/builds.rt:175:17
 array-copy-out-u : tie.Need-array-copy-out-u Inv-loop μ-loop Inv-next μ-next
 array-copy-out-u c = search needs
 
--- src/builds.rt:179:13
 add-i : tie.Need-add-i Inv-loop μ-loop Inv-next μ-next
 add-i c = search needs
 
--- src/builds.rt:174:5
 next-less : tie.Need-next-less Inv-loop μ-loop Inv-next μ-next
 next-less c = search needs
 
--- src/builds.rt:174:5
 next-again : tie.Need-next-again Inv-loop μ-loop Inv-next μ-next
 next-again c = search (needs, firsts-absent)
 
--- src/builds.rt:181:9
 loop-holds : tie.Need-loop-holds Inv-loop μ-loop Inv-next μ-next
 loop-holds c = search (needs, unused-start)
 
--- src/builds.rt:182:21
 mul-v : tie.Need-mul-v Inv-loop μ-loop Inv-next μ-next
 mul-v c = search (needs, unused-low)
 
--- src/builds.rt:182:21
 array-copy-out-v : tie.Need-array-copy-out-v Inv-loop μ-loop Inv-next μ-next
 array-copy-out-v c = search (needs, number-low)
 
--- src/builds.rt:184:16
 agree-requires : tie.Need-agree-requires Inv-loop μ-loop Inv-next μ-next
 agree-requires c κs = search needs
 
--- src/builds.rt:185:17
 add-i-2 : tie.Need-add-i-2 Inv-loop μ-loop Inv-next μ-next
 add-i-2 c = search (needs, number-low)
 
--- src/builds.rt:174:5
 next-less-2 : tie.Need-next-less-2 Inv-loop μ-loop Inv-next μ-next
 next-less-2 c = search (needs, firsts-less)
 
--- src/builds.rt:174:5
 next-again-2 : tie.Need-next-again-2 Inv-loop μ-loop Inv-next μ-next
 next-again-2 c = search (needs, firsts-again)
 
--- src/builds.rt:181:13
 add-j : tie.Need-add-j Inv-loop μ-loop Inv-next μ-next
 add-j c = search (needs, number-low)
 
--- src/builds.rt:181:9
 loop-less : tie.Need-loop-less Inv-loop μ-loop Inv-next μ-next
 loop-less c = search needs
 
--- src/builds.rt:181:9
 loop-again : tie.Need-loop-again Inv-loop μ-loop Inv-next μ-next
 loop-again c = search (needs, unused-on)
 
--- src/builds.rt:188:9
 mul-items : tie.Need-mul-items Inv-loop μ-loop Inv-next μ-next
 mul-items c = search (needs, firsts-room)
 
--- src/builds.rt:188:9
 array-set-from-items : tie.Need-array-set-from-items Inv-loop μ-loop Inv-next μ-next
 array-set-from-items c = search (needs, firsts-room)
 
--- src/builds.rt:189:9
 add-n : tie.Need-add-n Inv-loop μ-loop Inv-next μ-next
 add-n c = search (needs, firsts-room)
 
--- src/builds.rt:174:16
 add-i-3 : tie.Need-add-i-3 Inv-loop μ-loop Inv-next μ-next
 add-i-3 c = search (needs, number-low)
 
--- src/builds.rt:174:5
 next-less-3 : tie.Need-next-less-3 Inv-loop μ-loop Inv-next μ-next
 next-less-3 c = search (needs, firsts-less)
 
--- src/builds.rt:174:5
 next-again-3 : tie.Need-next-again-3 Inv-loop μ-loop Inv-next μ-next
 next-again-3 c = search (needs, firsts-on)
 
--- src/builds.rt:168:1
 returns : tie.Need-returns Inv-loop μ-loop Inv-next μ-next
 returns c = search (needs, firsts-end)
 

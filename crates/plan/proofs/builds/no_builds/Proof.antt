@@ -6,11 +6,9 @@ use Rattle.plan.proofs.builds.no_builds.Reads as reads
 use Rattle.plan.proofs.builds.no_builds.Lts as lts
 use Rattle.validate.proofs.uses.no_spot.Reads as no-spot-reads
 
--- src/builds.rt:71:9
 no-spot-requires : tie.Need-no-spot-requires
 no-spot-requires c κs = search needs
 
--- src/builds.rt:68:1
 returns : tie.Need-returns
 returns c = search (needs, no-uses)
 

@@ -9,42 +9,33 @@ use Rattle.plan.proofs.builds.each_component.Reads as each-component-re
 use Rattle.plan.proofs.builds.no_builds.Reads as no-builds-reads
 use Rattle.plan.proofs.builds.with_application.Reads as with-application-reads
 
--- src/builds.rt:202:9
 component-list-requires : tie.Need-component-list-requires
 component-list-requires c κs = search needs
 
--- src/builds.rt:203:9
 each-component-requires : tie.Need-each-component-requires
 each-component-requires c κs = search (needs, wanting)
 
--- src/builds.rt:205:30
 enum-told : tie.Need-enum-told
 enum-told c = search needs
 
--- src/builds.rt:208:20
 enum-told-2 : tie.Need-enum-told-2
 enum-told-2 c = search needs
 
 no-builds-requires : tie.Need-no-builds-requires
 no-builds-requires c κs = search needs
 
--- src/builds.rt:210:32
 enum-known-c : tie.Need-enum-known-c
 enum-known-c c = search needs
 
--- src/builds.rt:210:43
 with-application-requires : tie.Need-with-application-requires
 with-application-requires c κs = search (needs, chosen-stood, used-room)
 
--- src/builds.rt:198:1
 returns : tie.Need-returns
 returns c = search (needs, uses-own)
 
--- src/builds.rt:198:1
 returns-2 : tie.Need-returns-2
 returns-2 c = search (needs, uses-undeclared)
 
--- src/builds.rt:198:1
 returns-3 : tie.Need-returns-3
 returns-3 c = search (needs, uses-followed)
 

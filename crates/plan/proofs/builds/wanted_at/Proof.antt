@@ -12,39 +12,30 @@ use Rattle.parse.proofs.field.text.Reads as text-reads
 use Rattle.plan.proofs.builds.using.Reads as using-reads
 use Rattle.tree.proofs.value_at.Reads as value-at-reads
 
--- src/builds.rt:85:51
 value-at-requires : tie.Need-value-at-requires
 value-at-requires c κs = search needs
 
--- src/builds.rt:85:9
 entry-table-requires : tie.Need-entry-table-requires
 entry-table-requires c κs = search needs
 
--- src/builds.rt:87:9
 read-sources-requires : tie.Need-read-sources-requires
 read-sources-requires c κs = search (needs, table-spread)
 
--- src/builds.rt:88:9
 read-lists-requires : tie.Need-read-lists-requires
 read-lists-requires c κs = search (needs, table-spread)
 
--- src/builds.rt:89:48
 slice-aggregate-text : tie.Need-slice-aggregate-text
 slice-aggregate-text c = search needs
 
--- src/builds.rt:89:9
 text-requires : tie.Need-text-requires
 text-requires c κs = search (needs, table-spread)
 
--- src/builds.rt:96:14
 using-requires : tie.Need-using-requires
 using-requires c κs = search needs
 
--- src/builds.rt:97:14
 using-requires-2 : tie.Need-using-requires-2
 using-requires-2 c κs = search needs
 
--- src/builds.rt:81:1
 returns : tie.Need-returns
 returns c = search (needs, wanted-read)
 

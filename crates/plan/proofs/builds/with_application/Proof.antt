@@ -6,23 +6,18 @@ use Rattle.plan.proofs.builds.with_application.Reads as reads
 use Rattle.plan.proofs.builds.with_application.Lts as lts
 use Rattle.plan.proofs.builds.application_use.Reads as application-use-reads
 
--- src/builds.rt:160:20
 application-use-requires : tie.Need-application-use-requires
 application-use-requires c κs = search needs
 
--- src/builds.rt:160:5
 mul-items : tie.Need-mul-items
 mul-items c = search needs
 
--- src/builds.rt:160:5
 array-set-from-items : tie.Need-array-set-from-items
 array-set-from-items c = search needs
 
--- src/builds.rt:162:16
 add-t9 : tie.Need-add-t9
 add-t9 c = search needs
 
--- src/builds.rt:154:1
 returns : tie.Need-returns
 returns c = search (needs, follows)
 

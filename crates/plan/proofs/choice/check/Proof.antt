@@ -8,43 +8,33 @@ use Rattle.parse.proofs.told.Reads as told-reads
 use Rattle.plan.proofs.choice.check_name.Reads as check-name-reads
 use Rattle.plan.proofs.choice.choose.Reads as choose-reads
 
--- src/choice.rt:121:9
 choose-requires : tie.Need-choose-requires
 choose-requires c κs = search needs
 
--- src/choice.rt:123:30
 enum-told : tie.Need-enum-told
 enum-told c = search needs
 
--- src/choice.rt:123:30
 told-requires : tie.Need-told-requires
 told-requires c κs = search needs
 
--- src/choice.rt:124:31
 enum-told-2 : tie.Need-enum-told-2
 enum-told-2 c = search needs
 
--- src/choice.rt:124:31
 told-requires-2 : tie.Need-told-requires-2
 told-requires-2 c κs = search needs
 
--- src/choice.rt:125:22
 enum-known-c : tie.Need-enum-known-c
 enum-known-c c = search needs
 
--- src/choice.rt:125:40
 check-name-requires : tie.Need-check-name-requires
 check-name-requires c κs = search (needs, choice-stood)
 
--- src/choice.rt:117:1
 returns : tie.Need-returns
 returns c = search (needs, fault-of)
 
--- src/choice.rt:117:1
 returns-2 : tie.Need-returns-2
 returns-2 c = search (needs, fault-of)
 
--- src/choice.rt:117:1
 returns-3 : tie.Need-returns-3
 returns-3 c = search (needs, fault-of)
 

@@ -11,39 +11,30 @@ use Rattle.schema.proofs.Text.length.Reads as length-reads
 use Rattle.schema.proofs.Text.start.Reads as start-reads
 use Rattle.schema.proofs.stored.Reads as stored-reads
 
--- src/choice.rt:106:9
 application-at-requires : tie.Need-application-at-requires
 application-at-requires c κs = search needs
 
--- src/choice.rt:109:37
 start-requires : tie.Need-start-requires
 start-requires c κs = search needs
 
--- src/choice.rt:109:51
 length-requires : tie.Need-length-requires
 length-requires c κs = search needs
 
--- src/choice.rt:109:9
 stored-requires : tie.Need-stored-requires
 stored-requires c κs = search needs
 
--- src/choice.rt:110:8
 taken-requires : tie.Need-taken-requires
 taken-requires c κs = search needs
 
--- src/choice.rt:111:9
 told-requires : tie.Need-told-requires
 told-requires c κs = search needs
 
--- src/choice.rt:111:9
 returns : tie.Need-returns
 returns c = search (needs, name-taken)
 
--- src/choice.rt:113:5
 told-requires-2 : tie.Need-told-requires-2
 told-requires-2 c κs = search needs
 
--- src/choice.rt:102:1
 returns-2 : tie.Need-returns-2
 returns-2 c = search (needs, name-free)
 

@@ -19,47 +19,36 @@ abbrev μ-loop : tie.MeasureT-loop
 skip-up-requires : tie.Need-skip-up-requires Inv-loop μ-loop
 skip-up-requires c κs = search (needs, holds-end)
 
--- src/choice.rt:37:5
 loop-holds : tie.Need-loop-holds Inv-loop μ-loop
 loop-holds c = search (needs, seek-start)
 
--- src/choice.rt:38:13
 next-requires : tie.Need-next-requires Inv-loop μ-loop
 next-requires c κs = search (needs, holds-end)
 
--- src/choice.rt:40:31
 enum-told : tie.Need-enum-told Inv-loop μ-loop
 enum-told c = search needs
 
--- src/choice.rt:40:31
 returns : tie.Need-returns Inv-loop μ-loop
 returns c = search (needs, seek-none)
 
--- src/choice.rt:41:23
 enum-known-found : tie.Need-enum-known-found Inv-loop μ-loop
 enum-known-found c = search needs
 
--- src/choice.rt:42:20
 keyed-requires : tie.Need-keyed-requires Inv-loop μ-loop
 keyed-requires c κs = search (needs, seek-stood)
 
--- src/choice.rt:43:21
 returns-2 : tie.Need-returns-2 Inv-loop μ-loop
 returns-2 c = search (needs, seek-hit)
 
--- src/choice.rt:46:17
 add-i : tie.Need-add-i Inv-loop μ-loop
 add-i c = search needs
 
--- src/choice.rt:37:5
 loop-less : tie.Need-loop-less Inv-loop μ-loop
 loop-less c = search needs
 
--- src/choice.rt:37:5
 loop-again : tie.Need-loop-again Inv-loop μ-loop
 loop-again c = search (needs, seek-on)
 
--- src/choice.rt:29:1
 returns-3 : tie.Need-returns-3 Inv-loop μ-loop
 returns-3 c = search (needs, seek-end)
 

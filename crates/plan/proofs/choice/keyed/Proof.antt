@@ -8,27 +8,21 @@ use Rattle.schema.proofs.stored.Reads as stored-reads
 use Rattle.slices.proofs.same.Reads as same-reads
 use Rattle.tree.proofs.get.Reads as get-reads
 
--- src/choice.rt:24:9
 get-requires : tie.Need-get-requires
 get-requires c κs = search needs
 
--- src/choice.rt:25:45
 cast-stored : tie.Need-cast-stored
 cast-stored c = search needs
 
--- src/choice.rt:25:61
 cast-stored-2 : tie.Need-cast-stored-2
 cast-stored-2 c = search needs
 
--- src/choice.rt:25:23
 stored-requires : tie.Need-stored-requires
 stored-requires c κs = search needs
 
--- src/choice.rt:25:5
 same-requires : tie.Need-same-requires
 same-requires c κs = search needs
 
--- src/choice.rt:20:1
 returns : tie.Need-returns
 returns c = search (needs, key-is)
 

@@ -13,39 +13,30 @@ use Rattle.schema.proofs.stored.Reads as stored-reads
 use Rattle.slices.proofs.same.Reads as same-reads
 use Rattle.tree.proofs.value_at.Reads as value-at-reads
 
--- src/choice.rt:70:51
 value-at-requires : tie.Need-value-at-requires
 value-at-requires c κs = search needs
 
--- src/choice.rt:70:9
 entry-table-requires : tie.Need-entry-table-requires
 entry-table-requires c κs = search needs
 
--- src/choice.rt:72:57
 slice-aggregate-text-needed : tie.Need-slice-aggregate-text-needed
 slice-aggregate-text-needed c = search needs
 
--- src/choice.rt:72:9
 text-needed-requires : tie.Need-text-needed-requires
 text-needed-requires c κs = search (needs, table-spread)
 
--- src/choice.rt:74:46
 start-requires : tie.Need-start-requires
 start-requires c κs = search needs
 
--- src/choice.rt:74:61
 length-requires : tie.Need-length-requires
 length-requires c κs = search needs
 
--- src/choice.rt:74:24
 stored-requires : tie.Need-stored-requires
 stored-requires c κs = search needs
 
--- src/choice.rt:74:5
 same-requires : tie.Need-same-requires
 same-requires c κs = search needs
 
--- src/choice.rt:66:1
 returns : tie.Need-returns
 returns c = search (needs, name-is)
 

@@ -20,51 +20,39 @@ Inv-loop tree store made name place end from₀ from = Left (anyOf (named tree s
 abbrev μ-loop : tie.MeasureT-loop
 μ-loop tree store made name place end from₀ from = end - from
 
--- src/choice.rt:82:9
 component-list-requires : tie.Need-component-list-requires Inv-loop μ-loop
 component-list-requires c κs = search needs
 
--- src/choice.rt:86:5
 loop-holds : tie.Need-loop-holds Inv-loop μ-loop
 loop-holds c = search (needs, left-start)
 
--- src/choice.rt:87:13
 child-requires : tie.Need-child-requires Inv-loop μ-loop
 child-requires c κs = search (needs, components-hold)
 
--- src/choice.rt:89:31
 enum-told : tie.Need-enum-told Inv-loop μ-loop
 enum-told c = search needs
 
--- src/choice.rt:89:31
 returns : tie.Need-returns Inv-loop μ-loop
 returns c = search (needs, ask-none)
 
--- src/choice.rt:90:23
 enum-known-found : tie.Need-enum-known-found Inv-loop μ-loop
 enum-known-found c = search needs
 
--- src/choice.rt:91:20
 named-requires : tie.Need-named-requires Inv-loop μ-loop
 named-requires c κs = search (needs, component-stood)
 
--- src/choice.rt:92:21
 returns-2 : tie.Need-returns-2 Inv-loop μ-loop
 returns-2 c = search (needs, ask-hit)
 
--- src/choice.rt:94:24
 add-from : tie.Need-add-from Inv-loop μ-loop
 add-from c = search (needs, component-fits)
 
--- src/choice.rt:86:5
 loop-less : tie.Need-loop-less Inv-loop μ-loop
 loop-less c = search (needs, item-less)
 
--- src/choice.rt:86:5
 loop-again : tie.Need-loop-again Inv-loop μ-loop
 loop-again c = search (needs, ask-on)
 
--- src/choice.rt:78:1
 returns-3 : tie.Need-returns-3 Inv-loop μ-loop
 returns-3 c = search (needs, ask-end)
 

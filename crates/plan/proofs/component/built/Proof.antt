@@ -6,11 +6,9 @@ use Rattle.plan.proofs.component.built.Reads as reads
 use Rattle.plan.proofs.component.built.Lts as lts
 use Rattle.schema.proofs.Text.or.Reads as or-reads
 
--- src/component.rt:53:14
 or-requires : tie.Need-or-requires
 or-requires c κs = search needs
 
--- src/component.rt:48:1
 returns : tie.Need-returns
 returns c = search (needs, built-is)
 

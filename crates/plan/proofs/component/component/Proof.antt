@@ -7,35 +7,27 @@ use Rattle.plan.proofs.component.component.Lts as lts
 use Rattle.plan.proofs.component.composed.Reads as composed-reads
 use Rattle.plan.proofs.component.own.Reads as own-reads
 
--- src/component.rt:285:30
 enum-told : tie.Need-enum-told
 enum-told c = search needs
 
--- src/component.rt:285:30
 own-requires : tie.Need-own-requires
 own-requires c κs = search needs
 
--- src/component.rt:286:31
 enum-told-2 : tie.Need-enum-told-2
 enum-told-2 c = search needs
 
--- src/component.rt:287:32
 enum-known-c : tie.Need-enum-known-c
 enum-known-c c = search needs
 
--- src/component.rt:287:43
 composed-requires : tie.Need-composed-requires
 composed-requires c κs = search (needs, chosen-stood)
 
--- src/component.rt:280:1
 returns : tie.Need-returns
 returns c = search (needs, chain-is)
 
--- src/component.rt:280:1
 returns-2 : tie.Need-returns-2
 returns-2 c = search needs
 
--- src/component.rt:280:1
 returns-3 : tie.Need-returns-3
 returns-3 c = search (needs, chosen-is)
 

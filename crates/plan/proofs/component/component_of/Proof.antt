@@ -7,15 +7,12 @@ use Rattle.plan.proofs.component.component_of.Lts as lts
 use Rattle.plan.proofs.component.loads.Reads as loads-reads
 use Rattle.plan.proofs.component.no_boot.Reads as no-boot-reads
 
--- src/component.rt:174:15
 no-boot-requires : tie.Need-no-boot-requires
 no-boot-requires c κs = search needs
 
--- src/component.rt:175:15
 loads-requires : tie.Need-loads-requires
 loads-requires c κs = search needs
 
--- src/component.rt:146:1
 returns : tie.Need-returns
 returns c = search (needs, component-of-is)
 

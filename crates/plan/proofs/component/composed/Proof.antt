@@ -8,35 +8,27 @@ use Rattle.plan.proofs.component.ahead.Reads as ahead-reads
 use Rattle.plan.proofs.component.own.Reads as own-reads
 use Rattle.plan.proofs.component.selected.Reads as selected-reads
 
--- src/component.rt:269:9
 ahead-requires : tie.Need-ahead-requires
 ahead-requires c κs = search needs
 
--- src/component.rt:271:9
 own-requires : tie.Need-own-requires
 own-requires c κs = search needs
 
--- src/component.rt:271:9
 returns : tie.Need-returns
 returns c = search (needs, composed-before)
 
--- src/component.rt:274:9
 selected-requires : tie.Need-selected-requires
 selected-requires c κs = search needs
 
--- src/component.rt:274:9
 returns-2 : tie.Need-returns-2
 returns-2 c = search (needs, composed-here)
 
--- src/component.rt:276:28
 sub-own : tie.Need-sub-own
 sub-own c = search needs
 
--- src/component.rt:276:5
 own-requires-2 : tie.Need-own-requires-2
 own-requires-2 c κs = search needs
 
--- src/component.rt:265:1
 returns-3 : tie.Need-returns-3
 returns-3 c = search (needs, composed-behind)
 

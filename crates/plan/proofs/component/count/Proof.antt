@@ -8,39 +8,30 @@ use Rattle.plan.proofs.component.count.Lts as lts
 use Rattle.parse.proofs.view.component_list.Reads as component-list-reads
 use Rattle.tree.proofs.count.Reads as count-reads
 
--- src/component.rt:284:9
 component-list-requires : tie.Need-component-list-requires
 component-list-requires c κs = search needs
 
--- src/component.rt:285:9
 count-requires : tie.Need-count-requires
 count-requires c κs = search (needs, components-hold)
 
--- src/component.rt:287:30
 enum-told : tie.Need-enum-told
 enum-told c = search needs
 
--- src/component.rt:288:31
 enum-told-2 : tie.Need-enum-told-2
 enum-told-2 c = search needs
 
--- src/component.rt:289:46
 enum-told-3 : tie.Need-enum-told-3
 enum-told-3 c = search needs
 
--- src/component.rt:289:46
 add-result : tie.Need-add-result
 add-result c = search (needs, total-fits)
 
--- src/component.rt:280:1
 returns : tie.Need-returns
 returns c = search (needs, total-boot)
 
--- src/component.rt:280:1
 returns-2 : tie.Need-returns-2
 returns-2 c = search needs
 
--- src/component.rt:280:1
 returns-3 : tie.Need-returns-3
 returns-3 c = search (needs, total-more)
 

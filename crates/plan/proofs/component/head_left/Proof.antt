@@ -6,15 +6,12 @@ use Rattle.plan.proofs.component.head_left.Reads as reads
 use Rattle.plan.proofs.component.head_left.Lts as lts
 use Rattle.validate.proofs.component.there.Reads as there-reads
 
--- src/component.rt:96:8
 there-requires : tie.Need-there-requires
 there-requires c κs = search needs
 
--- src/component.rt:97:9
 returns : tie.Need-returns
 returns c = search (needs, left-whole)
 
--- src/component.rt:87:1
 returns-2 : tie.Need-returns-2
 returns-2 c = search (needs, left-without)
 

@@ -7,27 +7,21 @@ use Rattle.plan.proofs.component.own.Lts as lts
 use Rattle.parse.proofs.view.component.Reads as component-reads
 use Rattle.plan.proofs.component.plan_of.Reads as plan-of-reads
 
--- src/component.rt:247:9
 component-requires : tie.Need-component-requires
 component-requires c κs = search needs
 
--- src/component.rt:249:36
 enum-told : tie.Need-enum-told
 enum-told c = search needs
 
--- src/component.rt:250:28
 enum-known-found : tie.Need-enum-known-found
 enum-known-found c = search needs
 
--- src/component.rt:250:51
 plan-of-requires : tie.Need-plan-of-requires
 plan-of-requires c κs = search needs
 
--- src/component.rt:243:1
 returns : tie.Need-returns
 returns c = search (needs, own-none)
 
--- src/component.rt:243:1
 returns-2 : tie.Need-returns-2
 returns-2 c = search (needs, own-some)
 

@@ -8,23 +8,18 @@ use Rattle.plan.proofs.component.built.Reads as built-reads
 use Rattle.schema.proofs.Text.or.Reads as or-reads
 use Rattle.validate.proofs.component.there.Reads as there-reads
 
--- src/component.rt:65:8
 there-requires : tie.Need-there-requires
 there-requires c κs = search needs
 
--- src/component.rt:66:32
 built-requires : tie.Need-built-requires
 built-requires c κs = search needs
 
--- src/component.rt:66:9
 returns : tie.Need-returns
 returns c = search (needs, payload-built)
 
--- src/component.rt:68:18
 or-requires : tie.Need-or-requires
 or-requires c κs = search needs
 
--- src/component.rt:59:1
 returns-2 : tie.Need-returns-2
 returns-2 c = search (needs, payload-file)
 

@@ -7,27 +7,21 @@ use Rattle.plan.proofs.component.pbp_payload.Lts as lts
 use Rattle.plan.proofs.component.built.Reads as built-reads
 use Rattle.validate.proofs.component.there.Reads as there-reads
 
--- src/component.rt:77:8
 there-requires : tie.Need-there-requires
 there-requires c κs = search needs
 
--- src/component.rt:78:9
 returns : tie.Need-returns
 returns c = search (needs, pbp-file)
 
--- src/component.rt:80:8
 there-requires-2 : tie.Need-there-requires-2
 there-requires-2 c κs = search needs
 
--- src/component.rt:81:32
 built-requires : tie.Need-built-requires
 built-requires c κs = search needs
 
--- src/component.rt:81:9
 returns-2 : tie.Need-returns-2
 returns-2 c = search (needs, pbp-built)
 
--- src/component.rt:72:1
 returns-3 : tie.Need-returns-3
 returns-3 c = search (needs, pbp-none)
 

@@ -12,35 +12,27 @@ use Rattle.schema.proofs.Text.start.Reads as start-reads
 use Rattle.schema.proofs.stored.Reads as stored-reads
 use Rattle.tree.proofs.value_at.Reads as value-at-reads
 
--- src/component.rt:209:51
 value-at-requires : tie.Need-value-at-requires
 value-at-requires c κs = search needs
 
--- src/component.rt:209:9
 entry-table-requires : tie.Need-entry-table-requires
 entry-table-requires c κs = search needs
 
--- src/component.rt:211:50
 slice-aggregate-text : tie.Need-slice-aggregate-text
 slice-aggregate-text c = search needs
 
--- src/component.rt:211:9
 text-requires : tie.Need-text-requires
 text-requires c κs = search (needs, table-spread)
 
--- src/component.rt:213:27
 start-requires : tie.Need-start-requires
 start-requires c κs = search needs
 
--- src/component.rt:213:42
 length-requires : tie.Need-length-requires
 length-requires c κs = search needs
 
--- src/component.rt:213:5
 stored-requires : tie.Need-stored-requires
 stored-requires c κs = search needs
 
--- src/component.rt:205:1
 returns : tie.Need-returns
 returns c = search (needs, placed-is)
 

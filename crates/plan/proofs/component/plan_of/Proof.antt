@@ -9,23 +9,18 @@ use Rattle.plan.proofs.component.head_left.Reads as head-left-reads
 use Rattle.plan.proofs.component.payload.Reads as payload-reads
 use Rattle.plan.proofs.component.pbp_payload.Reads as pbp-payload-reads
 
--- src/component.rt:135:19
 head-left-requires : tie.Need-head-left-requires
 head-left-requires c κs = search needs
 
--- src/component.rt:137:19
 boot-left-requires : tie.Need-boot-left-requires
 boot-left-requires c κs = search needs
 
--- src/component.rt:140:17
 payload-requires : tie.Need-payload-requires
 payload-requires c κs = search needs
 
--- src/component.rt:141:21
 pbp-payload-requires : tie.Need-pbp-payload-requires
 pbp-payload-requires c κs = search needs
 
--- src/component.rt:124:1
 returns : tie.Need-returns
 returns c = search (needs, planned-is)
 

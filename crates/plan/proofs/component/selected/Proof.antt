@@ -8,19 +8,15 @@ use Rattle.parse.proofs.entry.application_at.Reads as application-at-reads
 use Rattle.plan.proofs.component.component_of.Reads as component-of-reads
 use Rattle.plan.proofs.component.plan_of.Reads as plan-of-reads
 
--- src/component.rt:259:9
 application-at-requires : tie.Need-application-at-requires
 application-at-requires c κs = search needs
 
--- src/component.rt:261:30
 component-of-requires : tie.Need-component-of-requires
 component-of-requires c κs = search needs
 
--- src/component.rt:261:22
 plan-of-requires : tie.Need-plan-of-requires
 plan-of-requires c κs = search needs
 
--- src/component.rt:255:1
 returns : tie.Need-returns
 returns c = search (needs, selected-is)
 

@@ -11,31 +11,24 @@ use Rattle.plan.proofs.stem.leading.Reads as leading-reads
 use Rattle.tree.proofs.fields_at.Reads as fields-at-reads
 use Rattle.validate.proofs.component.there.Reads as there-reads
 
--- src/stem.rt:130:9
 leading-requires : tie.Need-leading-requires
 leading-requires c κs = search needs
 
--- src/stem.rt:131:8
 there-requires : tie.Need-there-requires
 there-requires c κs = search needs
 
--- src/stem.rt:132:9
 returns : tie.Need-returns
 returns c = search (needs, boot-stem-led)
 
--- src/stem.rt:134:9
 fields-at-requires : tie.Need-fields-at-requires
 fields-at-requires c κs = search needs
 
--- src/stem.rt:135:63
 lent-name-requires : tie.Need-lent-name-requires
 lent-name-requires c κs = search needs
 
--- src/stem.rt:135:9
 read-front-requires : tie.Need-read-front-requires
 read-front-requires c κs = search (needs, root-spread)
 
--- src/stem.rt:126:1
 returns-2 : tie.Need-returns-2
 returns-2 c = search (needs, boot-stem-board)
 

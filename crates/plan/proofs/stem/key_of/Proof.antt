@@ -6,19 +6,15 @@ use Rattle.plan.proofs.stem.key_of.Reads as reads
 use Rattle.plan.proofs.stem.key_of.Lts as lts
 use Rattle.tree.proofs.get.Reads as get-reads
 
--- src/stem.rt:145:9
 get-requires : tie.Need-get-requires
 get-requires c κs = search needs
 
--- src/stem.rt:147:15
 cast-t4 : tie.Need-cast-t4
 cast-t4 c = search needs
 
--- src/stem.rt:148:14
 cast-t5 : tie.Need-cast-t5
 cast-t5 c = search needs
 
--- src/stem.rt:141:1
 returns : tie.Need-returns
 returns c = search (needs, key-text)
 

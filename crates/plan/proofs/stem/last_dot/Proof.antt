@@ -11,31 +11,24 @@ Inv-loop s i₀ i = Backward s i
 abbrev μ-loop : tie.MeasureT-loop
 μ-loop s i₀ i = i
 
--- src/stem.rt:18:5
 loop-holds : tie.Need-loop-holds Inv-loop μ-loop
 loop-holds c = search (needs, dot-start)
 
--- src/stem.rt:19:9
 sub-i : tie.Need-sub-i Inv-loop μ-loop
 sub-i c = search needs
 
--- src/stem.rt:20:12
 shared-slice-read-if1 : tie.Need-shared-slice-read-if1 Inv-loop μ-loop
 shared-slice-read-if1 c = search needs
 
--- src/stem.rt:21:13
 returns : tie.Need-returns Inv-loop μ-loop
 returns c = search (needs, dot-hit)
 
--- src/stem.rt:18:5
 loop-less : tie.Need-loop-less Inv-loop μ-loop
 loop-less c = search needs
 
--- src/stem.rt:18:5
 loop-again : tie.Need-loop-again Inv-loop μ-loop
 loop-again c = search (needs, dot-on)
 
--- src/stem.rt:14:1
 returns-2 : tie.Need-returns-2 Inv-loop μ-loop
 returns-2 c = search (needs, dot-none)
 

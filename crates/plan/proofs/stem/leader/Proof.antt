@@ -19,51 +19,39 @@ Inv-loop tree store made place end from₀ from = Left (firstWith (leads tree st
 abbrev μ-loop : tie.MeasureT-loop
 μ-loop tree store made place end from₀ from = end - from
 
--- src/stem.rt:85:9
 component-list-requires : tie.Need-component-list-requires Inv-loop μ-loop
 component-list-requires c κs = search needs
 
--- src/stem.rt:89:5
 loop-holds : tie.Need-loop-holds Inv-loop μ-loop
 loop-holds c = search (needs, left-start)
 
--- src/stem.rt:90:13
 child-requires : tie.Need-child-requires Inv-loop μ-loop
 child-requires c κs = search (needs, components-hold)
 
--- src/stem.rt:92:31
 enum-told : tie.Need-enum-told Inv-loop μ-loop
 enum-told c = search needs
 
--- src/stem.rt:92:31
 returns : tie.Need-returns Inv-loop μ-loop
 returns c = search (needs, lead-none)
 
--- src/stem.rt:93:23
 enum-known-found : tie.Need-enum-known-found Inv-loop μ-loop
 enum-known-found c = search needs
 
--- src/stem.rt:94:20
 leads-requires : tie.Need-leads-requires Inv-loop μ-loop
 leads-requires c κs = search (needs, component-stood)
 
--- src/stem.rt:95:21
 returns-2 : tie.Need-returns-2 Inv-loop μ-loop
 returns-2 c = search (needs, lead-hit)
 
--- src/stem.rt:97:24
 add-from : tie.Need-add-from Inv-loop μ-loop
 add-from c = search (needs, component-fits)
 
--- src/stem.rt:89:5
 loop-less : tie.Need-loop-less Inv-loop μ-loop
 loop-less c = search (needs, item-less)
 
--- src/stem.rt:89:5
 loop-again : tie.Need-loop-again Inv-loop μ-loop
 loop-again c = search (needs, lead-on)
 
--- src/stem.rt:81:1
 returns-3 : tie.Need-returns-3 Inv-loop μ-loop
 returns-3 c = search (needs, lead-end)
 

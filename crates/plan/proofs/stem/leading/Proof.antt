@@ -12,47 +12,36 @@ use Rattle.plan.proofs.stem.stem_of.Reads as stem-of-reads
 use Rattle.schema.proofs.Text.or.Reads as or-reads
 use Rattle.tree.proofs.value_at.Reads as value-at-reads
 
--- src/stem.rt:109:9
 leader-requires : tie.Need-leader-requires
 leader-requires c κs = search needs
 
--- src/stem.rt:111:27
 enum-told : tie.Need-enum-told
 enum-told c = search needs
 
--- src/stem.rt:112:19
 enum-known-found : tie.Need-enum-known-found
 enum-known-found c = search needs
 
--- src/stem.rt:113:59
 value-at-requires : tie.Need-value-at-requires
 value-at-requires c κs = search (needs, leader-stood)
 
--- src/stem.rt:113:17
 entry-table-requires : tie.Need-entry-table-requires
 entry-table-requires c κs = search needs
 
--- src/stem.rt:115:17
 read-sources-requires : tie.Need-read-sources-requires
 read-sources-requires c κs = search (needs, table-spread)
 
--- src/stem.rt:119:31
 stem-of-requires : tie.Need-stem-of-requires
 stem-of-requires c κs = search needs
 
--- src/stem.rt:119:17
 or-requires : tie.Need-or-requires
 or-requires c κs = search needs
 
--- src/stem.rt:120:13
 or-requires-2 : tie.Need-or-requires-2
 or-requires-2 c κs = search needs
 
--- src/stem.rt:105:1
 returns : tie.Need-returns
 returns c = search (needs, leading-none)
 
--- src/stem.rt:105:1
 returns-2 : tie.Need-returns-2
 returns-2 c = search (needs, leading-is)
 

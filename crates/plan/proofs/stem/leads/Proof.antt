@@ -11,31 +11,24 @@ use Rattle.plan.proofs.component.placed.Reads as placed-reads
 use Rattle.plan.proofs.stem.is_app.Reads as is-app-reads
 use Rattle.tree.proofs.value_at.Reads as value-at-reads
 
--- src/stem.rt:70:8
 placed-requires : tie.Need-placed-requires
 placed-requires c κs = search needs
 
--- src/stem.rt:71:55
 value-at-requires : tie.Need-value-at-requires
 value-at-requires c κs = search needs
 
--- src/stem.rt:71:13
 entry-table-requires : tie.Need-entry-table-requires
 entry-table-requires c κs = search needs
 
--- src/stem.rt:73:13
 kind-requires : tie.Need-kind-requires
 kind-requires c κs = search (needs, table-spread)
 
--- src/stem.rt:75:9
 is-app-requires : tie.Need-is-app-requires
 is-app-requires c κs = search needs
 
--- src/stem.rt:75:9
 returns : tie.Need-returns
 returns c = search (needs, lead-is)
 
--- src/stem.rt:66:1
 returns-2 : tie.Need-returns-2
 returns-2 c = search (needs, lead-not)
 

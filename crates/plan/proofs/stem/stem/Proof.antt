@@ -7,35 +7,27 @@ use Rattle.plan.proofs.stem.stem.Lts as lts
 use Rattle.plan.proofs.stem.boot_stem.Reads as boot-stem-reads
 use Rattle.plan.proofs.stem.key_of.Reads as key-of-reads
 
--- src/stem.rt:158:30
 enum-told : tie.Need-enum-told
 enum-told c = search needs
 
--- src/stem.rt:158:30
 boot-stem-requires : tie.Need-boot-stem-requires
 boot-stem-requires c κs = search needs
 
--- src/stem.rt:159:31
 enum-told-2 : tie.Need-enum-told-2
 enum-told-2 c = search needs
 
--- src/stem.rt:160:32
 enum-known-c : tie.Need-enum-known-c
 enum-known-c c = search needs
 
--- src/stem.rt:160:43
 key-of-requires : tie.Need-key-of-requires
 key-of-requires c κs = search (needs, standing-stood)
 
--- src/stem.rt:153:1
 returns : tie.Need-returns
 returns c = search (needs, stem-is)
 
--- src/stem.rt:153:1
 returns-2 : tie.Need-returns-2
 returns-2 c = search (needs, stem-is)
 
--- src/stem.rt:153:1
 returns-3 : tie.Need-returns-3
 returns-3 c = search (needs, stem-is)
 

@@ -6,15 +6,12 @@ use Rattle.plan.proofs.stem.stem_length.Reads as reads
 use Rattle.plan.proofs.stem.stem_length.Lts as lts
 use Rattle.plan.proofs.stem.last_dot.Reads as last-dot-reads
 
--- src/stem.rt:31:9
 last-dot-requires : tie.Need-last-dot-requires
 last-dot-requires c κs = search needs
 
--- src/stem.rt:33:9
 returns : tie.Need-returns
 returns c = search (needs, stem-whole)
 
--- src/stem.rt:28:1
 returns-2 : tie.Need-returns-2
 returns-2 c = search (needs, stem-short)
 

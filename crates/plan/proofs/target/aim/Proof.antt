@@ -9,79 +9,60 @@ use Rattle.schema.proofs.Word.span.Reads as span-reads
 use Rattle.schema.proofs.stored.Reads as stored-reads
 use Rattle.validate.proofs.component.name_of.Reads as name-of-reads
 
--- src/target.rt:22:25
 enum-told : tie.Need-enum-told
 enum-told c = search needs
 
--- src/target.rt:23:24
 enum-known-t : tie.Need-enum-known-t
 enum-known-t c = search needs
 
--- src/target.rt:27:21
 stored-requires : tie.Need-stored-requires
 stored-requires c κs = search needs
 
--- src/target.rt:27:13
 name-of-requires : tie.Need-name-of-requires
 name-of-requires c κs = search needs
 
--- src/target.rt:23:39
 find-requires : tie.Need-find-requires
 find-requires c κs = search needs
 
--- src/target.rt:29:23
 enum-told-2 : tie.Need-enum-told-2
 enum-told-2 c = search needs
 
--- src/target.rt:30:21
 enum-known-t-2 : tie.Need-enum-known-t-2
 enum-known-t-2 c = search needs
 
--- src/target.rt:32:17
 span-requires : tie.Need-span-requires
 span-requires c κs = search needs
 
--- src/target.rt:35:55
 sub-name-of : tie.Need-sub-name-of
 sub-name-of c = search needs
 
--- src/target.rt:35:55
 part-name-of-start : tie.Need-part-name-of-start
 part-name-of-start c = search needs
 
--- src/target.rt:35:55
 part-name-of-end : tie.Need-part-name-of-end
 part-name-of-end c = search needs
 
--- src/target.rt:35:47
 name-of-requires-2 : tie.Need-name-of-requires-2
 name-of-requires-2 c κs = search needs
 
--- src/target.rt:35:13
 find-requires-2 : tie.Need-find-requires-2
 find-requires-2 c κs = search needs
 
--- src/target.rt:37:46
 enum-told-3 : tie.Need-enum-told-3
 enum-told-3 c = search needs
 
--- src/target.rt:17:1
 returns : tie.Need-returns
 returns c = search (needs, aim-absent)
 
--- src/target.rt:17:1
 returns-2 : tie.Need-returns-2
 returns-2 c = search (needs, aim-stored)
 
--- src/target.rt:17:1
 returns-3 : tie.Need-returns-3
 returns-3 c = search (needs, aim-lent)
 
--- src/target.rt:17:1
 returns-4 : tie.Need-returns-4
 returns-4 c = search (needs, aim-fixed)
 
--- src/target.rt:17:1
 returns-5 : tie.Need-returns-5
 returns-5 c = search (needs, aim-aic)
 

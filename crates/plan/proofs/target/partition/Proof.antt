@@ -9,35 +9,27 @@ use Rattle.parse.proofs.entry.read_partitions.Reads as read-partitions-reads
 use Rattle.parse.proofs.view.partition_list.Reads as partition-list-reads
 use Rattle.plan.proofs.target.aim.Reads as aim-reads
 
--- src/target.rt:46:9
 partition-list-requires : tie.Need-partition-list-requires
 partition-list-requires c κs = search needs
 
--- src/target.rt:47:9
 read-partitions-requires : tie.Need-read-partitions-requires
 read-partitions-requires c κs = search (needs, partitions-among)
 
--- src/target.rt:50:9
 returns : tie.Need-returns
 returns c = search (needs, target-none)
 
--- src/target.rt:54:9
 aim-requires : tie.Need-aim-requires
 aim-requires c κs = search (needs, target-fits)
 
--- src/target.rt:56:21
 mul-found : tie.Need-mul-found
 mul-found c = search (needs, target-scaled)
 
--- src/target.rt:56:21
 array-copy-out-found : tie.Need-array-copy-out-found
 array-copy-out-found c = search (needs, target-low)
 
--- src/target.rt:57:9
 returns-2 : tie.Need-returns-2
 returns-2 c = search (needs, target-found)
 
--- src/target.rt:42:1
 returns-3 : tie.Need-returns-3
 returns-3 c = search (needs, target-not)
 

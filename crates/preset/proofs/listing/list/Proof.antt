@@ -7,27 +7,21 @@ use Rattle.preset.proofs.listing.list.Lts as lts
 use Rattle.preset.proofs.listing.unlisted.Reads as unlisted-reads
 use Rattle.report.proofs.lines.Reads as lines-reads
 
--- src/lib.rt:52:9
 unlisted-requires : tie.Need-unlisted-requires
 unlisted-requires c κs = search needs
 
--- src/lib.rt:52:9
 same-length : tie.Need-same-length
 same-length c = search needs
 
--- src/lib.rt:52:9
 returns : tie.Need-returns
 returns c = search (needs, lined-not)
 
--- src/lib.rt:54:9
 lines-requires : tie.Need-lines-requires
 lines-requires c κs = search (needs, list-rooms)
 
--- src/lib.rt:47:1
 same-length-2 : tie.Need-same-length-2
 same-length-2 c = search needs
 
--- src/lib.rt:47:1
 returns-2 : tie.Need-returns-2
 returns-2 c = search (needs, lined-fine)
 

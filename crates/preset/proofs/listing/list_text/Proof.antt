@@ -10,59 +10,45 @@ use Rattle.preset.proofs.listing.list_tree.Reads as list-tree-reads
 use Rattle.preset.proofs.listing.unlisted.Reads as unlisted-reads
 use Rattle.preset.proofs.unread.Reads as unread-reads
 
--- src/lib.rt:92:9
 read-tree-requires : tie.Need-read-tree-requires
 read-tree-requires c κs = search needs
 
--- src/lib.rt:94:20
 enum-known-r : tie.Need-enum-known-r
 enum-known-r c = search needs
 
--- src/lib.rt:94:27
 list-tree-requires : tie.Need-list-tree-requires
 list-tree-requires c κs = search (needs, read-rooms)
 
--- src/lib.rt:95:23
 enum-known-r-2 : tie.Need-enum-known-r-2
 enum-known-r-2 c = search needs
 
--- src/lib.rt:95:50
 unread-requires : tie.Need-unread-requires
 unread-requires c κs = search needs
 
--- src/lib.rt:95:41
 unlisted-requires : tie.Need-unlisted-requires
 unlisted-requires c κs = search needs
 
--- src/lib.rt:89:1
 same-length : tie.Need-same-length
 same-length c = search needs
 
--- src/lib.rt:89:1
 same-length-2 : tie.Need-same-length-2
 same-length-2 c = search needs
 
--- src/lib.rt:89:1
 same-length-3 : tie.Need-same-length-3
 same-length-3 c = search needs
 
--- src/lib.rt:89:1
 returns : tie.Need-returns
 returns c = search (needs, planned-fine)
 
--- src/lib.rt:89:1
 same-length-4 : tie.Need-same-length-4
 same-length-4 c = search needs
 
--- src/lib.rt:89:1
 same-length-5 : tie.Need-same-length-5
 same-length-5 c = search needs
 
--- src/lib.rt:89:1
 same-length-6 : tie.Need-same-length-6
 same-length-6 c = search needs
 
--- src/lib.rt:89:1
 returns-2 : tie.Need-returns-2
 returns-2 c = search (needs, planned-refused)
 

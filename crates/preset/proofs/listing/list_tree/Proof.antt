@@ -8,35 +8,27 @@ use Rattle.preset.proofs.listing.list.Reads as list-reads
 use Rattle.plan.proofs.judge.Reads as judge-reads
 use Rattle.preset.proofs.settle.Reads as settle-reads
 
--- src/lib.rt:83:53
 slice-aggregate-judge : tie.Need-slice-aggregate-judge
 slice-aggregate-judge c = search needs
 
--- src/lib.rt:83:9
 judge-requires : tie.Need-judge-requires
 judge-requires c κs = search needs
 
--- src/lib.rt:84:9
 settle-requires : tie.Need-settle-requires
 settle-requires c κs = search needs
 
--- src/lib.rt:85:5
 list-requires : tie.Need-list-requires
 list-requires c κs = search (needs, tree-ready)
 
--- src/lib.rt:79:1
 same-length : tie.Need-same-length
 same-length c = search needs
 
--- src/lib.rt:79:1
 same-length-2 : tie.Need-same-length-2
 same-length-2 c = search needs
 
--- src/lib.rt:79:1
 same-length-3 : tie.Need-same-length-3
 same-length-3 c = search needs
 
--- src/lib.rt:79:1
 returns : tie.Need-returns
 returns c = search needs
 

@@ -8,47 +8,36 @@ use Rattle.preset.proofs.listing.list_text.Reads as list-text-reads
 use Rattle.preset.proofs.listing.no_room.Reads as no-room-reads
 use Rattle.preset.proofs.listing.short.Reads as short-reads
 
--- src/lib.rt:109:8
 short-requires : tie.Need-short-requires
 short-requires c κs = search needs
 
--- src/lib.rt:110:9
 no-room-requires : tie.Need-no-room-requires
 no-room-requires c κs = search needs
 
--- src/lib.rt:110:9
 same-length : tie.Need-same-length
 same-length c = search needs
 
--- src/lib.rt:110:9
 same-length-2 : tie.Need-same-length-2
 same-length-2 c = search needs
 
--- src/lib.rt:110:9
 same-length-3 : tie.Need-same-length-3
 same-length-3 c = search needs
 
--- src/lib.rt:110:9
 returns : tie.Need-returns
 returns c = search (needs, lists-short)
 
--- src/lib.rt:112:5
 list-text-requires : tie.Need-list-text-requires
 list-text-requires c κs = search needs
 
--- src/lib.rt:100:1
 same-length-4 : tie.Need-same-length-4
 same-length-4 c = search needs
 
--- src/lib.rt:100:1
 same-length-5 : tie.Need-same-length-5
 same-length-5 c = search needs
 
--- src/lib.rt:100:1
 same-length-6 : tie.Need-same-length-6
 same-length-6 c = search needs
 
--- src/lib.rt:100:1
 returns-2 : tie.Need-returns-2
 returns-2 c = search (needs, lists-long)
 

@@ -11,51 +11,39 @@ use Rattle.parse.proofs.field.text.Reads as text-reads
 use Rattle.tree.proofs.get.Reads as get-reads
 use Rattle.tree.proofs.value_at.Reads as value-at-reads
 
--- src/brief.rt:47:51
 value-at-requires : tie.Need-value-at-requires
 value-at-requires c κs = search needs
 
--- src/brief.rt:47:9
 entry-table-requires : tie.Need-entry-table-requires
 entry-table-requires c κs = search needs
 
--- src/brief.rt:49:9
 get-requires : tie.Need-get-requires
 get-requires c κs = search needs
 
--- src/brief.rt:51:15
 cast-t14 : tie.Need-cast-t14
 cast-t14 c = search needs
 
--- src/brief.rt:52:14
 cast-t15 : tie.Need-cast-t15
 cast-t15 c = search needs
 
--- src/brief.rt:54:48
 slice-aggregate-text : tie.Need-slice-aggregate-text
 slice-aggregate-text c = search needs
 
--- src/brief.rt:54:9
 text-requires : tie.Need-text-requires
 text-requires c κs = search (needs, table-spread)
 
--- src/brief.rt:55:48
 slice-aggregate-text-2 : tie.Need-slice-aggregate-text-2
 slice-aggregate-text-2 c = search needs
 
--- src/brief.rt:55:9
 text-requires-2 : tie.Need-text-requires-2
 text-requires-2 c κs = search (needs, table-spread)
 
--- src/brief.rt:58:15
 or-requires : tie.Need-or-requires
 or-requires c κs = search needs
 
--- src/brief.rt:59:20
 or-requires-2 : tie.Need-or-requires-2
 or-requires-2 c κs = search needs
 
--- src/brief.rt:43:1
 returns : tie.Need-returns
 returns c = search (needs, application-brief)
 

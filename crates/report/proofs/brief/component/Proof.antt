@@ -11,39 +11,30 @@ use Rattle.parse.proofs.field.kind.Reads as kind-reads
 use Rattle.parse.proofs.field.text.Reads as text-reads
 use Rattle.tree.proofs.value_at.Reads as value-at-reads
 
--- src/brief.rt:28:51
 value-at-requires : tie.Need-value-at-requires
 value-at-requires c κs = search needs
 
--- src/brief.rt:28:9
 entry-table-requires : tie.Need-entry-table-requires
 entry-table-requires c κs = search needs
 
--- src/brief.rt:30:9
 kind-requires : tie.Need-kind-requires
 kind-requires c κs = search (needs, table-spread)
 
--- src/brief.rt:31:48
 slice-aggregate-text : tie.Need-slice-aggregate-text
 slice-aggregate-text c = search needs
 
--- src/brief.rt:31:9
 text-requires : tie.Need-text-requires
 text-requires c κs = search (needs, table-spread)
 
--- src/brief.rt:32:48
 slice-aggregate-text-2 : tie.Need-slice-aggregate-text-2
 slice-aggregate-text-2 c = search needs
 
--- src/brief.rt:32:9
 text-requires-2 : tie.Need-text-requires-2
 text-requires-2 c κs = search (needs, table-spread)
 
--- src/brief.rt:38:20
 or-requires : tie.Need-or-requires
 or-requires c κs = search needs
 
--- src/brief.rt:24:1
 returns : tie.Need-returns
 returns c = search (needs, component-brief)
 

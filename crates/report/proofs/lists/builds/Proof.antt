@@ -19,47 +19,36 @@ Inv-loop out₀ at tree store made name items count to₀ i₀ out to i = Left (
 abbrev μ-loop : tie.MeasureT-loop
 μ-loop out₀ at tree store made name items count to₀ i₀ out to i = count - i
 
--- src/lists.rt:110:9
 builds-requires : tie.Need-builds-requires Inv-loop μ-loop
 builds-requires c κs = search needs
 
--- src/lists.rt:114:5
 loop-holds : tie.Need-loop-holds Inv-loop μ-loop
 loop-holds c = search (needs, left-start)
 
--- src/lists.rt:115:17
 mul-u : tie.Need-mul-u Inv-loop μ-loop
 mul-u c = search needs
 
--- src/lists.rt:115:17
 array-copy-out-u : tie.Need-array-copy-out-u Inv-loop μ-loop
 array-copy-out-u c = search needs
 
--- src/lists.rt:116:13
 build-at-requires : tie.Need-build-at-requires Inv-loop μ-loop
 build-at-requires c κs = search needs
 
--- src/lists.rt:117:9
 build-requires : tie.Need-build-requires Inv-loop μ-loop
 build-requires c κs = search needs
 
--- src/lists.rt:114:9
 add-i : tie.Need-add-i Inv-loop μ-loop
 add-i c = search needs
 
--- src/lists.rt:114:5
 loop-less : tie.Need-loop-less Inv-loop μ-loop
 loop-less c = search needs
 
--- src/lists.rt:114:5
 loop-again : tie.Need-loop-again Inv-loop μ-loop
 loop-again c = search (needs, builds-on)
 
--- src/lists.rt:99:1
 same-length : tie.Need-same-length Inv-loop μ-loop
 same-length c = search (needs, left-long)
 
--- src/lists.rt:99:1
 returns : tie.Need-returns Inv-loop μ-loop
 returns c = search (needs, builds-past)
 

@@ -6,45 +6,36 @@ use Rattle.scalar.proofs.integer.digit.Tie as tie
 use Rattle.scalar.proofs.integer.digit.Reads as reads
 use Rattle.scalar.proofs.integer.digit.Lts as lts
 
--- src/integer.rt:32:9
 sub-result : tie.Need-sub-result
 sub-result c = search needs
 
--- src/integer.rt:36:9
 sub-result-2 : tie.Need-sub-result-2
 sub-result-2 c = search needs
 
--- src/integer.rt:22:1
 returns : tie.Need-returns
 unfolding digit
 returns c = search tests
 
--- src/integer.rt:22:1
 returns-2 : tie.Need-returns-2
 unfolding digit
 returns-2 c = search tests
 
--- src/integer.rt:22:1
 returns-3 : tie.Need-returns-3
 unfolding digit
 returns-3 c = search tests
 
--- src/integer.rt:22:1
 returns-4 : tie.Need-returns-4
 unfolding digit
 returns-4 c = search tests
 
--- src/integer.rt:22:1
 returns-5 : tie.Need-returns-5
 unfolding digit
 returns-5 c = search tests
 
--- src/integer.rt:22:1
 returns-6 : tie.Need-returns-6
 unfolding digit
 returns-6 c = search tests
 
--- src/integer.rt:22:1
 returns-7 : tie.Need-returns-7
 unfolding digit
 returns-7 c = search tests

@@ -14,55 +14,42 @@ Inv-loop s from base limit i₀ acc₀ i acc = Counting s base limit from i acc
 abbrev μ-loop : tie.MeasureT-loop
 μ-loop s from base limit i₀ acc₀ i acc = length s - i
 
--- src/integer.rt:67:5
 loop-holds : tie.Need-loop-holds Inv-loop μ-loop
 loop-holds c = search (needs, count-start)
 
--- src/integer.rt:68:17
 shared-slice-read-b : tie.Need-shared-slice-read-b Inv-loop μ-loop
 shared-slice-read-b c = search needs
 
--- src/integer.rt:70:13
 add-i : tie.Need-add-i Inv-loop μ-loop
 add-i c = search needs
 
--- src/integer.rt:67:5
 loop-less : tie.Need-loop-less Inv-loop μ-loop
 loop-less c = search needs
 
--- src/integer.rt:67:5
 loop-again : tie.Need-loop-again Inv-loop μ-loop
 loop-again c = search (needs, count-over)
 
--- src/integer.rt:72:19
 more-requires : tie.Need-more-requires Inv-loop μ-loop
 more-requires c κs = search needs
 
--- src/integer.rt:73:31
 enum-known-v : tie.Need-enum-known-v Inv-loop μ-loop
 enum-known-v c = search needs
 
--- src/integer.rt:75:21
 add-i-2 : tie.Need-add-i-2 Inv-loop μ-loop
 add-i-2 c = search needs
 
--- src/integer.rt:67:5
 loop-less-2 : tie.Need-loop-less-2 Inv-loop μ-loop
 loop-less-2 c = search needs
 
--- src/integer.rt:67:5
 loop-again-2 : tie.Need-loop-again-2 Inv-loop μ-loop
 loop-again-2 c = search (needs, count-on)
 
--- src/integer.rt:78:21
 enum-told : tie.Need-enum-told Inv-loop μ-loop
 enum-told c = search needs
 
--- src/integer.rt:78:21
 returns : tie.Need-returns Inv-loop μ-loop
 returns c = search (needs, count-stop)
 
--- src/integer.rt:61:1
 returns-2 : tie.Need-returns-2 Inv-loop μ-loop
 returns-2 c = search (needs, count-end)
 

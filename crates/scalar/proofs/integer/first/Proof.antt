@@ -6,19 +6,15 @@ use Rattle.scalar.proofs.integer.first.Reads as reads
 use Rattle.scalar.proofs.integer.first.Lts as lts
 use Rattle.scalar.proofs.integer.skip.Reads as skip-reads
 
--- src/integer.rt:132:9
 skip-requires : tie.Need-skip-requires
 skip-requires c κs = search needs
 
--- src/integer.rt:133:22
 shared-slice-read-result : tie.Need-shared-slice-read-result
 shared-slice-read-result c = search needs
 
--- src/integer.rt:128:1
 returns : tie.Need-returns
 returns c = search (needs, first-in)
 
--- src/integer.rt:128:1
 returns-2 : tie.Need-returns-2
 returns-2 c = search (needs, first-out)
 

@@ -3,35 +3,27 @@ use borrow.Author.Needs.{needs}
 use Rattle.scalar.proofs.integer.magnitude.Statement.{statement}
 use Rattle.scalar.proofs.integer.magnitude.Tie as tie
 
--- src/integer.rt:150:8
 skip-requires : tie.Need-skip-requires
 skip-requires c κs = search needs
 
--- src/integer.rt:151:9
 returns : tie.Need-returns
 returns c = search (needs, none-left)
 
--- src/integer.rt:153:33
 most-requires : tie.Need-most-requires
 most-requires c κs = search needs
 
--- src/integer.rt:153:11
 digits-at-requires : tie.Need-digits-at-requires
 digits-at-requires c κs = search needs
 
--- src/integer.rt:154:23
 enum-known-n : tie.Need-enum-known-n
 enum-known-n c = search needs
 
--- src/integer.rt:155:26
 enum-told : tie.Need-enum-told
 enum-told c = search needs
 
--- src/integer.rt:146:1
 returns-2 : tie.Need-returns-2
 returns-2 c = search (needs, number)
 
--- src/integer.rt:146:1
 returns-3 : tie.Need-returns-3
 returns-3 c = search (needs, no-number)
 

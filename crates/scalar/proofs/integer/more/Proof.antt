@@ -7,43 +7,33 @@ use Rattle.scalar.proofs.integer.more.Reads as reads
 use Rattle.scalar.proofs.integer.more.Lts as lts
 use Rattle.scalar.proofs.integer.digit.Reads as digit-reads
 
--- src/integer.rt:46:13
 digit-requires : tie.Need-digit-requires
 digit-requires c κs = search needs
 
--- src/integer.rt:46:13
 cast-d : tie.Need-cast-d
 cast-d c = search needs
 
--- src/integer.rt:48:9
 returns : tie.Need-returns
 returns c = search (needs, more-stray)
 
--- src/integer.rt:50:8
 div-if2 : tie.Need-div-if2
 div-if2 c = search needs
 
--- src/integer.rt:51:9
 returns-2 : tie.Need-returns-2
 returns-2 c = search (needs, more-over)
 
--- src/integer.rt:53:13
 mul-m : tie.Need-mul-m
 mul-m c = omega (arith, under _ _ _ _ (c .before .if1 .left) (c .if2 .left))
 
--- src/integer.rt:54:8
 sub-if3 : tie.Need-sub-if3
 sub-if3 c = under _ _ _ _ (c .before .if1 .left) (c .if2 .left)
 
--- src/integer.rt:55:9
 returns-3 : tie.Need-returns-3
 returns-3 c = search (needs, more-big)
 
--- src/integer.rt:57:19
 add-t9 : tie.Need-add-t9
 add-t9 c = omega (arith, under _ _ _ _ (c .before .before .if1 .left) (c .before .if2 .left))
 
--- src/integer.rt:43:1
 returns-4 : tie.Need-returns-4
 returns-4 c = search (needs, more-fits)
 

@@ -5,12 +5,10 @@ use Rattle.scalar.proofs.integer.most.Tie as tie
 use Rattle.scalar.proofs.integer.most.Reads as reads
 use Rattle.scalar.proofs.integer.most.Lts as lts
 
--- src/integer.rt:87:1
 returns : tie.Need-returns
 unfolding most
 returns c = rw (c .if1 .taken)
 
--- src/integer.rt:87:1
 returns-2 : tie.Need-returns-2
 unfolding most
 returns-2 c = rw (c .if1 .left)

@@ -8,51 +8,39 @@ use Rattle.scalar.proofs.integer.first.Reads as first-reads
 use Rattle.scalar.proofs.integer.past.Reads as past-reads
 use Rattle.scalar.proofs.integer.sign.Reads as sign-reads
 
--- src/integer.rt:179:9
 first-requires : tie.Need-first-requires
 first-requires c κs = search needs
 
--- src/integer.rt:180:9
 past-requires : tie.Need-past-requires
 past-requires c κs = search needs
 
--- src/integer.rt:181:9
 first-requires-2 : tie.Need-first-requires-2
 first-requires-2 c κs = search needs
 
--- src/integer.rt:182:9
 past-requires-2 : tie.Need-past-requires-2
 past-requires-2 c κs = search needs
 
--- src/integer.rt:185:13
 sign-requires : tie.Need-sign-requires
 sign-requires c κs = search needs
 
--- src/integer.rt:185:13
 returns : tie.Need-returns
 returns c = search (needs, hex-small)
 
--- src/integer.rt:188:13
 sign-requires-2 : tie.Need-sign-requires-2
 sign-requires-2 c κs = search needs
 
--- src/integer.rt:188:13
 returns-2 : tie.Need-returns-2
 returns-2 c = search (needs, hex-large)
 
--- src/integer.rt:190:9
 sign-requires-3 : tie.Need-sign-requires-3
 sign-requires-3 c κs = search needs
 
--- src/integer.rt:190:9
 returns-3 : tie.Need-returns-3
 returns-3 c = search (needs, zero-first)
 
--- src/integer.rt:192:5
 sign-requires-4 : tie.Need-sign-requires-4
 sign-requires-4 c κs = search needs
 
--- src/integer.rt:176:1
 returns-4 : tie.Need-returns-4
 returns-4 c = search (needs, no-zero)
 

@@ -13,31 +13,24 @@ Inv-loop s i r₀ r = Skipping s i r
 abbrev μ-loop : tie.MeasureT-loop
 μ-loop s i r₀ r = length s - r
 
--- src/integer.rt:118:5
 loop-holds : tie.Need-loop-holds Inv-loop μ-loop
 loop-holds c = search (needs, skip-start)
 
--- src/integer.rt:119:12
 shared-slice-read-if1 : tie.Need-shared-slice-read-if1 Inv-loop μ-loop
 shared-slice-read-if1 c = search needs
 
--- src/integer.rt:120:13
 returns : tie.Need-returns Inv-loop μ-loop
 returns c = search (needs, skip-stop)
 
--- src/integer.rt:122:9
 add-r : tie.Need-add-r Inv-loop μ-loop
 add-r c = search needs
 
--- src/integer.rt:118:5
 loop-less : tie.Need-loop-less Inv-loop μ-loop
 loop-less c = search needs
 
--- src/integer.rt:118:5
 loop-again : tie.Need-loop-again Inv-loop μ-loop
 loop-again c = search (needs, skip-on)
 
--- src/integer.rt:113:1
 returns-2 : tie.Need-returns-2 Inv-loop μ-loop
 returns-2 c = search (needs, skip-end)
 

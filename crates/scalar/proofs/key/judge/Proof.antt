@@ -5,17 +5,14 @@ use Rattle.scalar.proofs.key.judge.Tie as tie
 use Rattle.scalar.proofs.key.judge.Reads as reads
 use Rattle.scalar.proofs.key.judge.Lts as lts
 
--- src/key.rt:66:13
 returns : tie.Need-returns
 unfolding judged
 returns c = search tests
 
--- src/key.rt:68:9
 returns-2 : tie.Need-returns-2
 unfolding judged
 returns-2 c = search tests
 
--- src/key.rt:61:1
 returns-3 : tie.Need-returns-3
 unfolding judged
 returns-3 c = search tests

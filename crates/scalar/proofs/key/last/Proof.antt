@@ -5,19 +5,15 @@ use Rattle.scalar.proofs.key.last.Tie as tie
 use Rattle.scalar.proofs.key.last.Reads as reads
 use Rattle.scalar.proofs.key.last.Lts as lts
 
--- src/key.rt:55:9
 returns : tie.Need-returns
 returns c = search (needs, none-last)
 
--- src/key.rt:57:7
 sub-result : tie.Need-sub-result
 sub-result c = search needs
 
--- src/key.rt:57:5
 shared-slice-read-result : tie.Need-shared-slice-read-result
 shared-slice-read-result c = search needs
 
--- src/key.rt:50:1
 returns-2 : tie.Need-returns-2
 returns-2 c = search needs
 

@@ -6,27 +6,21 @@ use Rattle.scalar.proofs.key.lay.Reads as reads
 use Rattle.scalar.proofs.key.lay.Lts as lts
 use Rattle.slices.proofs.copy.Reads as copy-reads
 
--- src/key.rt:78:21
 sub-copy : tie.Need-sub-copy
 sub-copy c = search needs
 
--- src/key.rt:78:21
 part-copy-start : tie.Need-part-copy-start
 part-copy-start c = search needs
 
--- src/key.rt:78:21
 part-copy-end : tie.Need-part-copy-end
 part-copy-end c = search needs
 
--- src/key.rt:78:5
 copy-requires : tie.Need-copy-requires
 copy-requires c κs = search (needs, room-copied)
 
--- src/key.rt:74:1
 same-length : tie.Need-same-length
 same-length c = search needs
 
--- src/key.rt:74:1
 returns : tie.Need-returns
 returns c = search (needs, copied)
 

@@ -6,23 +6,18 @@ use Rattle.scalar.proofs.key.put_bare.Reads as reads
 use Rattle.scalar.proofs.key.put_bare.Lts as lts
 use Rattle.scalar.proofs.key.lay.Reads as lay-reads
 
--- src/key.rt:87:5
 lay-requires : tie.Need-lay-requires
 lay-requires c κs = search needs
 
--- src/key.rt:89:9
 same-length : tie.Need-same-length
 same-length c = search needs
 
--- src/key.rt:89:9
 returns : tie.Need-returns
 returns c = search (needs, bare-empty)
 
--- src/key.rt:82:1
 same-length-2 : tie.Need-same-length-2
 same-length-2 c = search needs
 
--- src/key.rt:82:1
 returns-2 : tie.Need-returns-2
 returns-2 c = search (needs, bare-fine)
 

@@ -16,111 +16,84 @@ Inv-loop s store₀ used limit ends₀ n₀ at₀ i₀ store ends n at i = Split
 abbrev μ-loop : tie.MeasureT-loop
 μ-loop s store₀ used limit ends₀ n₀ at₀ i₀ store ends n at i = limit - n
 
--- src/key.rt:168:5
 loop-holds : tie.Need-loop-holds Inv-loop μ-loop
 loop-holds c = search (needs, split-start)
 
--- src/key.rt:169:30
 sub-find : tie.Need-sub-find Inv-loop μ-loop
 sub-find c = search needs
 
--- src/key.rt:169:30
 part-find-start : tie.Need-part-find-start Inv-loop μ-loop
 part-find-start c = search needs
 
--- src/key.rt:169:30
 part-find-end : tie.Need-part-find-end Inv-loop μ-loop
 part-find-end c = search needs
 
--- src/key.rt:169:13
 find-requires : tie.Need-find-requires Inv-loop μ-loop
 find-requires c κs = search needs
 
--- src/key.rt:170:17
 add-e : tie.Need-add-e Inv-loop μ-loop
 add-e c = search (needs, end-within)
 
--- src/key.rt:171:29
 sub-put-segment : tie.Need-sub-put-segment Inv-loop μ-loop
 sub-put-segment c = search needs
 
--- src/key.rt:171:29
 part-put-segment-start : tie.Need-part-put-segment-start Inv-loop μ-loop
 part-put-segment-start c = search needs
 
--- src/key.rt:171:29
 part-put-segment-end : tie.Need-part-put-segment-end Inv-loop μ-loop
 part-put-segment-end c = search (needs, end-fits)
 
--- src/key.rt:171:13
 put-segment-requires : tie.Need-put-segment-requires Inv-loop μ-loop
 put-segment-requires c κs = search (needs, part-room)
 
--- src/key.rt:173:9
 add-at : tie.Need-add-at Inv-loop μ-loop
 add-at c = search (needs, used-within)
 
--- src/key.rt:174:12
 is-fine-requires : tie.Need-is-fine-requires Inv-loop μ-loop
 is-fine-requires c κs = search needs
 
--- src/key.rt:175:13
 mul-ends : tie.Need-mul-ends Inv-loop μ-loop
 mul-ends c = search needs
 
--- src/key.rt:175:13
 array-write-ends : tie.Need-array-write-ends Inv-loop μ-loop
 array-write-ends c = search needs
 
--- src/key.rt:176:13
 add-n : tie.Need-add-n Inv-loop μ-loop
 add-n c = search needs
 
--- src/key.rt:178:17
 answered-requires : tie.Need-answered-requires Inv-loop μ-loop
 answered-requires c κs = search needs
 
--- src/key.rt:178:17
 same-length : tie.Need-same-length Inv-loop μ-loop
 same-length c = search needs
 
--- src/key.rt:178:17
 returns : tie.Need-returns Inv-loop μ-loop
 returns c = search (needs, split-last)
 
--- src/key.rt:180:17
 add-i : tie.Need-add-i Inv-loop μ-loop
 add-i c = search needs
 
--- src/key.rt:168:5
 loop-less : tie.Need-loop-less Inv-loop μ-loop
 loop-less c = search needs
 
--- src/key.rt:168:5
 loop-again : tie.Need-loop-again Inv-loop μ-loop
 loop-again c = search (needs, split-on)
 
--- src/key.rt:182:13
 answered-requires-2 : tie.Need-answered-requires-2 Inv-loop μ-loop
 answered-requires-2 c κs = search needs
 
--- src/key.rt:182:13
 same-length-2 : tie.Need-same-length-2 Inv-loop μ-loop
 same-length-2 c = search needs
 
--- src/key.rt:182:13
 returns-2 : tie.Need-returns-2 Inv-loop μ-loop
 returns-2 c = search (needs, split-refused)
 
--- src/key.rt:185:5
 answered-requires-3 : tie.Need-answered-requires-3 Inv-loop μ-loop
 answered-requires-3 c κs = search needs
 
--- src/key.rt:160:1
 same-length-3 : tie.Need-same-length-3 Inv-loop μ-loop
 same-length-3 c = search needs
 
--- src/key.rt:160:1
 returns-3 : tie.Need-returns-3 Inv-loop μ-loop
 returns-3 c = search (needs, split-over)
 

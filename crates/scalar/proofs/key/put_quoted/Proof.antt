@@ -8,51 +8,39 @@ use Rattle.scalar.proofs.key.judge.Reads as judge-reads
 use Rattle.scalar.proofs.key.last.Reads as last-reads
 use Rattle.scalar.proofs.string.put_string.Reads as put-string-reads
 
--- src/key.rt:105:9
 last-requires : tie.Need-last-requires
 last-requires c κs = search needs
 
--- src/key.rt:106:9
 put-string-requires : tie.Need-put-string-requires
 put-string-requires c κs = search needs
 
--- src/key.rt:108:34
 enum-known-d : tie.Need-enum-known-d
 enum-known-d c = search needs
 
--- src/key.rt:109:17
 judge-requires : tie.Need-judge-requires
 judge-requires c κs = search needs
 
--- src/key.rt:115:34
 enum-known-d-2 : tie.Need-enum-known-d-2
 enum-known-d-2 c = search needs
 
--- src/key.rt:119:28
 enum-known-d-3 : tie.Need-enum-known-d-3
 enum-known-d-3 c = search needs
 
--- src/key.rt:101:1
 same-length : tie.Need-same-length
 same-length c = search needs
 
--- src/key.rt:101:1
 returns : tie.Need-returns
 returns c = search (needs, quoted-closed)
 
--- src/key.rt:101:1
 same-length-2 : tie.Need-same-length-2
 same-length-2 c = search needs
 
--- src/key.rt:101:1
 returns-2 : tie.Need-returns-2
 returns-2 c = search (needs, quoted-escape)
 
--- src/key.rt:101:1
 same-length-3 : tie.Need-same-length-3
 same-length-3 c = search needs
 
--- src/key.rt:101:1
 returns-3 : tie.Need-returns-3
 returns-3 c = search (needs, quoted-unended)
 

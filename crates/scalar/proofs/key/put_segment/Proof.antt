@@ -7,31 +7,24 @@ use Rattle.scalar.proofs.key.put_segment.Lts as lts
 use Rattle.chars.proofs.trim.Reads as trim-reads
 use Rattle.scalar.proofs.key.put_trimmed.Reads as put-trimmed-reads
 
--- src/key.rt:142:9
 trim-requires : tie.Need-trim-requires
 trim-requires c κs = search needs
 
--- src/key.rt:145:17
 sub-put-trimmed : tie.Need-sub-put-trimmed
 sub-put-trimmed c = search needs
 
--- src/key.rt:145:17
 part-put-trimmed-start : tie.Need-part-put-trimmed-start
 part-put-trimmed-start c = search needs
 
--- src/key.rt:145:17
 part-put-trimmed-end : tie.Need-part-put-trimmed-end
 part-put-trimmed-end c = search needs
 
--- src/key.rt:145:5
 put-trimmed-requires : tie.Need-put-trimmed-requires
 put-trimmed-requires c κs = search (needs, trimmed-room)
 
--- src/key.rt:138:1
 same-length : tie.Need-same-length
 same-length c = search needs
 
--- src/key.rt:138:1
 returns : tie.Need-returns
 returns c = search (needs, trimmed-part)
 

@@ -8,43 +8,33 @@ use Rattle.scalar.proofs.key.put_bare.Reads as put-bare-reads
 use Rattle.scalar.proofs.key.put_quoted.Reads as put-quoted-reads
 use Rattle.slices.proofs.peek.Reads as peek-reads
 
--- src/key.rt:131:8
 peek-requires : tie.Need-peek-requires
 peek-requires c κs = search needs
 
--- src/key.rt:132:27
 sub-put-quoted : tie.Need-sub-put-quoted
 sub-put-quoted c = search (needs, some-there)
 
--- src/key.rt:132:27
 part-put-quoted-start : tie.Need-part-put-quoted-start
 part-put-quoted-start c = search (needs, some-there)
 
--- src/key.rt:132:27
 part-put-quoted-end : tie.Need-part-put-quoted-end
 part-put-quoted-end c = search needs
 
--- src/key.rt:132:9
 put-quoted-requires : tie.Need-put-quoted-requires
 put-quoted-requires c κs = search (needs, quoted-room)
 
--- src/key.rt:132:9
 same-length : tie.Need-same-length
 same-length c = search needs
 
--- src/key.rt:132:9
 returns : tie.Need-returns
 returns c = search (needs, trimmed-quoted)
 
--- src/key.rt:134:5
 put-bare-requires : tie.Need-put-bare-requires
 put-bare-requires c κs = search needs
 
--- src/key.rt:127:1
 same-length-2 : tie.Need-same-length-2
 same-length-2 c = search needs
 
--- src/key.rt:127:1
 returns-2 : tie.Need-returns-2
 returns-2 c = search (needs, trimmed-bare)
 

@@ -5,47 +5,38 @@ use Rattle.scalar.proofs.string.act.Tie as tie
 use Rattle.scalar.proofs.string.act.Reads as reads
 use Rattle.scalar.proofs.string.act.Lts as lts
 
--- src/string.rt:23:13
 returns : tie.Need-returns
 unfolding act
 returns c = search tests
 
--- src/string.rt:26:13
 returns-2 : tie.Need-returns-2
 unfolding act
 returns-2 c = search tests
 
--- src/string.rt:28:9
 returns-3 : tie.Need-returns-3
 unfolding act
 returns-3 c = search tests
 
--- src/string.rt:31:9
 returns-4 : tie.Need-returns-4
 unfolding act
 returns-4 c = search tests
 
--- src/string.rt:34:9
 returns-5 : tie.Need-returns-5
 unfolding act
 returns-5 c = search tests
 
--- src/string.rt:37:9
 returns-6 : tie.Need-returns-6
 unfolding act
 returns-6 c = search tests
 
--- src/string.rt:40:9
 returns-7 : tie.Need-returns-7
 unfolding act
 returns-7 c = search tests
 
--- src/string.rt:43:9
 returns-8 : tie.Need-returns-8
 unfolding act
 returns-8 c = search tests
 
--- src/string.rt:18:1
 returns-9 : tie.Need-returns-9
 unfolding act
 returns-9 c = search tests

@@ -14,91 +14,69 @@ Inv-loop src out₀ i₀ at₀ n₀ st₀ out i at n st = Reading src out₀ out
 abbrev μ-loop : tie.MeasureT-loop
 μ-loop src out₀ i₀ at₀ n₀ st₀ out i at n st = length src - i
 
--- src/string.rt:57:5
 loop-holds : tie.Need-loop-holds Inv-loop μ-loop
 loop-holds c = search (needs, start)
 
--- src/string.rt:58:25
 shared-slice-read-act : tie.Need-shared-slice-read-act Inv-loop μ-loop
 shared-slice-read-act c = search needs
 
--- src/string.rt:58:13
 act-requires : tie.Need-act-requires Inv-loop μ-loop
 act-requires c κs = search needs
 
--- src/string.rt:62:27
 enum-told : tie.Need-enum-told Inv-loop μ-loop
 enum-told c = search needs
 
--- src/string.rt:62:27
 add-t13 : tie.Need-add-t13 Inv-loop μ-loop
 add-t13 c = search needs
 
--- src/string.rt:61:17
 same-length : tie.Need-same-length Inv-loop μ-loop
 same-length c = search needs
 
--- src/string.rt:61:17
 returns : tie.Need-returns Inv-loop μ-loop
 returns c = search (needs, closed-out)
 
--- src/string.rt:67:17
 enum-told-2 : tie.Need-enum-told-2 Inv-loop μ-loop
 enum-told-2 c = search needs
 
--- src/string.rt:67:17
 same-length-2 : tie.Need-same-length-2 Inv-loop μ-loop
 same-length-2 c = search needs
 
--- src/string.rt:67:17
 returns-2 : tie.Need-returns-2 Inv-loop μ-loop
 returns-2 c = search (needs, escape-out)
 
--- src/string.rt:70:17
 enum-told-3 : tie.Need-enum-told-3 Inv-loop μ-loop
 enum-told-3 c = search needs
 
--- src/string.rt:72:17
 add-i : tie.Need-add-i Inv-loop μ-loop
 add-i c = search needs
 
--- src/string.rt:57:5
 loop-less : tie.Need-loop-less Inv-loop μ-loop
 loop-less c = search needs
 
--- src/string.rt:57:5
 loop-again : tie.Need-loop-again Inv-loop μ-loop
 loop-again c = search (needs, hold-on)
 
--- src/string.rt:74:22
 enum-known-a : tie.Need-enum-known-a Inv-loop μ-loop
 enum-known-a c = search needs
 
--- src/string.rt:75:17
 slice-write-out : tie.Need-slice-write-out Inv-loop μ-loop
 slice-write-out c = search needs
 
--- src/string.rt:76:17
 add-n : tie.Need-add-n Inv-loop μ-loop
 add-n c = search needs
 
--- src/string.rt:78:17
 add-i-2 : tie.Need-add-i-2 Inv-loop μ-loop
 add-i-2 c = search needs
 
--- src/string.rt:57:5
 loop-less-2 : tie.Need-loop-less-2 Inv-loop μ-loop
 loop-less-2 c = search needs
 
--- src/string.rt:57:5
 loop-again-2 : tie.Need-loop-again-2 Inv-loop μ-loop
 loop-again-2 c = search (needs, put-on)
 
--- src/string.rt:49:1
 same-length-3 : tie.Need-same-length-3 Inv-loop μ-loop
 same-length-3 c = search needs
 
--- src/string.rt:49:1
 returns-3 : tie.Need-returns-3 Inv-loop μ-loop
 returns-3 c = search (needs, unended-out)
 

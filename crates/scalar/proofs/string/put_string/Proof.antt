@@ -6,27 +6,21 @@ use Rattle.scalar.proofs.string.put_string.Reads as reads
 use Rattle.scalar.proofs.string.put_string.Lts as lts
 use Rattle.scalar.proofs.string.decode.Reads as decode-reads
 
--- src/string.rt:91:17
 sub-decode : tie.Need-sub-decode
 sub-decode c = search needs
 
--- src/string.rt:91:17
 part-decode-start : tie.Need-part-decode-start
 part-decode-start c = search needs
 
--- src/string.rt:91:17
 part-decode-end : tie.Need-part-decode-end
 part-decode-end c = search needs
 
--- src/string.rt:91:5
 decode-requires : tie.Need-decode-requires
 decode-requires c κs = search (needs, room-lent)
 
--- src/string.rt:87:1
 same-length : tie.Need-same-length
 same-length c = search needs
 
--- src/string.rt:87:1
 returns : tie.Need-returns
 returns c = search (needs, lent)
 

@@ -7,15 +7,12 @@ use Rattle.schema.proofs.Chip.erase_size.Lts as lts
 use Rattle.schema.proofs.Chip.default_media.Reads as default-media-reads
 use Rattle.schema.proofs.Media.erase_size.Reads as erase-size-reads
 
--- src/lib.rt:315:13
 default-media-requires : tie.Need-default-media-requires
 default-media-requires c κs = search needs
 
--- src/lib.rt:316:9
 erase-size-requires : tie.Need-erase-size-requires
 erase-size-requires c κs = search needs
 
--- src/lib.rt:312:5
 returns : tie.Need-returns
 returns c = search (needs, erase-chip)
 

@@ -7,25 +7,20 @@ use Rattle.schema.proofs.Chip.parse.Reads as reads
 use Rattle.schema.proofs.Chip.parse.Lts as lts
 use Rattle.schema.proofs.Word.is.Reads as is-reads
 
--- src/lib.rt:267:12
 is-requires : tie.Need-is-requires
 is-requires c κs = search needs
 
--- src/lib.rt:268:13
 returns : tie.Need-returns
 unfolding chipRead
 returns c = search calls
 
--- src/lib.rt:273:12
 is-requires-2 : tie.Need-is-requires-2
 is-requires-2 c κs = search needs
 
--- src/lib.rt:274:13
 returns-2 : tie.Need-returns-2
 unfolding chipRead
 returns-2 c = search calls
 
--- src/lib.rt:264:5
 returns-3 : tie.Need-returns-3
 unfolding chipRead
 returns-3 c = search calls

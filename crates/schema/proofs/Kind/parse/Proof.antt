@@ -7,34 +7,27 @@ use Rattle.schema.proofs.Kind.parse.Reads as reads
 use Rattle.schema.proofs.Kind.parse.Lts as lts
 use Rattle.schema.proofs.Word.is.Reads as is-reads
 
--- src/lib.rt:369:12
 is-requires : tie.Need-is-requires
 is-requires c κs = search needs
 
--- src/lib.rt:370:13
 returns : tie.Need-returns
 unfolding kindRead
 returns c = search calls
 
--- src/lib.rt:375:12
 is-requires-2 : tie.Need-is-requires-2
 is-requires-2 c κs = search needs
 
--- src/lib.rt:376:13
 returns-2 : tie.Need-returns-2
 unfolding kindRead
 returns-2 c = search calls
 
--- src/lib.rt:381:12
 is-requires-3 : tie.Need-is-requires-3
 is-requires-3 c κs = search needs
 
--- src/lib.rt:382:13
 returns-3 : tie.Need-returns-3
 unfolding kindRead
 returns-3 c = search calls
 
--- src/lib.rt:366:5
 returns-4 : tie.Need-returns-4
 unfolding kindRead
 returns-4 c = search calls

@@ -7,25 +7,20 @@ use Rattle.schema.proofs.Media.parse.Reads as reads
 use Rattle.schema.proofs.Media.parse.Lts as lts
 use Rattle.schema.proofs.Word.is.Reads as is-reads
 
--- src/lib.rt:328:12
 is-requires : tie.Need-is-requires
 is-requires c κs = search needs
 
--- src/lib.rt:329:13
 returns : tie.Need-returns
 unfolding mediaRead
 returns c = search calls
 
--- src/lib.rt:334:12
 is-requires-2 : tie.Need-is-requires-2
 is-requires-2 c κs = search needs
 
--- src/lib.rt:335:13
 returns-2 : tie.Need-returns-2
 unfolding mediaRead
 returns-2 c = search calls
 
--- src/lib.rt:325:5
 returns-3 : tie.Need-returns-3
 unfolding mediaRead
 returns-3 c = search calls

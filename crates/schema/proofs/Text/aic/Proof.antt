@@ -5,43 +5,33 @@ use Rattle.schema.proofs.Text.aic.Tie as tie
 use Rattle.schema.proofs.Text.aic.Reads as reads
 use Rattle.schema.proofs.Text.aic.Lts as lts
 
--- src/lib.rt:437:28
 enum-known-self : tie.Need-enum-known-self
 enum-known-self c = search (needs, aic-is)
 
--- src/lib.rt:441:29
 enum-told : tie.Need-enum-told
 enum-told c = search (needs, aic-is)
 
--- src/lib.rt:442:27
 enum-told-2 : tie.Need-enum-told-2
 enum-told-2 c = search (needs, aic-is)
 
--- src/lib.rt:443:31
 enum-told-3 : tie.Need-enum-told-3
 enum-told-3 c = search (needs, aic-is)
 
--- src/lib.rt:444:50
 enum-told-4 : tie.Need-enum-told-4
 enum-told-4 c = search (needs, aic-is)
 
--- src/lib.rt:433:5
 returns : tie.Need-returns
 returns c = search (needs, aic-is)
 
--- src/lib.rt:433:5
 returns-2 : tie.Need-returns-2
 returns-2 c = search (needs, aic-is)
 
--- src/lib.rt:433:5
 returns-3 : tie.Need-returns-3
 returns-3 c = search (needs, aic-is)
 
--- src/lib.rt:433:5
 returns-4 : tie.Need-returns-4
 returns-4 c = search (needs, aic-is)
 
--- src/lib.rt:433:5
 returns-5 : tie.Need-returns-5
 returns-5 c = search (needs, aic-is)
 

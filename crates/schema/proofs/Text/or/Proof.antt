@@ -5,43 +5,33 @@ use Rattle.schema.proofs.Text.or.Tie as tie
 use Rattle.schema.proofs.Text.or.Reads as reads
 use Rattle.schema.proofs.Text.or.Lts as lts
 
--- src/lib.rt:418:29
 enum-told : tie.Need-enum-told
 enum-told c = search needs
 
--- src/lib.rt:419:28
 enum-known-self : tie.Need-enum-known-self
 enum-known-self c = search needs
 
--- src/lib.rt:423:27
 enum-told-2 : tie.Need-enum-told-2
 enum-told-2 c = search needs
 
--- src/lib.rt:424:25
 enum-known-self-2 : tie.Need-enum-known-self-2
 enum-known-self-2 c = search needs
 
--- src/lib.rt:425:29
 enum-known-self-3 : tie.Need-enum-known-self-3
 enum-known-self-3 c = search needs
 
--- src/lib.rt:414:5
 returns : tie.Need-returns
 returns c = search needs
 
--- src/lib.rt:414:5
 returns-2 : tie.Need-returns-2
 returns-2 c = search (needs, or-stored)
 
--- src/lib.rt:414:5
 returns-3 : tie.Need-returns-3
 returns-3 c = search needs
 
--- src/lib.rt:414:5
 returns-4 : tie.Need-returns-4
 returns-4 c = search (needs, or-fixed)
 
--- src/lib.rt:414:5
 returns-5 : tie.Need-returns-5
 returns-5 c = search (needs, or-aic)
 

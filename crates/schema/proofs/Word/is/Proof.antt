@@ -7,27 +7,21 @@ use Rattle.schema.proofs.Word.is.Lts as lts
 use Rattle.schema.proofs.Word.span.Reads as span-reads
 use Rattle.slices.proofs.same.Reads as same-reads
 
--- src/lib.rt:224:13
 span-requires : tie.Need-span-requires
 span-requires c κs = search needs
 
--- src/lib.rt:227:25
 sub-same : tie.Need-sub-same
 sub-same c = search needs
 
--- src/lib.rt:227:25
 part-same-start : tie.Need-part-same-start
 part-same-start c = search needs
 
--- src/lib.rt:227:25
 part-same-end : tie.Need-part-same-end
 part-same-end c = search needs
 
--- src/lib.rt:227:9
 same-requires : tie.Need-same-requires
 same-requires c κs = search needs
 
--- src/lib.rt:220:5
 returns : tie.Need-returns
 returns c = search (needs, word-is)
 

@@ -7,43 +7,33 @@ use Rattle.schema.proofs.Word.put.Lts as lts
 use Rattle.schema.proofs.Word.span.Reads as span-reads
 use Rattle.slices.proofs.copy.Reads as copy-reads
 
--- src/lib.rt:235:13
 span-requires : tie.Need-span-requires
 span-requires c κs = search needs
 
--- src/lib.rt:238:24
 sub-if1 : tie.Need-sub-if1
 sub-if1 c = search needs
 
--- src/lib.rt:239:13
 returns : tie.Need-returns
 returns c = search (needs, put-short)
 
--- src/lib.rt:241:22
 sub-copy : tie.Need-sub-copy
 sub-copy c = search needs
 
--- src/lib.rt:241:22
 part-copy-start : tie.Need-part-copy-start
 part-copy-start c = search needs
 
--- src/lib.rt:241:22
 part-copy-end : tie.Need-part-copy-end
 part-copy-end c = search needs
 
--- src/lib.rt:241:9
 copy-requires : tie.Need-copy-requires
 copy-requires c κs = search needs
 
--- src/lib.rt:242:9
 sub-result : tie.Need-sub-result
 sub-result c = search needs
 
--- src/lib.rt:231:5
 same-length : tie.Need-same-length
 same-length c = search needs
 
--- src/lib.rt:231:5
 returns-2 : tie.Need-returns-2
 returns-2 c = search (needs, put-long)
 

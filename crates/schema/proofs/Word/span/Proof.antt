@@ -5,139 +5,105 @@ use Rattle.schema.proofs.Word.span.Tie as tie
 use Rattle.schema.proofs.Word.span.Reads as reads
 use Rattle.schema.proofs.Word.span.Lts as lts
 
--- src/lib.rt:199:28
 enum-told : tie.Need-enum-told
 enum-told c = search needs
 
--- src/lib.rt:200:30
 enum-told-2 : tie.Need-enum-told-2
 enum-told-2 c = search needs
 
--- src/lib.rt:201:30
 enum-told-3 : tie.Need-enum-told-3
 enum-told-3 c = search needs
 
--- src/lib.rt:202:30
 enum-told-4 : tie.Need-enum-told-4
 enum-told-4 c = search needs
 
--- src/lib.rt:203:31
 enum-told-5 : tie.Need-enum-told-5
 enum-told-5 c = search needs
 
--- src/lib.rt:204:31
 enum-told-6 : tie.Need-enum-told-6
 enum-told-6 c = search needs
 
--- src/lib.rt:205:26
 enum-told-7 : tie.Need-enum-told-7
 enum-told-7 c = search needs
 
--- src/lib.rt:206:32
 enum-told-8 : tie.Need-enum-told-8
 enum-told-8 c = search needs
 
--- src/lib.rt:207:27
 enum-told-9 : tie.Need-enum-told-9
 enum-told-9 c = search needs
 
--- src/lib.rt:208:27
 enum-told-10 : tie.Need-enum-told-10
 enum-told-10 c = search needs
 
--- src/lib.rt:209:31
 enum-told-11 : tie.Need-enum-told-11
 enum-told-11 c = search needs
 
--- src/lib.rt:210:31
 enum-told-12 : tie.Need-enum-told-12
 enum-told-12 c = search needs
 
--- src/lib.rt:211:29
 enum-told-13 : tie.Need-enum-told-13
 enum-told-13 c = search needs
 
--- src/lib.rt:212:30
 enum-told-14 : tie.Need-enum-told-14
 enum-told-14 c = search needs
 
--- src/lib.rt:213:26
 enum-told-15 : tie.Need-enum-told-15
 enum-told-15 c = search needs
 
--- src/lib.rt:214:26
 enum-told-16 : tie.Need-enum-told-16
 enum-told-16 c = search needs
 
--- src/lib.rt:215:26
 enum-told-17 : tie.Need-enum-told-17
 enum-told-17 c = search needs
 
--- src/lib.rt:195:5
 returns : tie.Need-returns
 returns c = search (needs, span-is)
 
--- src/lib.rt:195:5
 returns-2 : tie.Need-returns-2
 returns-2 c = search (needs, span-is)
 
--- src/lib.rt:195:5
 returns-3 : tie.Need-returns-3
 returns-3 c = search (needs, span-is)
 
--- src/lib.rt:195:5
 returns-4 : tie.Need-returns-4
 returns-4 c = search (needs, span-is)
 
--- src/lib.rt:195:5
 returns-5 : tie.Need-returns-5
 returns-5 c = search (needs, span-is)
 
--- src/lib.rt:195:5
 returns-6 : tie.Need-returns-6
 returns-6 c = search (needs, span-is)
 
--- src/lib.rt:195:5
 returns-7 : tie.Need-returns-7
 returns-7 c = search (needs, span-is)
 
--- src/lib.rt:195:5
 returns-8 : tie.Need-returns-8
 returns-8 c = search (needs, span-is)
 
--- src/lib.rt:195:5
 returns-9 : tie.Need-returns-9
 returns-9 c = search (needs, span-is)
 
--- src/lib.rt:195:5
 returns-10 : tie.Need-returns-10
 returns-10 c = search (needs, span-is)
 
--- src/lib.rt:195:5
 returns-11 : tie.Need-returns-11
 returns-11 c = search (needs, span-is)
 
--- src/lib.rt:195:5
 returns-12 : tie.Need-returns-12
 returns-12 c = search (needs, span-is)
 
--- src/lib.rt:195:5
 returns-13 : tie.Need-returns-13
 returns-13 c = search (needs, span-is)
 
--- src/lib.rt:195:5
 returns-14 : tie.Need-returns-14
 returns-14 c = search (needs, span-is)
 
--- src/lib.rt:195:5
 returns-15 : tie.Need-returns-15
 returns-15 c = search (needs, span-is)
 
--- src/lib.rt:195:5
 returns-16 : tie.Need-returns-16
 returns-16 c = search (needs, span-is)
 
--- src/lib.rt:195:5
 returns-17 : tie.Need-returns-17
 returns-17 c = search (needs, span-is)
 

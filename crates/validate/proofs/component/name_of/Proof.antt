@@ -7,39 +7,30 @@ use Rattle.validate.proofs.component.name_of.Lts as lts
 use Rattle.chars.proofs.trim.Reads as trim-reads
 use Rattle.slices.proofs.find.Reads as find-reads
 
--- src/component.rt:154:9
 find-requires : tie.Need-find-requires
 find-requires c κs = search needs
 
--- src/component.rt:155:15
 sub-cut : tie.Need-sub-cut
 sub-cut c = search needs
 
--- src/component.rt:155:15
 part-cut-start : tie.Need-part-cut-start
 part-cut-start c = search needs
 
--- src/component.rt:155:15
 part-cut-end : tie.Need-part-cut-end
 part-cut-end c = search needs
 
--- src/component.rt:156:9
 trim-requires : tie.Need-trim-requires
 trim-requires c κs = search needs
 
--- src/component.rt:159:5
 sub-result : tie.Need-sub-result
 sub-result c = search needs
 
--- src/component.rt:159:5
 part-result-start : tie.Need-part-result-start
 part-result-start c = search needs
 
--- src/component.rt:159:5
 part-result-end : tie.Need-part-result-end
 part-result-end c = search needs
 
--- src/component.rt:151:1
 returns : tie.Need-returns
 returns c = search (needs, name-done)
 

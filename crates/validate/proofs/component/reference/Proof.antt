@@ -9,23 +9,18 @@ use Rattle.schema.proofs.Text.start.Reads as start-reads
 use Rattle.schema.proofs.stored.Reads as stored-reads
 use Rattle.validate.proofs.component.name_of.Reads as name-of-reads
 
--- src/component.rt:166:35
 start-requires : tie.Need-start-requires
 start-requires c κs = search needs
 
--- src/component.rt:166:46
 length-requires : tie.Need-length-requires
 length-requires c κs = search needs
 
--- src/component.rt:166:13
 stored-requires : tie.Need-stored-requires
 stored-requires c κs = search needs
 
--- src/component.rt:166:5
 name-of-requires : tie.Need-name-of-requires
 name-of-requires c κs = search needs
 
--- src/component.rt:163:1
 returns : tie.Need-returns
 returns c = search (needs, reference-done)
 

@@ -9,59 +9,45 @@ use Rattle.validate.proofs.front.device_fault.Reads as device-fault-rea
 use Rattle.validate.proofs.front.size.Reads as size-reads
 use Rattle.validate.proofs.front.target_fault.Reads as target-fault-reads
 
--- src/front.rt:174:9
 device-fault-requires : tie.Need-device-fault-requires
 device-fault-requires c κs = search needs
 
--- src/front.rt:176:9
 told-requires : tie.Need-told-requires
 told-requires c κs = search needs
 
--- src/front.rt:176:9
 returns : tie.Need-returns
 returns c = search (needs, ruled-device)
 
--- src/front.rt:179:8
 size-requires : tie.Need-size-requires
 size-requires c κs = search needs
 
--- src/front.rt:180:9
 told-requires-2 : tie.Need-told-requires-2
 told-requires-2 c κs = search needs
 
--- src/front.rt:180:9
 returns-2 : tie.Need-returns-2
 returns-2 c = search (needs, ruled-profile)
 
--- src/front.rt:183:13
 size-requires-2 : tie.Need-size-requires-2
 size-requires-2 c κs = search needs
 
--- src/front.rt:184:9
 told-requires-3 : tie.Need-told-requires-3
 told-requires-3 c κs = search needs
 
--- src/front.rt:184:9
 returns-3 : tie.Need-returns-3
 returns-3 c = search (needs, ruled-app)
 
--- src/front.rt:187:9
 target-fault-requires : tie.Need-target-fault-requires
 target-fault-requires c κs = search needs
 
--- src/front.rt:189:9
 told-requires-4 : tie.Need-told-requires-4
 told-requires-4 c κs = search needs
 
--- src/front.rt:189:9
 returns-4 : tie.Need-returns-4
 returns-4 c = search (needs, ruled-target)
 
--- src/front.rt:191:5
 told-requires-5 : tie.Need-told-requires-5
 told-requires-5 c κs = search needs
 
--- src/front.rt:169:1
 returns-5 : tie.Need-returns-5
 returns-5 c = search (needs, ruled-none)
 

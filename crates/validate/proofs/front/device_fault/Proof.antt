@@ -10,31 +10,24 @@ use Rattle.schema.proofs.Chip.name.Reads as name-reads
 use Rattle.validate.proofs.front.same_media.Reads as same-media-reads
 use Rattle.validate.proofs.front.text_is.Reads as text-is-reads
 
--- src/front.rt:158:20
 default-media-requires : tie.Need-default-media-requires
 default-media-requires c κs = search needs
 
--- src/front.rt:158:9
 same-media-requires : tie.Need-same-media-requires
 same-media-requires c κs = search needs
 
--- src/front.rt:159:9
 returns : tie.Need-returns
 returns c = search (needs, not-true, device-media)
 
--- src/front.rt:162:40
 name-requires : tie.Need-name-requires
 name-requires c κs = search needs
 
--- src/front.rt:162:9
 text-is-requires : tie.Need-text-is-requires
 text-is-requires c κs = search needs
 
--- src/front.rt:163:9
 returns-2 : tie.Need-returns-2
 returns-2 c = search (needs, not-true, not-false, device-platform)
 
--- src/front.rt:153:1
 returns-3 : tie.Need-returns-3
 returns-3 c = search (needs, not-false, device-none)
 

@@ -14,43 +14,33 @@ Inv-loop w s i₀ i = Holding w s i
 abbrev μ-loop : tie.MeasureT-loop
 μ-loop w s i₀ i = length s - i
 
--- src/front.rt:77:5
 loop-holds : tie.Need-loop-holds Inv-loop μ-loop
 loop-holds c = search needs
 
--- src/front.rt:78:22
 sub-starts : tie.Need-sub-starts Inv-loop μ-loop
 sub-starts c = search needs
 
--- src/front.rt:78:22
 part-starts-start : tie.Need-part-starts-start Inv-loop μ-loop
 part-starts-start c = search needs
 
--- src/front.rt:78:22
 part-starts-end : tie.Need-part-starts-end Inv-loop μ-loop
 part-starts-end c = search needs
 
--- src/front.rt:78:12
 starts-requires : tie.Need-starts-requires Inv-loop μ-loop
 starts-requires c κs = search needs
 
--- src/front.rt:79:13
 returns : tie.Need-returns Inv-loop μ-loop
 returns c = search (needs, holds-here)
 
--- src/front.rt:81:9
 add-i : tie.Need-add-i Inv-loop μ-loop
 add-i c = search needs
 
--- src/front.rt:77:5
 loop-less : tie.Need-loop-less Inv-loop μ-loop
 loop-less c = search needs
 
--- src/front.rt:77:5
 loop-again : tie.Need-loop-again Inv-loop μ-loop
 loop-again c = search (needs, holds-on)
 
--- src/front.rt:73:1
 returns-2 : tie.Need-returns-2 Inv-loop μ-loop
 returns-2 c = search (needs, holds-end)
 

@@ -7,55 +7,42 @@ use Rattle.validate.proofs.front.size.Lts as lts
 use Rattle.schema.proofs.Word.span.Reads as span-reads
 use Rattle.schema.proofs.stored.Reads as stored-reads
 
--- src/front.rt:24:25
 enum-told : tie.Need-enum-told
 enum-told c = search needs
 
--- src/front.rt:25:24
 enum-known-t : tie.Need-enum-known-t
 enum-known-t c = search needs
 
--- src/front.rt:25:39
 stored-requires : tie.Need-stored-requires
 stored-requires c κs = search needs
 
--- src/front.rt:26:23
 enum-told-2 : tie.Need-enum-told-2
 enum-told-2 c = search needs
 
--- src/front.rt:27:21
 enum-known-t-2 : tie.Need-enum-known-t-2
 enum-known-t-2 c = search needs
 
--- src/front.rt:28:17
 span-requires : tie.Need-span-requires
 span-requires c κs = search needs
 
--- src/front.rt:29:13
 sub-result : tie.Need-sub-result
 sub-result c = search needs
 
--- src/front.rt:31:46
 enum-told-3 : tie.Need-enum-told-3
 enum-told-3 c = search needs
 
--- src/front.rt:19:1
 returns : tie.Need-returns
 returns c = search needs
 
--- src/front.rt:19:1
 returns-2 : tie.Need-returns-2
 returns-2 c = search (needs, size-by, spelled-stored)
 
--- src/front.rt:19:1
 returns-3 : tie.Need-returns-3
 returns-3 c = search (needs, size-by, spelled-lent)
 
--- src/front.rt:19:1
 returns-4 : tie.Need-returns-4
 returns-4 c = search (needs, size-fixed)
 
--- src/front.rt:19:1
 returns-5 : tie.Need-returns-5
 returns-5 c = search (needs, spelled-aic)
 

@@ -11,39 +11,30 @@ Inv-loop w s i₀ i = Heading w s i
 abbrev μ-loop : tie.MeasureT-loop
 μ-loop w s i₀ i = length w - i
 
--- src/front.rt:60:5
 loop-holds : tie.Need-loop-holds Inv-loop μ-loop
 loop-holds c = search needs
 
--- src/front.rt:62:13
 returns : tie.Need-returns Inv-loop μ-loop
 returns c = search (needs, starts-short)
 
--- src/front.rt:64:12
 shared-slice-read-if2 : tie.Need-shared-slice-read-if2 Inv-loop μ-loop
 shared-slice-read-if2 c = search needs
 
--- src/front.rt:64:20
 shared-slice-read-if2-2 : tie.Need-shared-slice-read-if2-2 Inv-loop μ-loop
 shared-slice-read-if2-2 c = search needs
 
--- src/front.rt:65:13
 returns-2 : tie.Need-returns-2 Inv-loop μ-loop
 returns-2 c = search (needs, starts-not)
 
--- src/front.rt:67:9
 add-i : tie.Need-add-i Inv-loop μ-loop
 add-i c = search needs
 
--- src/front.rt:60:5
 loop-less : tie.Need-loop-less Inv-loop μ-loop
 loop-less c = search needs
 
--- src/front.rt:60:5
 loop-again : tie.Need-loop-again Inv-loop μ-loop
 loop-again c = search (needs, starts-on)
 
--- src/front.rt:56:1
 returns-3 : tie.Need-returns-3 Inv-loop μ-loop
 returns-3 c = search (needs, starts-end)
 

@@ -8,91 +8,69 @@ use Rattle.schema.proofs.Word.span.Reads as span-reads
 use Rattle.schema.proofs.stored.Reads as stored-reads
 use Rattle.validate.proofs.front.width_fault.Reads as width-fault-reads
 
--- src/front.rt:123:43
 enum-told : tie.Need-enum-told
 enum-told c = search needs
 
--- src/front.rt:123:43
 sub-width-fault : tie.Need-sub-width-fault
 sub-width-fault c = search needs
 
--- src/front.rt:123:43
 part-width-fault-start : tie.Need-part-width-fault-start
 part-width-fault-start c = search needs
 
--- src/front.rt:123:43
 part-width-fault-end : tie.Need-part-width-fault-end
 part-width-fault-end c = search needs
 
--- src/front.rt:123:25
 width-fault-requires : tie.Need-width-fault-requires
 width-fault-requires c κs = search needs
 
--- src/front.rt:124:24
 enum-known-t : tie.Need-enum-known-t
 enum-known-t c = search needs
 
--- src/front.rt:124:57
 stored-requires : tie.Need-stored-requires
 stored-requires c κs = search needs
 
--- src/front.rt:124:39
 width-fault-requires-2 : tie.Need-width-fault-requires-2
 width-fault-requires-2 c κs = search needs
 
--- src/front.rt:125:23
 enum-told-2 : tie.Need-enum-told-2
 enum-told-2 c = search needs
 
--- src/front.rt:125:23
 width-fault-requires-3 : tie.Need-width-fault-requires-3
 width-fault-requires-3 c κs = search needs
 
--- src/front.rt:126:21
 enum-known-t-2 : tie.Need-enum-known-t-2
 enum-known-t-2 c = search needs
 
--- src/front.rt:128:17
 span-requires : tie.Need-span-requires
 span-requires c κs = search needs
 
--- src/front.rt:131:31
 sub-width-fault-2 : tie.Need-sub-width-fault-2
 sub-width-fault-2 c = search needs
 
--- src/front.rt:131:31
 part-width-fault-start-2 : tie.Need-part-width-fault-start-2
 part-width-fault-start-2 c = search needs
 
--- src/front.rt:131:31
 part-width-fault-end-2 : tie.Need-part-width-fault-end-2
 part-width-fault-end-2 c = search needs
 
--- src/front.rt:131:13
 width-fault-requires-4 : tie.Need-width-fault-requires-4
 width-fault-requires-4 c κs = search needs
 
--- src/front.rt:133:46
 enum-told-3 : tie.Need-enum-told-3
 enum-told-3 c = search needs
 
--- src/front.rt:118:1
 returns : tie.Need-returns
 returns c = search (needs, target-by, spelled-none)
 
--- src/front.rt:118:1
 returns-2 : tie.Need-returns-2
 returns-2 c = search (needs, target-by, spelled-stored)
 
--- src/front.rt:118:1
 returns-3 : tie.Need-returns-3
 returns-3 c = search (needs, target-by, spelled-lent)
 
--- src/front.rt:118:1
 returns-4 : tie.Need-returns-4
 returns-4 c = search (needs, target-by, spelled-fixed)
 
--- src/front.rt:118:1
 returns-5 : tie.Need-returns-5
 returns-5 c = search (needs, spelled-aic)
 

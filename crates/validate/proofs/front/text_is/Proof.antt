@@ -8,91 +8,69 @@ use Rattle.schema.proofs.Word.is.Reads as is-reads
 use Rattle.schema.proofs.Word.span.Reads as span-reads
 use Rattle.schema.proofs.stored.Reads as stored-reads
 
--- src/front.rt:41:30
 enum-told : tie.Need-enum-told
 enum-told c = search needs
 
--- src/front.rt:41:30
 sub-is : tie.Need-sub-is
 sub-is c = search needs
 
--- src/front.rt:41:30
 part-is-start : tie.Need-part-is-start
 part-is-start c = search needs
 
--- src/front.rt:41:30
 part-is-end : tie.Need-part-is-end
 part-is-end c = search needs
 
--- src/front.rt:41:25
 is-requires : tie.Need-is-requires
 is-requires c κs = search needs
 
--- src/front.rt:42:24
 enum-known-t : tie.Need-enum-known-t
 enum-known-t c = search needs
 
--- src/front.rt:42:44
 stored-requires : tie.Need-stored-requires
 stored-requires c κs = search needs
 
--- src/front.rt:42:39
 is-requires-2 : tie.Need-is-requires-2
 is-requires-2 c κs = search needs
 
--- src/front.rt:43:23
 enum-told-2 : tie.Need-enum-told-2
 enum-told-2 c = search needs
 
--- src/front.rt:43:23
 is-requires-3 : tie.Need-is-requires-3
 is-requires-3 c κs = search needs
 
--- src/front.rt:44:21
 enum-known-t-2 : tie.Need-enum-known-t-2
 enum-known-t-2 c = search needs
 
--- src/front.rt:46:17
 span-requires : tie.Need-span-requires
 span-requires c κs = search needs
 
--- src/front.rt:49:18
 sub-is-2 : tie.Need-sub-is-2
 sub-is-2 c = search needs
 
--- src/front.rt:49:18
 part-is-start-2 : tie.Need-part-is-start-2
 part-is-start-2 c = search needs
 
--- src/front.rt:49:18
 part-is-end-2 : tie.Need-part-is-end-2
 part-is-end-2 c = search needs
 
--- src/front.rt:49:13
 is-requires-4 : tie.Need-is-requires-4
 is-requires-4 c κs = search needs
 
--- src/front.rt:51:46
 enum-told-3 : tie.Need-enum-told-3
 enum-told-3 c = search needs
 
--- src/front.rt:36:1
 returns : tie.Need-returns
 returns c = search (needs, is-by, spelled-none)
 
--- src/front.rt:36:1
 returns-2 : tie.Need-returns-2
 returns-2 c = search (needs, is-by, spelled-stored)
 
--- src/front.rt:36:1
 returns-3 : tie.Need-returns-3
 returns-3 c = search (needs, is-by, spelled-lent)
 
--- src/front.rt:36:1
 returns-4 : tie.Need-returns-4
 returns-4 c = search (needs, is-by, spelled-fixed)
 
--- src/front.rt:36:1
 returns-5 : tie.Need-returns-5
 returns-5 c = search (needs, spelled-aic)
 

@@ -27,91 +27,69 @@ abbrev μ-loop : tie.MeasureT-loop
 μ-loop tree store made place end items count behind low marks₀ pairs₀ fault₀ after₀ i₀ marks pairs fault after i =
     65 - i
 
--- src/gather.rt:132:15
 skip-up-requires : tie.Need-skip-up-requires Inv-loop μ-loop
 skip-up-requires c κs = search (needs, holds-end)
 
--- src/gather.rt:133:21
 no-marks-requires : tie.Need-no-marks-requires Inv-loop μ-loop
 no-marks-requires c κs = search needs
 
--- src/gather.rt:134:9
 told-requires : tie.Need-told-requires Inv-loop μ-loop
 told-requires c κs = search needs
 
--- src/gather.rt:137:5
 loop-holds : tie.Need-loop-holds Inv-loop μ-loop
 loop-holds c = search (needs, apps-start)
 
--- src/gather.rt:138:13
 next-requires : tie.Need-next-requires Inv-loop μ-loop
 next-requires c κs = search (needs, holds-end)
 
--- src/gather.rt:140:31
 enum-told : tie.Need-enum-told Inv-loop μ-loop
 enum-told c = search needs
 
--- src/gather.rt:141:23
 enum-known-found : tie.Need-enum-known-found Inv-loop μ-loop
 enum-known-found c = search needs
 
--- src/gather.rt:143:21
 told-requires-2 : tie.Need-told-requires-2 Inv-loop μ-loop
 told-requires-2 c κs = search needs
 
--- src/gather.rt:146:21
 entry-requires : tie.Need-entry-requires Inv-loop μ-loop
 entry-requires c κs = search (needs, key-stood)
 
--- src/gather.rt:149:26
 add-at : tie.Need-add-at Inv-loop μ-loop
 add-at c = search (needs, apps-behind)
 
--- src/gather.rt:150:17
 earlier-in-requires : tie.Need-earlier-in-requires Inv-loop μ-loop
 earlier-in-requires c κs = search needs
 
--- src/gather.rt:151:17
 mul-marks : tie.Need-mul-marks Inv-loop μ-loop
 mul-marks c = search needs
 
--- src/gather.rt:151:17
 array-set-from-marks : tie.Need-array-set-from-marks Inv-loop μ-loop
 array-set-from-marks c = search needs
 
--- src/gather.rt:152:17
 mul-pairs : tie.Need-mul-pairs Inv-loop μ-loop
 mul-pairs c = search (needs, apps-behind)
 
--- src/gather.rt:152:17
 array-set-from-pairs : tie.Need-array-set-from-pairs Inv-loop μ-loop
 array-set-from-pairs c = search (needs, apps-behind)
 
--- src/gather.rt:154:17
 add-i : tie.Need-add-i Inv-loop μ-loop
 add-i c = search needs
 
--- src/gather.rt:137:5
 loop-less : tie.Need-loop-less Inv-loop μ-loop
 loop-less c = search needs
 
--- src/gather.rt:137:5
 loop-again : tie.Need-loop-again Inv-loop μ-loop
 loop-again c = search (needs, apps-on)
 
--- src/gather.rt:158:9
 judge-requires : tie.Need-judge-requires Inv-loop μ-loop
 judge-requires c κs = search (needs, apps-marked)
 
--- src/gather.rt:159:15
 add-all : tie.Need-add-all Inv-loop μ-loop
 add-all c = search (needs, apps-all)
 
--- src/gather.rt:164:16
 first-clash-requires : tie.Need-first-clash-requires Inv-loop μ-loop
 first-clash-requires c κs = search (needs, apps-all)
 
--- src/gather.rt:118:1
 returns : tie.Need-returns Inv-loop μ-loop
 returns c = ⊎-elim (λ w. search (needs, apps-end)) (⊎-elim (λ w. search (needs, apps-none)) (λ w. search (needs, apps-many))) (c .before .before .loop-test .came)
 

@@ -26,84 +26,64 @@ abbrev μ-loop : tie.MeasureT-loop
 μ-loop tree store made place end items count marks₀ pairs₀ fault₀ first₀ i₀ from₀ marks pairs fault first i from =
     end - from
 
--- src/gather.rt:81:21
 no-marks-requires : tie.Need-no-marks-requires Inv-loop μ-loop
 no-marks-requires c κs = search needs
 
--- src/gather.rt:82:21
 no-pairs-requires : tie.Need-no-pairs-requires Inv-loop μ-loop
 no-pairs-requires c κs = search needs
 
--- src/gather.rt:83:9
 told-requires : tie.Need-told-requires Inv-loop μ-loop
 told-requires c κs = search needs
 
--- src/gather.rt:87:5
 loop-holds : tie.Need-loop-holds Inv-loop μ-loop
 loop-holds c = search (needs, comps-start)
 
--- src/gather.rt:88:13
 child-requires : tie.Need-child-requires Inv-loop μ-loop
 child-requires c κs = search (needs, holds-end)
 
--- src/gather.rt:90:31
 enum-told : tie.Need-enum-told Inv-loop μ-loop
 enum-told c = search needs
 
--- src/gather.rt:91:23
 enum-known-found : tie.Need-enum-known-found Inv-loop μ-loop
 enum-known-found c = search needs
 
--- src/gather.rt:92:21
 entry-requires : tie.Need-entry-requires Inv-loop μ-loop
 entry-requires c κs = search (needs, item-stood)
 
--- src/gather.rt:94:21
 told-requires-2 : tie.Need-told-requires-2 Inv-loop μ-loop
 told-requires-2 c κs = search needs
 
--- src/gather.rt:99:17
 mul-marks : tie.Need-mul-marks Inv-loop μ-loop
 mul-marks c = search (needs, comps-room)
 
--- src/gather.rt:99:17
 array-set-from-marks : tie.Need-array-set-from-marks Inv-loop μ-loop
 array-set-from-marks c = search (needs, comps-room)
 
--- src/gather.rt:100:17
 mul-pairs : tie.Need-mul-pairs Inv-loop μ-loop
 mul-pairs c = search (needs, comps-room)
 
--- src/gather.rt:100:17
 array-set-from-pairs : tie.Need-array-set-from-pairs Inv-loop μ-loop
 array-set-from-pairs c = search (needs, comps-room)
 
--- src/gather.rt:101:17
 either-requires : tie.Need-either-requires Inv-loop μ-loop
 either-requires c κs = search needs
 
--- src/gather.rt:102:17
 add-i : tie.Need-add-i Inv-loop μ-loop
 add-i c = search (needs, comps-room)
 
--- src/gather.rt:103:24
 add-from : tie.Need-add-from Inv-loop μ-loop
 add-from c = let d = c .before .before .before .before .before .before .before .before .before in
     search (needs, item-fits, d .child .ensures)
 
--- src/gather.rt:87:5
 loop-less : tie.Need-loop-less Inv-loop μ-loop
 loop-less c = search (needs, item-less)
 
--- src/gather.rt:87:5
 loop-again : tie.Need-loop-again Inv-loop μ-loop
 loop-again c = search (needs, comps-on)
 
--- src/gather.rt:107:9
 judge-requires : tie.Need-judge-requires Inv-loop μ-loop
 judge-requires c κs = search (needs, comps-marked)
 
--- src/gather.rt:69:1
 returns : tie.Need-returns Inv-loop μ-loop
 returns c = ⊎-elim (λ w. search (needs, comps-end)) (⊎-elim (λ w. search (needs, comps-none)) (λ w. search (needs, comps-not))) (c .before .loop-test .came)
 

@@ -6,23 +6,18 @@ use Rattle.validate.proofs.gather.earlier_in.Reads as reads
 use Rattle.validate.proofs.gather.earlier_in.Lts as lts
 use Rattle.parse.proofs.told.Reads as told-reads
 
--- src/gather.rt:60:9
 returns : tie.Need-returns
 returns c = search (needs, fault-so-far)
 
--- src/gather.rt:63:9
 told-requires : tie.Need-told-requires
 told-requires c κs = search needs
 
--- src/gather.rt:63:9
 returns-2 : tie.Need-returns-2
 returns-2 c = search (needs, fault-here)
 
--- src/gather.rt:65:5
 told-requires-2 : tie.Need-told-requires-2
 told-requires-2 c κs = search needs
 
--- src/gather.rt:56:1
 returns-3 : tie.Need-returns-3
 returns-3 c = search (needs, fault-none)
 

@@ -6,11 +6,9 @@ use Rattle.validate.proofs.gather.no_pairs.Reads as reads
 use Rattle.validate.proofs.gather.no_pairs.Lts as lts
 use Rattle.validate.proofs.uses.no_spot.Reads as no-spot-reads
 
--- src/gather.rt:36:9
 no-spot-requires : tie.Need-no-spot-requires
 no-spot-requires c κs = search needs
 
--- src/gather.rt:33:1
 returns : tie.Need-returns
 returns c = search (needs, blank-is)
 

@@ -6,51 +6,40 @@ use Rattle.values.proofs.form.double.Tie as tie
 use Rattle.values.proofs.form.double.Reads as reads
 use Rattle.values.proofs.form.double.Lts as lts
 
--- src/form.rt:21:9
 returns : tie.Need-returns
 unfolding meant.double
 returns c = search tests
 
--- src/form.rt:23:8
 shared-slice-read-if2 : tie.Need-shared-slice-read-if2
 shared-slice-read-if2 c = search needs
 
--- src/form.rt:24:12
 shared-slice-read-if3 : tie.Need-shared-slice-read-if3
 shared-slice-read-if3 c = search needs
 
--- src/form.rt:25:18
 sub-if4 : tie.Need-sub-if4
 sub-if4 c = search needs
 
--- src/form.rt:25:16
 shared-slice-read-if4 : tie.Need-shared-slice-read-if4
 shared-slice-read-if4 c = search needs
 
--- src/form.rt:26:26
 sub-result : tie.Need-sub-result
 sub-result c = search needs
 
--- src/form.rt:26:24
 shared-slice-read-result : tie.Need-shared-slice-read-result
 shared-slice-read-result c = search needs
 
--- src/form.rt:26:17
 returns-2 : tie.Need-returns-2
 unfolding meant.double
 returns-2 c = search tests
 
--- src/form.rt:28:13
 returns-3 : tie.Need-returns-3
 unfolding meant.double
 returns-3 c = search tests
 
--- src/form.rt:30:9
 returns-4 : tie.Need-returns-4
 unfolding meant.double
 returns-4 c = search tests
 
--- src/form.rt:16:1
 returns-5 : tie.Need-returns-5
 unfolding meant.double
 returns-5 c = search tests

@@ -6,38 +6,30 @@ use Rattle.values.proofs.form.single.Tie as tie
 use Rattle.values.proofs.form.single.Reads as reads
 use Rattle.values.proofs.form.single.Lts as lts
 
--- src/form.rt:41:9
 returns : tie.Need-returns
 unfolding meant.single
 returns c = search tests
 
--- src/form.rt:43:8
 shared-slice-read-if2 : tie.Need-shared-slice-read-if2
 shared-slice-read-if2 c = search needs
 
--- src/form.rt:44:12
 shared-slice-read-if3 : tie.Need-shared-slice-read-if3
 shared-slice-read-if3 c = search needs
 
--- src/form.rt:45:13
 returns-2 : tie.Need-returns-2
 unfolding meant.single
 returns-2 c = search tests
 
--- src/form.rt:47:18
 sub-result : tie.Need-sub-result
 sub-result c = search needs
 
--- src/form.rt:47:16
 shared-slice-read-result : tie.Need-shared-slice-read-result
 shared-slice-read-result c = search needs
 
--- src/form.rt:47:9
 returns-3 : tie.Need-returns-3
 unfolding meant.single
 returns-3 c = search tests
 
--- src/form.rt:36:1
 returns-4 : tie.Need-returns-4
 unfolding meant.single
 returns-4 c = search tests

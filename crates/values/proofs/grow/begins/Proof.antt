@@ -5,23 +5,18 @@ use Rattle.values.proofs.grow.begins.Tie as tie
 use Rattle.values.proofs.grow.begins.Reads as reads
 use Rattle.values.proofs.grow.begins.Lts as lts
 
--- src/grow.rt:157:9
 returns : tie.Need-returns
 returns c = search needs
 
--- src/grow.rt:159:14
 sub-result : tie.Need-sub-result
 sub-result c = search needs
 
--- src/grow.rt:159:5
 mul-result : tie.Need-mul-result
 mul-result c = search needs
 
--- src/grow.rt:159:5
 element-copy-out-result : tie.Need-element-copy-out-result
 element-copy-out-result c = search needs
 
--- src/grow.rt:152:1
 returns-2 : tie.Need-returns-2
 returns-2 c = search (needs, begins-later)
 

@@ -13,67 +13,51 @@ Inv-loop tree₀ store made limit p at n key m₀ q₀ from₀ i₀ tree m q fro
 abbrev μ-loop : tie.MeasureT-loop
 μ-loop tree₀ store made limit p at n key m₀ q₀ from₀ i₀ tree m q from i = n - i
 
--- src/grow.rt:134:5
 loop-holds : tie.Need-loop-holds Inv-loop μ-loop
 loop-holds c = search (needs, walk-start)
 
--- src/grow.rt:135:19
 mul-end : tie.Need-mul-end Inv-loop μ-loop
 mul-end c = search needs
 
--- src/grow.rt:135:19
 element-copy-out-end : tie.Need-element-copy-out-end Inv-loop μ-loop
 element-copy-out-end c = search needs
 
--- src/grow.rt:136:13
 enter-requires : tie.Need-enter-requires Inv-loop μ-loop
 enter-requires c κs = search (needs, walk-enters)
 
--- src/grow.rt:138:31
 enum-known-g : tie.Need-enum-known-g Inv-loop μ-loop
 enum-known-g c = search needs
 
--- src/grow.rt:142:17
 add-i : tie.Need-add-i Inv-loop μ-loop
 add-i c = search needs
 
--- src/grow.rt:134:5
 loop-less : tie.Need-loop-less Inv-loop μ-loop
 loop-less c = search needs
 
--- src/grow.rt:134:5
 loop-again : tie.Need-loop-again Inv-loop μ-loop
 loop-again c = search (needs, walk-on)
 
--- src/grow.rt:144:28
 enum-told : tie.Need-enum-told Inv-loop μ-loop
 enum-told c = search needs
 
--- src/grow.rt:144:28
 same-length : tie.Need-same-length Inv-loop μ-loop
 same-length c = search needs
 
--- src/grow.rt:144:28
 returns : tie.Need-returns Inv-loop μ-loop
 returns c = search (needs, walk-full)
 
--- src/grow.rt:145:29
 enum-told-2 : tie.Need-enum-told-2 Inv-loop μ-loop
 enum-told-2 c = search needs
 
--- src/grow.rt:145:29
 same-length-2 : tie.Need-same-length-2 Inv-loop μ-loop
 same-length-2 c = search needs
 
--- src/grow.rt:145:29
 returns-2 : tie.Need-returns-2 Inv-loop μ-loop
 returns-2 c = search (needs, walk-clash)
 
--- src/grow.rt:126:1
 same-length-3 : tie.Need-same-length-3 Inv-loop μ-loop
 same-length-3 c = search needs
 
--- src/grow.rt:126:1
 returns-3 : tie.Need-returns-3 Inv-loop μ-loop
 returns-3 c = search (needs, walk-out)
 

@@ -8,59 +8,45 @@ use Rattle.values.proofs.grow.kind_at.Reads as kind-at-reads
 use Rattle.values.proofs.grow.make_keyed.Reads as make-keyed-reads
 use Rattle.values.proofs.grow.seek.Reads as seek-reads
 
--- src/grow.rt:72:9
 seek-requires : tie.Need-seek-requires
 seek-requires c κs = search needs
 
--- src/grow.rt:74:19
 enum-known-f : tie.Need-enum-known-f
 enum-known-f c = search needs
 
--- src/grow.rt:75:16
 kind-at-requires : tie.Need-kind-at-requires
 kind-at-requires c κs = search (needs, enter-numbered)
 
--- src/grow.rt:78:29
 add-t17 : tie.Need-add-t17
 add-t17 c = search (needs, enter-fits)
 
--- src/grow.rt:78:28
 cast-t18 : tie.Need-cast-t18
 cast-t18 c = search (needs, enter-place)
 
--- src/grow.rt:76:17
 same-length : tie.Need-same-length
 same-length c = search needs
 
--- src/grow.rt:76:17
 returns : tie.Need-returns
 returns c = search (needs, enter-walked)
 
--- src/grow.rt:81:13
 make-keyed-requires : tie.Need-make-keyed-requires
 make-keyed-requires c κs = search needs
 
--- src/grow.rt:83:38
 enum-told : tie.Need-enum-told
 enum-told c = search needs
 
--- src/grow.rt:83:27
 make-keyed-requires-2 : tie.Need-make-keyed-requires-2
 make-keyed-requires-2 c κs = search needs
 
--- src/grow.rt:68:1
 same-length-2 : tie.Need-same-length-2
 same-length-2 c = search needs
 
--- src/grow.rt:68:1
 returns-2 : tie.Need-returns-2
 returns-2 c = search (needs, enter-over)
 
--- src/grow.rt:68:1
 same-length-3 : tie.Need-same-length-3
 same-length-3 c = search needs
 
--- src/grow.rt:68:1
 returns-3 : tie.Need-returns-3
 returns-3 c = search (needs, enter-new)
 

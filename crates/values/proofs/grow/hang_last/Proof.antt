@@ -7,31 +7,24 @@ use Rattle.values.proofs.grow.hang_last.Lts as lts
 use Rattle.values.proofs.grow.begins.Reads as begins-reads
 use Rattle.values.proofs.grow.hang_up.Reads as hang-up-reads
 
--- src/grow.rt:190:16
 sub-last : tie.Need-sub-last
 sub-last c = search needs
 
--- src/grow.rt:191:9
 begins-requires : tie.Need-begins-requires
 begins-requires c κs = search needs
 
--- src/grow.rt:192:15
 mul-end : tie.Need-mul-end
 mul-end c = search needs
 
--- src/grow.rt:192:15
 element-copy-out-end : tie.Need-element-copy-out-end
 element-copy-out-end c = search needs
 
--- src/grow.rt:193:5
 hang-up-requires : tie.Need-hang-up-requires
 hang-up-requires c κs = search (needs, lasts-hangs)
 
--- src/grow.rt:186:1
 same-length : tie.Need-same-length
 same-length c = search needs
 
--- src/grow.rt:186:1
 returns : tie.Need-returns
 returns c = search (needs, lasts-hung)
 

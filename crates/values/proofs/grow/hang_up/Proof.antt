@@ -6,27 +6,21 @@ use Rattle.values.proofs.grow.hang_up.Reads as reads
 use Rattle.values.proofs.grow.hang_up.Lts as lts
 use Rattle.tree.proofs.hang.Reads as hang-reads
 
--- src/grow.rt:167:28
 cast-hang : tie.Need-cast-hang
 cast-hang c = search needs
 
--- src/grow.rt:167:40
 sub-hang : tie.Need-sub-hang
 sub-hang c = search needs
 
--- src/grow.rt:167:39
 cast-hang-2 : tie.Need-cast-hang-2
 cast-hang-2 c = search needs
 
--- src/grow.rt:167:5
 hang-requires : tie.Need-hang-requires
 hang-requires c κs = search needs
 
--- src/grow.rt:163:1
 same-length : tie.Need-same-length
 same-length c = search needs
 
--- src/grow.rt:163:1
 returns : tie.Need-returns
 returns c = search (needs, hangs-is)
 

@@ -6,11 +6,9 @@ use Rattle.values.proofs.grow.kind_at.Reads as reads
 use Rattle.values.proofs.grow.kind_at.Lts as lts
 use Rattle.tree.proofs.get.Reads as get-reads
 
--- src/grow.rt:55:9
 get-requires : tie.Need-get-requires
 get-requires c κs = search (needs, holds-numbered)
 
--- src/grow.rt:51:1
 returns : tie.Need-returns
 returns c = search (needs, kind-is)
 

@@ -6,31 +6,24 @@ use Rattle.values.proofs.grow.make_slot.Reads as reads
 use Rattle.values.proofs.grow.make_slot.Lts as lts
 use Rattle.tree.proofs.put.Reads as put-reads
 
--- src/grow.rt:26:9
 returns : tie.Need-returns
 returns c = search (needs, make-full)
 
--- src/grow.rt:28:5
 put-requires : tie.Need-put-requires
 put-requires c κs = search (needs, make-room)
 
--- src/grow.rt:30:15
 add-t9 : tie.Need-add-t9
 add-t9 c = search needs
 
--- src/grow.rt:31:17
 add-t10 : tie.Need-add-t10
 add-t10 c = search needs
 
--- src/grow.rt:31:16
 cast-t11 : tie.Need-cast-t11
 cast-t11 c = search needs
 
--- src/grow.rt:21:1
 same-length : tie.Need-same-length
 same-length c = search needs
 
--- src/grow.rt:21:1
 returns-2 : tie.Need-returns-2
 returns-2 c = search (needs, make-made)
 

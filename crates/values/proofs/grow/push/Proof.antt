@@ -9,59 +9,45 @@ use Rattle.values.proofs.grow.make_item.Reads as make-item-reads
 use Rattle.values.proofs.grow.push_new.Reads as push-new-reads
 use Rattle.values.proofs.grow.seek.Reads as seek-reads
 
--- src/grow.rt:113:9
 seek-requires : tie.Need-seek-requires
 seek-requires c κs = search needs
 
--- src/grow.rt:115:19
 enum-known-f : tie.Need-enum-known-f
 enum-known-f c = search needs
 
--- src/grow.rt:116:16
 kind-at-requires : tie.Need-kind-at-requires
 kind-at-requires c κs = search (needs, enter-numbered)
 
--- src/grow.rt:117:54
 add-make-item : tie.Need-add-make-item
 add-make-item c = search (needs, enter-fits)
 
--- src/grow.rt:117:53
 cast-make-item : tie.Need-cast-make-item
 cast-make-item c = search (needs, enter-place)
 
--- src/grow.rt:117:17
 make-item-requires : tie.Need-make-item-requires
 make-item-requires c κs = search needs
 
--- src/grow.rt:117:17
 same-length : tie.Need-same-length
 same-length c = search needs
 
--- src/grow.rt:117:17
 returns : tie.Need-returns
 returns c = search (needs, push-item)
 
--- src/grow.rt:121:36
 enum-told : tie.Need-enum-told
 enum-told c = search needs
 
--- src/grow.rt:121:27
 push-new-requires : tie.Need-push-new-requires
 push-new-requires c κs = search needs
 
--- src/grow.rt:109:1
 same-length-2 : tie.Need-same-length-2
 same-length-2 c = search needs
 
--- src/grow.rt:109:1
 returns-2 : tie.Need-returns-2
 returns-2 c = search (needs, push-clash)
 
--- src/grow.rt:109:1
 same-length-3 : tie.Need-same-length-3
 same-length-3 c = search needs
 
--- src/grow.rt:109:1
 returns-3 : tie.Need-returns-3
 returns-3 c = search (needs, push-made)
 

@@ -7,31 +7,24 @@ use Rattle.values.proofs.grow.push_last.Lts as lts
 use Rattle.values.proofs.grow.begins.Reads as begins-reads
 use Rattle.values.proofs.grow.push.Reads as push-reads
 
--- src/grow.rt:179:16
 sub-last : tie.Need-sub-last
 sub-last c = search needs
 
--- src/grow.rt:180:9
 begins-requires : tie.Need-begins-requires
 begins-requires c κs = search needs
 
--- src/grow.rt:181:15
 mul-end : tie.Need-mul-end
 mul-end c = search needs
 
--- src/grow.rt:181:15
 element-copy-out-end : tie.Need-element-copy-out-end
 element-copy-out-end c = search needs
 
--- src/grow.rt:182:5
 push-requires : tie.Need-push-requires
 push-requires c κs = search (needs, lasts-enters)
 
--- src/grow.rt:175:1
 same-length : tie.Need-same-length
 same-length c = search needs
 
--- src/grow.rt:175:1
 returns : tie.Need-returns
 returns c = search (needs, lasts-pushed)
 

@@ -7,47 +7,36 @@ use Rattle.values.proofs.grow.push_new.Lts as lts
 use Rattle.values.proofs.grow.make_item.Reads as make-item-reads
 use Rattle.values.proofs.grow.make_keyed.Reads as make-keyed-reads
 
--- src/grow.rt:100:9
 make-keyed-requires : tie.Need-make-keyed-requires
 make-keyed-requires c κs = search needs
 
--- src/grow.rt:102:27
 enum-known-g : tie.Need-enum-known-g
 enum-known-g c = search needs
 
--- src/grow.rt:102:44
 make-item-requires : tie.Need-make-item-requires
 make-item-requires c κs = search (needs, array-grows)
 
--- src/grow.rt:103:24
 enum-told : tie.Need-enum-told
 enum-told c = search needs
 
--- src/grow.rt:104:25
 enum-told-2 : tie.Need-enum-told-2
 enum-told-2 c = search needs
 
--- src/grow.rt:96:1
 same-length : tie.Need-same-length
 same-length c = search needs
 
--- src/grow.rt:96:1
 returns : tie.Need-returns
 returns c = search (needs, array-item)
 
--- src/grow.rt:96:1
 same-length-2 : tie.Need-same-length-2
 same-length-2 c = search needs
 
--- src/grow.rt:96:1
 returns-2 : tie.Need-returns-2
 returns-2 c = search (needs, array-full)
 
--- src/grow.rt:96:1
 same-length-3 : tie.Need-same-length-3
 same-length-3 c = search needs
 
--- src/grow.rt:96:1
 returns-3 : tie.Need-returns-3
 returns-3 c = search (needs, array-clash)
 

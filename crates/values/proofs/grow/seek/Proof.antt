@@ -6,23 +6,18 @@ use Rattle.values.proofs.grow.seek.Reads as reads
 use Rattle.values.proofs.grow.seek.Lts as lts
 use Rattle.tree.proofs.find.Reads as find-reads
 
--- src/grow.rt:64:38
 sub-find : tie.Need-sub-find
 sub-find c = search needs
 
--- src/grow.rt:64:38
 part-find-start : tie.Need-part-find-start
 part-find-start c = search needs
 
--- src/grow.rt:64:38
 part-find-end : tie.Need-part-find-end
 part-find-end c = search needs
 
--- src/grow.rt:64:5
 find-requires : tie.Need-find-requires
 find-requires c κs = search needs
 
--- src/grow.rt:60:1
 returns : tie.Need-returns
 returns c = search (needs, seek-is)
 

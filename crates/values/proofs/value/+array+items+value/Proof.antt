@@ -52,7 +52,6 @@ value-at t = and 3 value-kinds.ps (is 3 value-kinds.ps μ-value t) value.Pre
 abbrev value-below : ℕ → In 3 value-kinds.ps
 value-below t = and 3 value-kinds.ps (falls 3 value-kinds.ps _<_ μ-value t) value.Pre
 
--- src/value.rt:163:9
 array-returns : (t : ℕ) → array-lts.Need-returns (
   open-array-reads.Asked,
   open-array-reads.Learnt,
@@ -61,7 +60,6 @@ array-returns : (t : ℕ) → array-lts.Need-returns (
 ) (array-at t) array.Post
 array-returns t c = search (needs, array-deep)
 
--- src/value.rt:166:9
 array-open-array-requires : (t : ℕ) → array-lts.Need-open-array-requires (
   open-array-reads.Asked,
   open-array-reads.Learnt,
@@ -70,7 +68,6 @@ array-open-array-requires : (t : ℕ) → array-lts.Need-open-array-requires (
 ) (array-at t) array.Post
 array-open-array-requires t c κs = search needs
 
--- src/value.rt:168:22
 array-enum-known-r : (t : ℕ) → array-lts.Need-enum-known-r (
   open-array-reads.Asked,
   open-array-reads.Learnt,
@@ -79,7 +76,6 @@ array-enum-known-r : (t : ℕ) → array-lts.Need-enum-known-r (
 ) (array-at t) array.Post
 array-enum-known-r t c = search needs
 
--- src/value.rt:169:21
 array-enum-known-r-2 : (t : ℕ) → array-lts.Need-enum-known-r-2 (
   open-array-reads.Asked,
   open-array-reads.Learnt,
@@ -88,7 +84,6 @@ array-enum-known-r-2 : (t : ℕ) → array-lts.Need-enum-known-r-2 (
 ) (array-at t) array.Post
 array-enum-known-r-2 t c = search needs
 
--- src/value.rt:170:21
 array-sub-e : (t : ℕ) → array-lts.Need-sub-e (
   open-array-reads.Asked,
   open-array-reads.Learnt,
@@ -97,7 +92,6 @@ array-sub-e : (t : ℕ) → array-lts.Need-sub-e (
 ) (array-at t) array.Post
 array-sub-e t c = search (needs, array-some)
 
--- src/value.rt:171:26
 array-add-under : (t : ℕ) → array-lts.Need-add-under (
   open-array-reads.Asked,
   open-array-reads.Learnt,
@@ -106,7 +100,6 @@ array-add-under : (t : ℕ) → array-lts.Need-add-under (
 ) (array-at t) array.Post
 array-add-under t c = search needs
 
--- src/value.rt:171:25
 array-cast-under : (t : ℕ) → array-lts.Need-cast-under (
   open-array-reads.Asked,
   open-array-reads.Learnt,
@@ -115,7 +108,6 @@ array-cast-under : (t : ℕ) → array-lts.Need-cast-under (
 ) (array-at t) array.Post
 array-cast-under t c = search needs
 
--- src/value.rt:172:19
 array-slice-aggregate-items : (t : ℕ) → array-lts.Need-slice-aggregate-items (
   open-array-reads.Asked,
   open-array-reads.Learnt,
@@ -124,7 +116,6 @@ array-slice-aggregate-items : (t : ℕ) → array-lts.Need-slice-aggregate-items
 ) (array-at t) array.Post
 array-slice-aggregate-items t c = search (needs, part-long)
 
--- src/value.rt:172:61
 array-sub-items : (t : ℕ) → array-lts.Need-sub-items (
   open-array-reads.Asked,
   open-array-reads.Learnt,
@@ -133,7 +124,6 @@ array-sub-items : (t : ℕ) → array-lts.Need-sub-items (
 ) (array-at t) array.Post
 array-sub-items t c = search needs
 
--- src/value.rt:172:13
 array-items-requires : (t : ℕ) → array-lts.Need-items-requires (
   open-array-reads.Asked,
   open-array-reads.Learnt,
@@ -142,7 +132,6 @@ array-items-requires : (t : ℕ) → array-lts.Need-items-requires (
 ) (array-at t) array.Post
 array-items-requires t c κs = search (needs, array-ready)
 
--- src/value.rt:158:1
 array-same-length : (t : ℕ) → array-lts.Need-same-length (
   open-array-reads.Asked,
   open-array-reads.Learnt,
@@ -151,7 +140,6 @@ array-same-length : (t : ℕ) → array-lts.Need-same-length (
 ) (array-at t) array.Post
 array-same-length t c = search needs
 
--- src/value.rt:158:1
 array-returns-2 : (t : ℕ) → array-lts.Need-returns-2 (
   open-array-reads.Asked,
   open-array-reads.Learnt,
@@ -160,7 +148,6 @@ array-returns-2 : (t : ℕ) → array-lts.Need-returns-2 (
 ) (array-at t) array.Post
 array-returns-2 t c = search (needs, array-fault)
 
--- src/value.rt:158:1
 array-same-length-2 : (t : ℕ) → array-lts.Need-same-length-2 (
   open-array-reads.Asked,
   open-array-reads.Learnt,
@@ -169,7 +156,6 @@ array-same-length-2 : (t : ℕ) → array-lts.Need-same-length-2 (
 ) (array-at t) array.Post
 array-same-length-2 t c = search needs
 
--- src/value.rt:158:1
 array-same-length-3 : (t : ℕ) → array-lts.Need-same-length-3 (
   open-array-reads.Asked,
   open-array-reads.Learnt,
@@ -178,7 +164,6 @@ array-same-length-3 : (t : ℕ) → array-lts.Need-same-length-3 (
 ) (array-at t) array.Post
 array-same-length-3 t c = search needs
 
--- src/value.rt:158:1
 array-returns-3 : (t : ℕ) → array-lts.Need-returns-3 (
   open-array-reads.Asked,
   open-array-reads.Learnt,
@@ -193,7 +178,6 @@ items-Inv-loop s store₀ tree₀ parent limit depth i₀ cur₀ store tree i cu
 abbrev items-μ-loop : items-lts.MeasureT-loop
 items-μ-loop s store₀ tree₀ parent limit depth i₀ cur₀ store tree i cur = length s - i
 
--- src/value.rt:184:5
 items-loop-holds : (t : ℕ) → items-lts.Need-loop-holds (
   item-reads.Asked,
   item-reads.Learnt,
@@ -204,7 +188,6 @@ items-loop-holds : (t : ℕ) → items-lts.Need-loop-holds (
 ) (items-at t) items.Post items-Inv-loop items-μ-loop
 items-loop-holds t c = search (needs, start)
 
--- src/value.rt:185:28
 items-sub-item : (t : ℕ) → items-lts.Need-sub-item (
   item-reads.Asked,
   item-reads.Learnt,
@@ -215,7 +198,6 @@ items-sub-item : (t : ℕ) → items-lts.Need-sub-item (
 ) (items-at t) items.Post items-Inv-loop items-μ-loop
 items-sub-item t c = search needs
 
--- src/value.rt:185:28
 items-part-item-start : (t : ℕ) → items-lts.Need-part-item-start (
   item-reads.Asked,
   item-reads.Learnt,
@@ -226,7 +208,6 @@ items-part-item-start : (t : ℕ) → items-lts.Need-part-item-start (
 ) (items-at t) items.Post items-Inv-loop items-μ-loop
 items-part-item-start t c = search needs
 
--- src/value.rt:185:28
 items-part-item-end : (t : ℕ) → items-lts.Need-part-item-end (
   item-reads.Asked,
   item-reads.Learnt,
@@ -237,7 +218,6 @@ items-part-item-end : (t : ℕ) → items-lts.Need-part-item-end (
 ) (items-at t) items.Post items-Inv-loop items-μ-loop
 items-part-item-end t c = search needs
 
--- src/value.rt:185:13
 items-item-requires : (t : ℕ) → items-lts.Need-item-requires (
   item-reads.Asked,
   item-reads.Learnt,
@@ -248,7 +228,6 @@ items-item-requires : (t : ℕ) → items-lts.Need-item-requires (
 ) (items-at t) items.Post items-Inv-loop items-μ-loop
 items-item-requires t c κs = search needs
 
--- src/value.rt:186:17
 items-add-e : (t : ℕ) → items-lts.Need-add-e (
   item-reads.Asked,
   item-reads.Learnt,
@@ -259,7 +238,6 @@ items-add-e : (t : ℕ) → items-lts.Need-add-e (
 ) (items-at t) items.Post items-Inv-loop items-μ-loop
 items-add-e t c = search (needs, item-fits)
 
--- src/value.rt:187:25
 items-sub-blank : (t : ℕ) → items-lts.Need-sub-blank (
   item-reads.Asked,
   item-reads.Learnt,
@@ -270,7 +248,6 @@ items-sub-blank : (t : ℕ) → items-lts.Need-sub-blank (
 ) (items-at t) items.Post items-Inv-loop items-μ-loop
 items-sub-blank t c = search (needs, item-high)
 
--- src/value.rt:187:25
 items-part-blank-start : (t : ℕ) → items-lts.Need-part-blank-start (
   item-reads.Asked,
   item-reads.Learnt,
@@ -281,7 +258,6 @@ items-part-blank-start : (t : ℕ) → items-lts.Need-part-blank-start (
 ) (items-at t) items.Post items-Inv-loop items-μ-loop
 items-part-blank-start t c = search needs
 
--- src/value.rt:187:25
 items-part-blank-end : (t : ℕ) → items-lts.Need-part-blank-end (
   item-reads.Asked,
   item-reads.Learnt,
@@ -292,7 +268,6 @@ items-part-blank-end : (t : ℕ) → items-lts.Need-part-blank-end (
 ) (items-at t) items.Post items-Inv-loop items-μ-loop
 items-part-blank-end t c = search (needs, item-high)
 
--- src/value.rt:187:12
 items-blank-requires : (t : ℕ) → items-lts.Need-blank-requires (
   item-reads.Asked,
   item-reads.Learnt,
@@ -303,7 +278,6 @@ items-blank-requires : (t : ℕ) → items-lts.Need-blank-requires (
 ) (items-at t) items.Post items-Inv-loop items-μ-loop
 items-blank-requires t c κs = search needs
 
--- src/value.rt:188:17
 items-add-i : (t : ℕ) → items-lts.Need-add-i (
   item-reads.Asked,
   item-reads.Learnt,
@@ -314,7 +288,6 @@ items-add-i : (t : ℕ) → items-lts.Need-add-i (
 ) (items-at t) items.Post items-Inv-loop items-μ-loop
 items-add-i t c = search (needs, next-fits)
 
--- src/value.rt:184:5
 items-loop-less : (t : ℕ) → items-lts.Need-loop-less (
   item-reads.Asked,
   item-reads.Learnt,
@@ -325,7 +298,6 @@ items-loop-less : (t : ℕ) → items-lts.Need-loop-less (
 ) (items-at t) items.Post items-Inv-loop items-μ-loop
 items-loop-less t c = search (needs, item-less)
 
--- src/value.rt:184:5
 items-loop-again : (t : ℕ) → items-lts.Need-loop-again (
   item-reads.Asked,
   item-reads.Learnt,
@@ -336,7 +308,6 @@ items-loop-again : (t : ℕ) → items-lts.Need-loop-again (
 ) (items-at t) items.Post items-Inv-loop items-μ-loop
 items-loop-again t c = search (needs, item-blank)
 
--- src/value.rt:190:27
 items-sub-value : (t : ℕ) → items-lts.Need-sub-value (
   item-reads.Asked,
   item-reads.Learnt,
@@ -347,7 +318,6 @@ items-sub-value : (t : ℕ) → items-lts.Need-sub-value (
 ) (items-at t) items.Post items-Inv-loop items-μ-loop
 items-sub-value t c = search (needs, item-high)
 
--- src/value.rt:190:27
 items-part-value-start : (t : ℕ) → items-lts.Need-part-value-start (
   item-reads.Asked,
   item-reads.Learnt,
@@ -358,7 +328,6 @@ items-part-value-start : (t : ℕ) → items-lts.Need-part-value-start (
 ) (items-at t) items.Post items-Inv-loop items-μ-loop
 items-part-value-start t c = search needs
 
--- src/value.rt:190:27
 items-part-value-end : (t : ℕ) → items-lts.Need-part-value-end (
   item-reads.Asked,
   item-reads.Learnt,
@@ -369,7 +338,6 @@ items-part-value-end : (t : ℕ) → items-lts.Need-part-value-end (
 ) (items-at t) items.Post items-Inv-loop items-μ-loop
 items-part-value-end t c = search (needs, item-high)
 
--- src/value.rt:190:17
 items-value-requires : (t : ℕ) → items-lts.Need-value-requires (
   item-reads.Asked,
   item-reads.Learnt,
@@ -380,7 +348,6 @@ items-value-requires : (t : ℕ) → items-lts.Need-value-requires (
 ) (items-at t) items.Post items-Inv-loop items-μ-loop
 items-value-requires t c κs = search (needs, item-ready)
 
--- src/value.rt:192:30
 items-enum-known-r : (t : ℕ) → items-lts.Need-enum-known-r (
   item-reads.Asked,
   item-reads.Learnt,
@@ -391,7 +358,6 @@ items-enum-known-r : (t : ℕ) → items-lts.Need-enum-known-r (
 ) (items-at t) items.Post items-Inv-loop items-μ-loop
 items-enum-known-r t c = search needs
 
--- src/value.rt:193:21
 items-same-length : (t : ℕ) → items-lts.Need-same-length (
   item-reads.Asked,
   item-reads.Learnt,
@@ -402,7 +368,6 @@ items-same-length : (t : ℕ) → items-lts.Need-same-length (
 ) (items-at t) items.Post items-Inv-loop items-μ-loop
 items-same-length t c = search needs
 
--- src/value.rt:193:21
 items-same-length-2 : (t : ℕ) → items-lts.Need-same-length-2 (
   item-reads.Asked,
   item-reads.Learnt,
@@ -413,7 +378,6 @@ items-same-length-2 : (t : ℕ) → items-lts.Need-same-length-2 (
 ) (items-at t) items.Post items-Inv-loop items-μ-loop
 items-same-length-2 t c = search needs
 
--- src/value.rt:193:21
 items-returns : (t : ℕ) → items-lts.Need-returns (
   item-reads.Asked,
   item-reads.Learnt,
@@ -424,7 +388,6 @@ items-returns : (t : ℕ) → items-lts.Need-returns (
 ) (items-at t) items.Post items-Inv-loop items-μ-loop
 items-returns t c = search (needs, item-fault)
 
--- src/value.rt:195:29
 items-enum-known-r-2 : (t : ℕ) → items-lts.Need-enum-known-r-2 (
   item-reads.Asked,
   item-reads.Learnt,
@@ -435,7 +398,6 @@ items-enum-known-r-2 : (t : ℕ) → items-lts.Need-enum-known-r-2 (
 ) (items-at t) items.Post items-Inv-loop items-μ-loop
 items-enum-known-r-2 t c = search needs
 
--- src/value.rt:197:25
 items-add-i-2 : (t : ℕ) → items-lts.Need-add-i-2 (
   item-reads.Asked,
   item-reads.Learnt,
@@ -446,7 +408,6 @@ items-add-i-2 : (t : ℕ) → items-lts.Need-add-i-2 (
 ) (items-at t) items.Post items-Inv-loop items-μ-loop
 items-add-i-2 t c = search (needs, next-fits)
 
--- src/value.rt:184:5
 items-loop-less-2 : (t : ℕ) → items-lts.Need-loop-less-2 (
   item-reads.Asked,
   item-reads.Learnt,
@@ -457,7 +418,6 @@ items-loop-less-2 : (t : ℕ) → items-lts.Need-loop-less-2 (
 ) (items-at t) items.Post items-Inv-loop items-μ-loop
 items-loop-less-2 t c = search (needs, item-less)
 
--- src/value.rt:184:5
 items-loop-again-2 : (t : ℕ) → items-lts.Need-loop-again-2 (
   item-reads.Asked,
   item-reads.Learnt,
@@ -468,7 +428,6 @@ items-loop-again-2 : (t : ℕ) → items-lts.Need-loop-again-2 (
 ) (items-at t) items.Post items-Inv-loop items-μ-loop
 items-loop-again-2 t c = search (needs, item-fine)
 
--- src/value.rt:178:1
 items-same-length-3 : (t : ℕ) → items-lts.Need-same-length-3 (
   item-reads.Asked,
   item-reads.Learnt,
@@ -479,7 +438,6 @@ items-same-length-3 : (t : ℕ) → items-lts.Need-same-length-3 (
 ) (items-at t) items.Post items-Inv-loop items-μ-loop
 items-same-length-3 t c = search needs
 
--- src/value.rt:178:1
 items-same-length-4 : (t : ℕ) → items-lts.Need-same-length-4 (
   item-reads.Asked,
   item-reads.Learnt,
@@ -490,7 +448,6 @@ items-same-length-4 : (t : ℕ) → items-lts.Need-same-length-4 (
 ) (items-at t) items.Post items-Inv-loop items-μ-loop
 items-same-length-4 t c = search needs
 
--- src/value.rt:178:1
 items-returns-2 : (t : ℕ) → items-lts.Need-returns-2 (
   item-reads.Asked,
   item-reads.Learnt,
@@ -501,7 +458,6 @@ items-returns-2 : (t : ℕ) → items-lts.Need-returns-2 (
 ) (items-at t) items.Post items-Inv-loop items-μ-loop
 items-returns-2 t c = search (needs, done)
 
--- src/value.rt:142:9
 value-trim-requires : (t : ℕ) → value-lts.Need-trim-requires (
   trim-reads.Asked,
   trim-reads.Learnt,
@@ -516,7 +472,6 @@ value-trim-requires : (t : ℕ) → value-lts.Need-trim-requires (
 ) (value-at t) value.Post
 value-trim-requires t c κs = search needs
 
--- src/value.rt:145:26
 value-sub-peek : (t : ℕ) → value-lts.Need-sub-peek (
   trim-reads.Asked,
   trim-reads.Learnt,
@@ -531,7 +486,6 @@ value-sub-peek : (t : ℕ) → value-lts.Need-sub-peek (
 ) (value-at t) value.Post
 value-sub-peek t c = search needs
 
--- src/value.rt:145:26
 value-part-peek-start : (t : ℕ) → value-lts.Need-part-peek-start (
   trim-reads.Asked,
   trim-reads.Learnt,
@@ -546,7 +500,6 @@ value-part-peek-start : (t : ℕ) → value-lts.Need-part-peek-start (
 ) (value-at t) value.Post
 value-part-peek-start t c = search needs
 
--- src/value.rt:145:26
 value-part-peek-end : (t : ℕ) → value-lts.Need-part-peek-end (
   trim-reads.Asked,
   trim-reads.Learnt,
@@ -561,7 +514,6 @@ value-part-peek-end : (t : ℕ) → value-lts.Need-part-peek-end (
 ) (value-at t) value.Post
 value-part-peek-end t c = search needs
 
--- src/value.rt:145:9
 value-peek-requires : (t : ℕ) → value-lts.Need-peek-requires (
   trim-reads.Asked,
   trim-reads.Learnt,
@@ -576,7 +528,6 @@ value-peek-requires : (t : ℕ) → value-lts.Need-peek-requires (
 ) (value-at t) value.Post
 value-peek-requires t c κs = search needs
 
--- src/value.rt:147:17
 value-add-a : (t : ℕ) → value-lts.Need-add-a (
   trim-reads.Asked,
   trim-reads.Learnt,
@@ -591,7 +542,6 @@ value-add-a : (t : ℕ) → value-lts.Need-add-a (
 ) (value-at t) value.Post
 value-add-a t c = search (needs, quote-fits)
 
--- src/value.rt:148:23
 value-sub-string : (t : ℕ) → value-lts.Need-sub-string (
   trim-reads.Asked,
   trim-reads.Learnt,
@@ -606,7 +556,6 @@ value-sub-string : (t : ℕ) → value-lts.Need-sub-string (
 ) (value-at t) value.Post
 value-sub-string t c = search (needs, quote-some)
 
--- src/value.rt:148:23
 value-part-string-start : (t : ℕ) → value-lts.Need-part-string-start (
   trim-reads.Asked,
   trim-reads.Learnt,
@@ -621,7 +570,6 @@ value-part-string-start : (t : ℕ) → value-lts.Need-part-string-start (
 ) (value-at t) value.Post
 value-part-string-start t c = search (needs, quote-some)
 
--- src/value.rt:148:23
 value-part-string-end : (t : ℕ) → value-lts.Need-part-string-end (
   trim-reads.Asked,
   trim-reads.Learnt,
@@ -636,7 +584,6 @@ value-part-string-end : (t : ℕ) → value-lts.Need-part-string-end (
 ) (value-at t) value.Post
 value-part-string-end t c = search needs
 
--- src/value.rt:148:9
 value-string-requires : (t : ℕ) → value-lts.Need-string-requires (
   trim-reads.Asked,
   trim-reads.Learnt,
@@ -651,7 +598,6 @@ value-string-requires : (t : ℕ) → value-lts.Need-string-requires (
 ) (value-at t) value.Post
 value-string-requires t c κs = search (needs, quote-ready)
 
--- src/value.rt:148:9
 value-same-length : (t : ℕ) → value-lts.Need-same-length (
   trim-reads.Asked,
   trim-reads.Learnt,
@@ -666,7 +612,6 @@ value-same-length : (t : ℕ) → value-lts.Need-same-length (
 ) (value-at t) value.Post
 value-same-length t c = search needs
 
--- src/value.rt:148:9
 value-same-length-2 : (t : ℕ) → value-lts.Need-same-length-2 (
   trim-reads.Asked,
   trim-reads.Learnt,
@@ -681,7 +626,6 @@ value-same-length-2 : (t : ℕ) → value-lts.Need-same-length-2 (
 ) (value-at t) value.Post
 value-same-length-2 t c = search needs
 
--- src/value.rt:148:9
 value-returns : (t : ℕ) → value-lts.Need-returns (
   trim-reads.Asked,
   trim-reads.Learnt,
@@ -696,7 +640,6 @@ value-returns : (t : ℕ) → value-lts.Need-returns (
 ) (value-at t) value.Post
 value-returns t c = search (needs, value-string)
 
--- src/value.rt:151:17
 value-add-a-2 : (t : ℕ) → value-lts.Need-add-a-2 (
   trim-reads.Asked,
   trim-reads.Learnt,
@@ -711,7 +654,6 @@ value-add-a-2 : (t : ℕ) → value-lts.Need-add-a-2 (
 ) (value-at t) value.Post
 value-add-a-2 t c = search (needs, bracket-fits)
 
--- src/value.rt:152:22
 value-sub-array : (t : ℕ) → value-lts.Need-sub-array (
   trim-reads.Asked,
   trim-reads.Learnt,
@@ -726,7 +668,6 @@ value-sub-array : (t : ℕ) → value-lts.Need-sub-array (
 ) (value-at t) value.Post
 value-sub-array t c = search (needs, bracket-some)
 
--- src/value.rt:152:22
 value-part-array-start : (t : ℕ) → value-lts.Need-part-array-start (
   trim-reads.Asked,
   trim-reads.Learnt,
@@ -741,7 +682,6 @@ value-part-array-start : (t : ℕ) → value-lts.Need-part-array-start (
 ) (value-at t) value.Post
 value-part-array-start t c = search (needs, bracket-some)
 
--- src/value.rt:152:22
 value-part-array-end : (t : ℕ) → value-lts.Need-part-array-end (
   trim-reads.Asked,
   trim-reads.Learnt,
@@ -756,7 +696,6 @@ value-part-array-end : (t : ℕ) → value-lts.Need-part-array-end (
 ) (value-at t) value.Post
 value-part-array-end t c = search needs
 
--- src/value.rt:152:9
 value-array-requires : (t : ℕ) → value-lts.Need-array-requires (
   trim-reads.Asked,
   trim-reads.Learnt,
@@ -771,7 +710,6 @@ value-array-requires : (t : ℕ) → value-lts.Need-array-requires (
 ) (value-at t) value.Post
 value-array-requires t c κs = search (needs, bracket-ready)
 
--- src/value.rt:152:9
 value-same-length-3 : (t : ℕ) → value-lts.Need-same-length-3 (
   trim-reads.Asked,
   trim-reads.Learnt,
@@ -786,7 +724,6 @@ value-same-length-3 : (t : ℕ) → value-lts.Need-same-length-3 (
 ) (value-at t) value.Post
 value-same-length-3 t c = search needs
 
--- src/value.rt:152:9
 value-same-length-4 : (t : ℕ) → value-lts.Need-same-length-4 (
   trim-reads.Asked,
   trim-reads.Learnt,
@@ -801,7 +738,6 @@ value-same-length-4 : (t : ℕ) → value-lts.Need-same-length-4 (
 ) (value-at t) value.Post
 value-same-length-4 t c = search needs
 
--- src/value.rt:152:9
 value-returns-2 : (t : ℕ) → value-lts.Need-returns-2 (
   trim-reads.Asked,
   trim-reads.Learnt,
@@ -816,7 +752,6 @@ value-returns-2 : (t : ℕ) → value-lts.Need-returns-2 (
 ) (value-at t) value.Post
 value-returns-2 t c = search (needs, value-array)
 
--- src/value.rt:154:11
 value-sub-plain : (t : ℕ) → value-lts.Need-sub-plain (
   trim-reads.Asked,
   trim-reads.Learnt,
@@ -831,7 +766,6 @@ value-sub-plain : (t : ℕ) → value-lts.Need-sub-plain (
 ) (value-at t) value.Post
 value-sub-plain t c = search needs
 
--- src/value.rt:154:11
 value-part-plain-start : (t : ℕ) → value-lts.Need-part-plain-start (
   trim-reads.Asked,
   trim-reads.Learnt,
@@ -846,7 +780,6 @@ value-part-plain-start : (t : ℕ) → value-lts.Need-part-plain-start (
 ) (value-at t) value.Post
 value-part-plain-start t c = search needs
 
--- src/value.rt:154:11
 value-part-plain-end : (t : ℕ) → value-lts.Need-part-plain-end (
   trim-reads.Asked,
   trim-reads.Learnt,
@@ -861,7 +794,6 @@ value-part-plain-end : (t : ℕ) → value-lts.Need-part-plain-end (
 ) (value-at t) value.Post
 value-part-plain-end t c = search needs
 
--- src/value.rt:154:5
 value-plain-requires : (t : ℕ) → value-lts.Need-plain-requires (
   trim-reads.Asked,
   trim-reads.Learnt,
@@ -876,7 +808,6 @@ value-plain-requires : (t : ℕ) → value-lts.Need-plain-requires (
 ) (value-at t) value.Post
 value-plain-requires t c κs = search needs
 
--- src/value.rt:138:1
 value-same-length-5 : (t : ℕ) → value-lts.Need-same-length-5 (
   trim-reads.Asked,
   trim-reads.Learnt,
@@ -891,7 +822,6 @@ value-same-length-5 : (t : ℕ) → value-lts.Need-same-length-5 (
 ) (value-at t) value.Post
 value-same-length-5 t c = search needs
 
--- src/value.rt:138:1
 value-returns-3 : (t : ℕ) → value-lts.Need-returns-3 (
   trim-reads.Asked,
   trim-reads.Learnt,

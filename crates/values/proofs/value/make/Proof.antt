@@ -6,23 +6,18 @@ use Rattle.values.proofs.value.make.Reads as reads
 use Rattle.values.proofs.value.make.Lts as lts
 use Rattle.tree.proofs.put.Reads as put-reads
 
--- src/value.rt:21:9
 returns : tie.Need-returns
 returns c = search (needs, make-full)
 
--- src/value.rt:23:5
 put-requires : tie.Need-put-requires
 put-requires c κs = search needs
 
--- src/value.rt:26:15
 add-t10 : tie.Need-add-t10
 add-t10 c = search needs
 
--- src/value.rt:15:1
 same-length : tie.Need-same-length
 same-length c = search needs
 
--- src/value.rt:15:1
 returns-2 : tie.Need-returns-2
 returns-2 c = search (needs, make-put)
 

@@ -10,87 +10,66 @@ use Rattle.values.proofs.value.make.Reads as make-reads
 use Rattle.values.proofs.value.sign_kind.Reads as sign-kind-reads
 use Rattle.values.proofs.value.valued.Reads as valued-reads
 
--- src/value.rt:102:24
 slice-aggregate-same : tie.Need-slice-aggregate-same
 slice-aggregate-same c = search needs
 
--- src/value.rt:102:8
 same-requires : tie.Need-same-requires
 same-requires c κs = search needs
 
--- src/value.rt:103:13
 valued-requires : tie.Need-valued-requires
 valued-requires c κs = search needs
 
--- src/value.rt:104:9
 make-requires : tie.Need-make-requires
 make-requires c κs = search needs
 
--- src/value.rt:104:9
 same-length : tie.Need-same-length
 same-length c = search needs
 
--- src/value.rt:104:9
 returns : tie.Need-returns
 returns c = search (needs, plain-true)
 
--- src/value.rt:106:24
 slice-aggregate-same-2 : tie.Need-slice-aggregate-same-2
 slice-aggregate-same-2 c = search needs
 
--- src/value.rt:106:8
 same-requires-2 : tie.Need-same-requires-2
 same-requires-2 c κs = search needs
 
--- src/value.rt:107:13
 valued-requires-2 : tie.Need-valued-requires-2
 valued-requires-2 c κs = search needs
 
--- src/value.rt:108:9
 make-requires-2 : tie.Need-make-requires-2
 make-requires-2 c κs = search needs
 
--- src/value.rt:108:9
 same-length-2 : tie.Need-same-length-2
 same-length-2 c = search needs
 
--- src/value.rt:108:9
 returns-2 : tie.Need-returns-2
 returns-2 c = search (needs, plain-false)
 
--- src/value.rt:110:9
 read-int-requires : tie.Need-read-int-requires
 read-int-requires c κs = search needs
 
--- src/value.rt:112:20
 enum-known-i : tie.Need-enum-known-i
 enum-known-i c = search needs
 
--- src/value.rt:113:17
 sign-kind-requires : tie.Need-sign-kind-requires
 sign-kind-requires c κs = search needs
 
--- src/value.rt:114:17
 valued-requires-3 : tie.Need-valued-requires-3
 valued-requires-3 c κs = search needs
 
--- src/value.rt:115:13
 make-requires-3 : tie.Need-make-requires-3
 make-requires-3 c κs = search needs
 
--- src/value.rt:117:23
 enum-told : tie.Need-enum-told
 enum-told c = search needs
 
--- src/value.rt:98:1
 same-length-3 : tie.Need-same-length-3
 same-length-3 c = search needs
 
--- src/value.rt:98:1
 returns-3 : tie.Need-returns-3
 returns-3 c = search (needs, plain-int)
 
--- src/value.rt:98:1
 returns-4 : tie.Need-returns-4
 returns-4 c = search (needs, plain-wrong)
 

@@ -10,99 +10,75 @@ use Rattle.values.proofs.value.fault.Reads as fault-reads
 use Rattle.values.proofs.value.make.Reads as make-reads
 use Rattle.values.proofs.value.string_slot.Reads as string-slot-reads
 
--- src/value.rt:87:9
 put-string-requires : tie.Need-put-string-requires
 put-string-requires c κs = search needs
 
--- src/value.rt:89:34
 enum-known-d : tie.Need-enum-known-d
 enum-known-d c = search needs
 
--- src/value.rt:89:56
 add-fault : tie.Need-add-fault
 add-fault c = search (needs, escape-fits)
 
--- src/value.rt:89:47
 fault-requires : tie.Need-fault-requires
 fault-requires c κs = search needs
 
--- src/value.rt:90:28
 enum-known-d-2 : tie.Need-enum-known-d-2
 enum-known-d-2 c = search needs
 
--- src/value.rt:90:50
 add-fault-2 : tie.Need-add-fault-2
 add-fault-2 c = search (needs, unended-fits)
 
--- src/value.rt:90:41
 fault-requires-2 : tie.Need-fault-requires-2
 fault-requires-2 c κs = search needs
 
--- src/value.rt:91:31
 enum-known-d-3 : tie.Need-enum-known-d-3
 enum-known-d-3 c = search needs
 
--- src/value.rt:93:23
 add-blank : tie.Need-add-blank
 add-blank c = search (needs, done-fits)
 
--- src/value.rt:96:29
 sub-blank : tie.Need-sub-blank
 sub-blank c = search (needs, done-high)
 
--- src/value.rt:96:29
 part-blank-start : tie.Need-part-blank-start
 part-blank-start c = search (needs, done-high)
 
--- src/value.rt:96:29
 part-blank-end : tie.Need-part-blank-end
 part-blank-end c = search needs
 
--- src/value.rt:96:16
 blank-requires : tie.Need-blank-requires
 blank-requires c κs = search needs
 
--- src/value.rt:97:21
 string-slot-requires : tie.Need-string-slot-requires
 string-slot-requires c κs = search (needs, done-low)
 
--- src/value.rt:98:17
 make-requires : tie.Need-make-requires
 make-requires c κs = search needs
 
--- src/value.rt:98:17
 same-length : tie.Need-same-length
 same-length c = search needs
 
--- src/value.rt:98:17
 same-length-2 : tie.Need-same-length-2
 same-length-2 c = search needs
 
--- src/value.rt:98:17
 returns : tie.Need-returns
 returns c = search (needs, string-made)
 
--- src/value.rt:74:1
 same-length-3 : tie.Need-same-length-3
 same-length-3 c = search needs
 
--- src/value.rt:74:1
 returns-2 : tie.Need-returns-2
 returns-2 c = search (needs, string-8)
 
--- src/value.rt:74:1
 same-length-4 : tie.Need-same-length-4
 same-length-4 c = search needs
 
--- src/value.rt:74:1
 returns-3 : tie.Need-returns-3
 returns-3 c = search (needs, string-9)
 
--- src/value.rt:74:1
 same-length-5 : tie.Need-same-length-5
 same-length-5 c = search needs
 
--- src/value.rt:74:1
 returns-4 : tie.Need-returns-4
 returns-4 c = search (needs, string-10)
 
