@@ -3,7 +3,8 @@ use Prim.Native.Nat.{ℕ}
 use mathlib.Core.List.{List, [], _∷_, _++_}
 use mathlib.Core.Path.{_≡_, refl}
 use Rattle.meaning.specs.Base.{ascii}
-use Rattle.meaning.specs.Limits.{Limits, of01}
+use Rattle.meaning.specs.declared.Limits.{Limits}
+use Rattle.meaning.specs.Limits.{of01}
 use Rattle.meaning.specs.Refusal.{Answer, accepted, atLine, atNoLine}
 use Rattle.meaning.specs.Lines.{Line, lines, computes}
 

@@ -6,7 +6,8 @@ use mathlib.Core.List.{List, [], _∷_, _++_}
 use mathlib.Core.Path.{_≡_, refl}
 use lib.ListN.{replicate}
 use Rattle.meaning.specs.Base.{ascii}
-use Rattle.meaning.specs.Limits.{Limits, of01}
+use Rattle.meaning.specs.declared.Limits.{Limits}
+use Rattle.meaning.specs.Limits.{of01}
 use Rattle.meaning.specs.Refusal.{Answer, accepted, atLine, atNoLine, unmet, unknown, notTable, notArray, pathless, hollow, notLast}
 use Rattle.meaning.specs.Reading.{Grown, grown, stuck}
 use Rattle.meaning.specs.Tree.{Value, Table, boolean, array, table, none′, item, empty, entry}
