@@ -5,8 +5,8 @@ pub mod planning;
 pub mod reading;
 pub mod validating;
 
-use toml_lite::Read;
 use parse::Refusal;
+use toml_lite::Read;
 ghost use mathlib.Core.Path.{_≡_};
 ghost use Rattle.tree.specs.Doors.{Rooms};
 ghost use Rattle.parse.specs.Verdict.{Told};
@@ -32,7 +32,7 @@ pub fn unread(number: u32, line: usize) -> Outcome
     ensures { λ r. ⌜ r ≡ record { number = number; section = 0; place = line; made = 0 } ⌝ }
 {
     Outcome {
-        number: number,
+        number,
         section: 0,
         place: line,
         made: 0,
@@ -49,7 +49,7 @@ pub fn settle(v: Refusal, store: &mut [u8], tree: &mut [u8], made: usize) -> Out
             number: 0,
             section: 0,
             place: 0,
-            made: made,
+            made,
         };
     }
     slices::zero(store);
