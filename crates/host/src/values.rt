@@ -218,7 +218,7 @@ fn unread(number: u32) -> ValueRead
 fn sized(text: &[u8], store: &[u8], tree: &[u8]) -> u32
     ensures { λ r. ⌜ r ≡ sizedOf (now (text .entry)) (now (store .entry)) (now (tree .entry)) ⌝ }
 {
-    if toml_lite::large(store, tree) {
+    if toml_lite::rooms_suffice(store, tree) {
         if 32768 < text.len() {
             return 1;
         }

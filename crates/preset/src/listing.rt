@@ -23,7 +23,7 @@ pub struct Listed {
 }
 
 // Whether an output is shorter than a listing may be, or longer than its count of bytes can say.
-fn short(out: &[u8], name: &[u8]) -> bool
+fn lacks_room(out: &[u8], name: &[u8]) -> bool
     ensures { λ r. ⌜ r ≡ meant.short (length (now (out .entry))) (now (name .entry)) ⌝ }
 {
     if out.len() < LISTING_BYTES {
@@ -111,7 +111,7 @@ pub fn listing(
 ) -> Listed
     ensures { λ r. ⌜ Lists (now (text .entry)) (now (name .entry)) (now (store .entry)) (now (tree .entry)) (now (out .entry)) (now (store .exit)) (now (tree .exit)) (now (out .exit)) r ⌝ }
 {
-    if short(out, name) {
+    if lacks_room(out, name) {
         return no_room(store, tree, out);
     }
     list_text(text, name, store, tree, out)

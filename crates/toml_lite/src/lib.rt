@@ -39,7 +39,7 @@ pub enum Read {
 }
 
 // The number of a refused key, or 0.
-fn refusal(v: Verdict) -> u32
+fn key_fault(v: Verdict) -> u32
     ensures { λ r. ⌜ r ≡ verdictNumber v ⌝ }
 {
     match v {
@@ -88,7 +88,7 @@ fn header(s: &[u8], store: &mut [u8], tree: &mut [u8], st: State, limits: Limits
     let made = st.made;
     let key = scalar::key::put_key(s, store, used, limits.segments);
     let verdict = key.verdict;
-    let fault = refusal(verdict);
+    let fault = key_fault(verdict);
     if fault != 0 {
         return LineRead::Fault(fault);
     }
@@ -105,7 +105,7 @@ fn header_item(s: &[u8], store: &mut [u8], tree: &mut [u8], st: State, limits: L
     let made = st.made;
     let key = scalar::key::put_key(s, store, used, limits.segments);
     let verdict = key.verdict;
-    let fault = refusal(verdict);
+    let fault = key_fault(verdict);
     if fault != 0 {
         return LineRead::Fault(fault);
     }
@@ -130,7 +130,7 @@ fn hang_key(
     let made = st.made;
     let key = scalar::key::put_key(s, store, used, limits.segments);
     let verdict = key.verdict;
-    let fault = refusal(verdict);
+    let fault = key_fault(verdict);
     if fault != 0 {
         return LineRead::Fault(fault);
     }
@@ -369,7 +369,7 @@ fn read_roomy(text: &[u8], store: &mut [u8], tree: &mut [u8]) -> Read
 }
 
 // Whether both rooms take every text within 01's limits, by their lengths alone.
-pub fn large(store: &[u8], tree: &[u8]) -> bool
+pub fn rooms_suffice(store: &[u8], tree: &[u8]) -> bool
     ensures { λ r. ⌜ r ≡ suffice (length (now (store .entry))) (length (now (tree .entry))) ⌝ }
 {
     if store.len() < TEXT_BYTES {
@@ -386,7 +386,7 @@ fn read_empty(text: &[u8], store: &mut [u8], tree: &mut [u8]) -> Read
     requires { ⌜ Empty (now store) (now tree) ⌝ }
     ensures { λ r. ⌜ Cleared (now (store .entry)) (now (tree .entry)) (now (store .exit)) (now (tree .exit)) (judged (now (text .entry)) (length (now (store .entry))) (length (now (tree .entry)))) r ⌝ }
 {
-    if large(store, tree) {
+    if rooms_suffice(store, tree) {
         return read_roomy(text, store, tree);
     }
     Read::Fault {
