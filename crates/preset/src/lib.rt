@@ -5,8 +5,8 @@ pub mod planning;
 pub mod reading;
 pub mod validating;
 
-use toml_lite::Read;
 use parse::Refusal;
+use toml_lite::Read;
 ghost use mathlib.Core.Path.{_≡_};
 ghost use Rattle.tree.specs.Doors.{Rooms};
 ghost use Rattle.parse.specs.Verdict.{Told};
