@@ -1,4 +1,4 @@
-//! The documents name definitions and theorems: each of them exists.
+//! The documents name definitions, theorems and functions: each of them exists.
 use std::fs;
 use std::path::{Path, PathBuf};
 
@@ -101,19 +101,21 @@ fn defines(file: &Path, name: &str) -> bool {
     })
 }
 
+/// README.md and all documents.
+fn papers() -> Vec<PathBuf> {
+    let docs = fs::read_dir(root().join("docs")).expect("docs");
+    let mut out = vec![root().join("README.md")];
+    out.extend(docs.map(|entry| entry.expect("an entry").path()));
+    out.retain(|p| p.extension().is_some_and(|e| e == "md"));
+    out
+}
+
 #[test]
 fn names_in_documents_exist() {
-    let mut papers = vec![root().join("README.md")];
-    for entry in fs::read_dir(root().join("docs")).expect("docs") {
-        papers.push(entry.expect("an entry").path());
-    }
     let mut asked = 0;
     let mut missing = Vec::new();
-    for paper in papers
-        .iter()
-        .filter(|p| p.extension().is_some_and(|e| e == "md"))
-    {
-        let text = fs::read_to_string(paper).expect("a document");
+    for paper in papers() {
+        let text = fs::read_to_string(&paper).expect("a document");
         // the format is what the definitions say
         let home = paper.ends_with("FORMAT.md").then_some("meaning");
         for word in quoted(&text) {
@@ -133,6 +135,65 @@ fn names_in_documents_exist() {
     assert!(
         missing.is_empty(),
         "no such definitions:\n{}",
+        missing.join("\n")
+    );
+}
+
+/// The sources of a crate in Rattle, and of the one in Rust that has its name.
+fn sources(owner: &str) -> String {
+    let mut out = String::new();
+    for folder in [format!("crates/{owner}/src"), format!("rust/{owner}/src")] {
+        let Ok(entries) = fs::read_dir(root().join(folder)) else {
+            continue;
+        };
+        for entry in entries {
+            out.push_str(&fs::read_to_string(entry.expect("an entry").path()).unwrap_or_default());
+        }
+    }
+    out
+}
+
+/// `crate::module::name`: the crate, and the name that it is to declare.
+fn called(word: &str) -> Option<(&str, &str)> {
+    let (owner, rest) = word.split_once("::")?;
+    let name = rest.rsplit("::").next()?;
+    let known = is_crate_name(owner) && root().join("crates").join(owner).is_dir();
+    let plain = name.chars().all(|c| c.is_ascii_alphanumeric() || c == '_');
+    (known && plain).then_some((owner, name))
+}
+
+fn declares(owner: &str, name: &str) -> bool {
+    let text = sources(owner);
+    let words = text
+        .split(|c: char| !c.is_ascii_alphanumeric() && c != '_')
+        .filter(|w| !w.is_empty());
+    let words: Vec<&str> = words.collect();
+    let heads = ["fn", "struct", "enum", "mod", "const"];
+    words
+        .windows(2)
+        .any(|pair| heads.contains(&pair[0]) && pair[1] == name)
+}
+
+#[test]
+fn functions_in_documents_exist() {
+    let mut asked = 0;
+    let mut missing = Vec::new();
+    for paper in papers() {
+        let text = fs::read_to_string(&paper).expect("a document");
+        for word in quoted(&text) {
+            let Some((owner, name)) = called(&word) else {
+                continue;
+            };
+            asked += 1;
+            if !declares(owner, name) {
+                missing.push(format!("{}: {word}", paper.display()));
+            }
+        }
+    }
+    assert!(asked > 50, "only {asked} functions were found");
+    assert!(
+        missing.is_empty(),
+        "no such functions:\n{}",
         missing.join("\n")
     );
 }
