@@ -184,6 +184,12 @@ fn functions_in_documents_exist() {
             let Some((owner, name)) = called(&word) else {
                 continue;
             };
+            // for hosts, modules are those of `port`
+            let owner = if paper.ends_with("HOST.md") {
+                "port"
+            } else {
+                owner
+            };
             asked += 1;
             if !declares(owner, name) {
                 missing.push(format!("{}: {word}", paper.display()));
