@@ -95,9 +95,10 @@ pub fn holds(room: &[u8], held: &[u8]) -> Result<(), String> {
     };
     // words of 64 bytes, since this is done after every text
     let (chunks, tail) = rest.as_chunks::<64>();
-    match chunks.iter().all(zero) && tail.iter().all(|&b| b == 0) {
-        true => Ok(()),
-        false => Err("the room is not zero to its end".into()),
+    if chunks.iter().all(zero) && tail.iter().all(|&b| b == 0) {
+        Ok(())
+    } else {
+        Err("the room is not zero to its end".into())
     }
 }
 

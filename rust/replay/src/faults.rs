@@ -121,9 +121,10 @@ impl Function {
         for (room, what) in zero.iter().zip(["store", "tree room", "output"]) {
             holds(room, b"").map_err(|e| format!("{}, {what}: {e}", self.called))?;
         }
-        match said.number > 0 && count > 0 {
-            true => Err(format!("{}: {said:?}", self.called)),
-            false => Ok(said),
+        if said.number > 0 && count > 0 {
+            Err(format!("{}: {said:?}", self.called))
+        } else {
+            Ok(said)
         }
     }
 
@@ -158,9 +159,10 @@ impl Bench {
         let furthest = *said.last().expect("some functions");
         for (function, said) in FUNCTIONS.iter().zip(said) {
             let far = furthest.number <= function.last;
-            let agrees = match far && furthest.number > 0 {
-                true => said == furthest,
-                false => said.number == 0,
+            let agrees = if far && furthest.number > 0 {
+                said == furthest
+            } else {
+                said.number == 0
             };
             if !agrees {
                 return Err(format!("{}: {said:?} beside {furthest:?}", function.called));
@@ -176,14 +178,13 @@ impl Bench {
         let [one, other] = &mut self.rooms;
         // after a refusal all of them are zero
         let held = first.number > 0 || left(one, function, first) == left(other, function, first);
-        match first == second && held {
-            true => Ok(first),
-            false => {
-                let called = function.called;
-                Err(format!(
-                    "{called}: {first:?}, then {second:?} or other rooms"
-                ))
-            }
+        if first == second && held {
+            Ok(first)
+        } else {
+            let called = function.called;
+            Err(format!(
+                "{called}: {first:?}, then {second:?} or other rooms"
+            ))
         }
     }
 
@@ -209,12 +210,13 @@ impl Bench {
         let [_, _, out] = &mut *rooms;
         let behind = function.written(said);
         let as_it_was = behind.is_none_or(|written| out.filled(self.turn, written));
-        match as_it_was && rooms.iter_mut().all(Room::kept) {
-            true => Ok(said),
-            false => Err(format!(
+        if as_it_was && rooms.iter_mut().all(Room::kept) {
+            Ok(said)
+        } else {
+            Err(format!(
                 "{}: bytes beside the rooms or behind the lines were changed",
                 function.called
-            )),
+            ))
         }
     }
 }

@@ -34,13 +34,14 @@ fn rows() -> Vec<Row> {
     let (mut out, mut head, mut last) = (Vec::new(), None, "");
     for (line, l) in PAPER.lines().enumerate().map(|(i, l)| (i + 1, l)) {
         let begins = l == OF_TOML || l == OF_ORIGINAL;
-        match (l.starts_with('|'), head) {
-            (true, None) => assert!(begins, "line {line}: no table of this document begins so"),
-            (true, Some(h)) if last == h => assert_eq!(l, RULE, "line {line}"),
-            (true, Some(h)) => out.push(row(line, h == OF_TOML, l)),
-            (false, _) => {}
+        let in_table = l.starts_with('|');
+        match head {
+            _ if !in_table => {}
+            None => assert!(begins, "line {line}: no table of this document begins so"),
+            Some(h) if last == h => assert_eq!(l, RULE, "line {line}"),
+            Some(h) => out.push(row(line, h == OF_TOML, l)),
         }
-        head = l.starts_with('|').then_some(head.unwrap_or(l));
+        head = in_table.then_some(head.unwrap_or(l));
         last = l;
     }
     out
@@ -121,9 +122,10 @@ fn quoted(s: &[u8]) -> String {
 
 fn key(k: &[u8]) -> String {
     let bare = |b: &u8| b.is_ascii_alphanumeric() || b"-_".contains(b);
-    match k.iter().all(bare) && !k.is_empty() {
-        true => String::from_utf8_lossy(k).into(),
-        false => quoted(k),
+    if k.iter().all(bare) && !k.is_empty() {
+        String::from_utf8_lossy(k).into()
+    } else {
+        quoted(k)
     }
 }
 

@@ -134,11 +134,14 @@ fn empty_slices() {
                 .unwrap_or_else(|e| panic!("{e}"));
             let full = (0..function.rooms).all(|n| some(3 + n));
             // without a text there are no partitions, and without its key no application is declared
-            let want = match (some(0), some(2)) {
-                _ if !full => 17,
-                (false, _) => [0, 40][usize::from(function.last >= 40)],
-                (true, false) => [0, 80][usize::from(function.last >= 80)],
-                (true, true) => 0,
+            let want = if !full {
+                17
+            } else if !some(0) {
+                [0, 40][usize::from(function.last >= 40)]
+            } else if !some(2) {
+                [0, 80][usize::from(function.last >= 80)]
+            } else {
+                0
             };
             assert_eq!(said.number, want, "{}, {bits:06b}", function.called);
         }

@@ -291,9 +291,10 @@ fn lent_rooms() {
         for (text, key) in texts.iter().flat_map(|t| [(t, None), (t, Some(&b"x"[..]))]) {
             let (mut held, mut slots) = (vec![0xAA; store], vec![0xAA; tree]);
             let got = plan(text.as_bytes(), b"", key.into(), &mut held, &mut slots);
-            let want = match store < STORE_MIN || tree < TREE_MIN {
-                true => &seventeen,
-                false => &model::read(text.as_bytes(), b"", key),
+            let want = if store < STORE_MIN || tree < TREE_MIN {
+                &seventeen
+            } else {
+                &model::read(text.as_bytes(), b"", key)
             };
             assert_eq!(got, outcome(want), "{text:?}, rooms {store}, {tree}");
             if want.is_err() {

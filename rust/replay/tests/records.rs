@@ -196,9 +196,10 @@ fn lent_rooms() {
                 section: 0,
                 place: 0,
             });
-            let want = match small {
-                true => seventeen,
-                false => model::read(text.as_bytes(), b""),
+            let want = if small {
+                seventeen
+            } else {
+                model::read(text.as_bytes(), b"")
             };
             assert_eq!(got, outcome(&want), "{text:?}, rooms {store}, {tree}");
             holds(&held, if got.made > 0 { b"a" } else { b"" }).expect("store");

@@ -75,8 +75,9 @@ const MANY: u64 = 100_000;
 /// Whether every number of 01 was met, where there were many texts.
 pub fn enough(run: &Run, met: &Met) -> Result<(), String> {
     let unmet = met.unmet();
-    match run.count < MANY || unmet.is_empty() {
-        true => Ok(()),
-        false => Err(format!("never met: {unmet:?}")),
+    if run.count < MANY || unmet.is_empty() {
+        Ok(())
+    } else {
+        Err(format!("never met: {unmet:?}"))
     }
 }

@@ -60,9 +60,10 @@ fn net(text: &str, kind: char, end: &str, bracket: &str) -> usize {
     let (mut low, mut high) = (0, text.matches(kind).count());
     while low < high {
         let middle = (low + high) / 2;
-        match judge(middle).ok() == few {
-            true => low = middle + 1,
-            false => high = middle,
+        if judge(middle).ok() == few {
+            low = middle + 1;
+        } else {
+            high = middle;
         }
     }
     assert_eq!(judge(low), Ok(true), "{text:?}");

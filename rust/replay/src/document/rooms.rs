@@ -205,9 +205,10 @@ impl Rooms {
         self.store.fill(noise);
         self.tree.fill(noise);
         let got = read(self.store.bytes(), self.tree.bytes());
-        match self.store.kept() && self.tree.kept() {
-            true => Ok(got),
-            false => Err("bytes beside the rooms were changed".into()),
+        if self.store.kept() && self.tree.kept() {
+            Ok(got)
+        } else {
+            Err("bytes beside the rooms were changed".into())
         }
     }
 }

@@ -82,12 +82,13 @@ impl Host {
         })?;
         let number = want.as_ref().err().map_or(0, |refusal| refusal.number);
         let same = |own: &mut Room, other: &mut Room| holds(other.bytes(), own.bytes()).is_ok();
-        match planned.number == number
+        if planned.number == number
             && same(&mut exact.store, &mut long.store)
             && same(&mut exact.tree, &mut long.tree)
         {
-            true => Ok(()),
-            false => Err(format!("the planner, {planned:?}, leaves other rooms")),
+            Ok(())
+        } else {
+            Err(format!("the planner, {planned:?}, leaves other rooms"))
         }
     }
 
@@ -152,9 +153,10 @@ fn written(out: &mut Room, noise: u64, want: &[u8]) -> Result<(), String> {
     if got != want {
         return Err(differing(&rows(got), &rows(want)));
     }
-    match out.filled(noise, want.len()) {
-        true => Ok(()),
-        false => Err("the output is changed behind the last line".into()),
+    if out.filled(noise, want.len()) {
+        Ok(())
+    } else {
+        Err("the output is changed behind the last line".into())
     }
 }
 

@@ -54,10 +54,12 @@ impl Host {
     ) -> Result<(), String> {
         let want = one.told(read);
         self.selected.clone_from(&one.selected);
-        let told = match (one.brief, fully) {
-            (true, _) => self.briefly(text, name, &want),
-            (false, true) => self.judge_fully(text, name, &want).map(drop),
-            (false, false) => self.judge(text, name, &want).map(drop),
+        let told = if one.brief {
+            self.briefly(text, name, &want)
+        } else if fully {
+            self.judge_fully(text, name, &want).map(drop)
+        } else {
+            self.judge(text, name, &want).map(drop)
         };
         told.map_err(|e| format!("{}{e}", about(&self.selected)))
     }
@@ -100,9 +102,10 @@ fn component(planned: &Planned, i: usize) -> Result<(), String> {
     if found.iter().any(|f| *f != found[0]) {
         return Err(format!("only some views of component {i} are there"));
     }
-    match !found[0] && (placed || source(planned.rooms, pbp)?) {
-        true => Err(format!("component {i} is not there but for {pbp:?}")),
-        false => ends(planned.rooms, planned.role(i).features),
+    if !found[0] && (placed || source(planned.rooms, pbp)?) {
+        Err(format!("component {i} is not there but for {pbp:?}"))
+    } else {
+        ends(planned.rooms, planned.role(i).features)
     }
 }
 
@@ -110,9 +113,11 @@ fn component(planned: &Planned, i: usize) -> Result<(), String> {
 fn source(rooms: Rooms, s: SourceView) -> Result<bool, String> {
     let bare = SourceView::default();
     ends(rooms, s.features)?;
-    match (s.kind, s.file == bare.file) {
-        (0, _) if s == bare => Ok(false),
-        (1, true) | (2, false) => Ok(true),
+    let filed = s.file != bare.file;
+    match s.kind {
+        0 if s == bare => Ok(false),
+        1 if !filed => Ok(true),
+        2 if filed => Ok(true),
         _ => Err(format!("{s:?}")),
     }
 }

@@ -9,9 +9,10 @@ const FEW: usize = 8;
 
 // The places of applications whose plans are looked at in every view.
 fn looked_at(count: usize) -> Vec<usize> {
-    match count <= FEW {
-        true => (0..count).collect(),
-        false => vec![0, count / 2, count - 1],
+    if count <= FEW {
+        (0..count).collect()
+    } else {
+        vec![0, count / 2, count - 1]
     }
 }
 

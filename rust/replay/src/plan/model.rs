@@ -54,9 +54,10 @@ pub(crate) fn chosen<'a>(
     let place = p.apps.iter().position(|a| a.package == key);
     let place = place.ok_or(refused(80, 0))?;
     let app = &p.apps[place];
-    match p.components.iter().any(|c| c.name == app.name) {
-        true => Err(refused(81, place)),
-        false => Ok(Some(app)),
+    if p.components.iter().any(|c| c.name == app.name) {
+        Err(refused(81, place))
+    } else {
+        Ok(Some(app))
     }
 }
 

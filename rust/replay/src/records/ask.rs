@@ -185,9 +185,10 @@ impl Host {
         }
         let same =
             *exact.store.bytes() == store[..STORE_MIN] && *exact.tree.bytes() == tree[..TREE_MIN];
-        match got == outcome(want) && same {
-            true => Ok(()),
-            false => Err(format!("the function below, {got:?}, leaves other rooms")),
+        if got == outcome(want) && same {
+            Ok(())
+        } else {
+            Err(format!("the function below, {got:?}, leaves other rooms"))
         }
     }
 }

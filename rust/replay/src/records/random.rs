@@ -90,9 +90,10 @@ fn draft(r: &mut Rng) -> Draft {
     let wide = (r.below(150) == 0).then(|| SECTIONS[2 + r.below(3)]);
     let mut draft = Draft::default();
     for section in SECTIONS {
-        match wide == Some(section) {
-            true => widened(r, section, &mut draft),
-            false => drawn(r, section, style, &mut draft),
+        if wide == Some(section) {
+            widened(r, section, &mut draft);
+        } else {
+            drawn(r, section, style, &mut draft);
         }
     }
     if r.below(8) == 0 {

@@ -94,10 +94,10 @@ fn front(p: &Preset) -> Option<Refusal> {
 // `riscv32` counts first.
 fn width(target: &[u8]) -> Option<u32> {
     let has = |word: &[u8]| target.windows(word.len()).any(|part| part == word);
-    match (has(b"riscv32"), has(b"riscv64")) {
-        (true, _) => Some(32),
-        (false, true) => Some(64),
-        (false, false) => None,
+    if has(b"riscv32") {
+        Some(32)
+    } else {
+        has(b"riscv64").then_some(64)
     }
 }
 

@@ -80,9 +80,10 @@ fn plural(r: &mut Rng, word: &str, empty: bool, draft: &mut Draft) -> String {
 fn front(r: &mut Rng, p: &Preset, draft: &mut Draft) {
     let (word, ..) = belongings(p.board.chip);
     let platform = p.image.platform != word.as_bytes() || r.below(2) == 0;
-    let known = match platform {
-        true => p.image.platform == word.as_bytes(),
-        false => p.board.chip == Chip::D13x,
+    let known = if platform {
+        p.image.platform == word.as_bytes()
+    } else {
+        p.board.chip == Chip::D13x
     };
     let chip = !known || r.below(2) == 0;
     let fronts = [
@@ -157,12 +158,11 @@ impl Lines<'_> {
             items.reverse();
         }
         let spaced = |item: &&[u8]| item.is_empty() || item.contains(&b' ') || item.contains(&b',');
-        let value = match items.iter().any(spaced) || self.r.below(2) == 0 {
-            true => {
-                let all: Vec<_> = items.iter().map(|item| quoted(item)).collect();
-                format!("[{}]", all.join(", "))
-            }
-            false => quoted(&items.join(&b" ,"[self.r.below(2)])),
+        let value = if items.iter().any(spaced) || self.r.below(2) == 0 {
+            let all: Vec<_> = items.iter().map(|item| quoted(item)).collect();
+            format!("[{}]", all.join(", "))
+        } else {
+            quoted(&items.join(&b" ,"[self.r.below(2)]))
         };
         self.put(key, value);
     }
@@ -184,9 +184,10 @@ fn quoted(s: &[u8]) -> String {
 
 fn key(r: &mut Rng, s: &[u8]) -> String {
     let plain = |b: &u8| b.is_ascii_alphanumeric() || matches!(b, b'-' | b'_');
-    match s.iter().all(plain) && r.below(4) > 0 {
-        true => String::from_utf8_lossy(s).into(),
-        false => quoted(s),
+    if s.iter().all(plain) && r.below(4) > 0 {
+        String::from_utf8_lossy(s).into()
+    } else {
+        quoted(s)
     }
 }
 

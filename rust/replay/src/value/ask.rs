@@ -104,10 +104,10 @@ fn ends(s: &[u8], room: usize, count: usize) -> Result<Vec<usize>, String> {
         let mut store = vec![0xAA; room];
         let end = value::key_end(s, &mut store, i);
         holds(&store, b"").map_err(|e| format!("key, end {i}: {e}"))?;
-        match i < count {
-            true => out.push(end),
-            false if end == 0 => {}
-            false => return Err(format!("key: segment {i} of {count} ends at {end}")),
+        if i < count {
+            out.push(end);
+        } else if end != 0 {
+            return Err(format!("key: segment {i} of {count} ends at {end}"));
         }
     }
     Ok(out)
@@ -121,9 +121,10 @@ fn segments(held: &[u8], ends: &[usize]) -> Result<Vec<Bytes>, String> {
         out.push(Bytes(part.to_vec()));
         from = end;
     }
-    match from == held.len() {
-        true => Ok(out),
-        false => Err("key: the last end is not that of the store".into()),
+    if from == held.len() {
+        Ok(out)
+    } else {
+        Err("key: the last end is not that of the store".into())
     }
 }
 
@@ -150,9 +151,10 @@ pub fn value_in(s: &[u8], store_room: usize, tree_room: usize) -> Result<Read, S
     let slots: Vec<_> = (0..made).map(|n| plain(value::slot(&tree, n))).collect();
     let value = rebuild(&slots, &held)?;
     // no byte and no number but by the rules
-    match value.lay() == (held, slots) {
-        true => Ok(Ok(value)),
-        false => Err(format!("value: {value:?} is laid otherwise")),
+    if value.lay() == (held, slots) {
+        Ok(Ok(value))
+    } else {
+        Err(format!("value: {value:?} is laid otherwise"))
     }
 }
 

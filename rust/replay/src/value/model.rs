@@ -86,17 +86,19 @@ fn segment(s: &[u8]) -> Result<Bytes, u32> {
         }
         bare => Bytes(bare.to_vec()),
     };
-    match decoded.0.is_empty() {
-        true => Err(7),
-        false => Ok(decoded),
+    if decoded.0.is_empty() {
+        Err(7)
+    } else {
+        Ok(decoded)
     }
 }
 
 /// One value: 1, or what its parts are refused with in reading order.
 pub fn value(s: &[u8]) -> Read {
-    match s.len() > TEXT_MAX {
-        true => Err(1),
-        false => Reader { made: 0 }.value(s, 0),
+    if s.len() > TEXT_MAX {
+        Err(1)
+    } else {
+        Reader { made: 0 }.value(s, 0)
     }
 }
 
@@ -109,9 +111,10 @@ impl Reader {
     /// Counts a value; 16 is the last thing that it can be refused with.
     pub fn make(&mut self) -> Result<(), u32> {
         self.made += 1;
-        match self.made > VALUES_MAX {
-            true => Err(16),
-            false => Ok(()),
+        if self.made > VALUES_MAX {
+            Err(16)
+        } else {
+            Ok(())
         }
     }
 

@@ -25,9 +25,10 @@ impl Judge {
 
     fn both(&mut self, text: &[u8]) -> Result<(), String> {
         let want = model::read(text);
-        let heard = match self.differed {
-            true => self.host.judge_fully(text, &want),
-            false => self.host.judge(text, &want),
+        let heard = if self.differed {
+            self.host.judge_fully(text, &want)
+        } else {
+            self.host.judge(text, &want)
         };
         let heard = heard.map_err(|e| format!("port against definition, {e}"))?;
         let number = heard.as_ref().err().map_or(0, |&n| n);

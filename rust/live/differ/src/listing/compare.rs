@@ -52,9 +52,10 @@ impl Judge {
     fn all(&mut self, text: &[u8]) -> Result<(), String> {
         let want = listed(text, &self.name)?;
         self.met.count(want.as_ref().err().map_or(0, |e| e.number));
-        let told = match self.differed {
-            true => self.host.judge_fully(text, &self.name, &want),
-            false => self.host.judge(text, &self.name, &want),
+        let told = if self.differed {
+            self.host.judge_fully(text, &self.name, &want)
+        } else {
+            self.host.judge(text, &self.name, &want)
         };
         told.map_err(|e| format!("port against definition, {e}"))
     }
