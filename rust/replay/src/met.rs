@@ -58,7 +58,12 @@ impl Met {
     /// In one line.
     pub fn summary(&self) -> String {
         let met = self.0.iter().enumerate().skip(1).filter(|(_, n)| **n > 0);
-        let refused: String = met.map(|(number, n)| format!(" {number}: {n},")).collect();
-        format!("{} accepted; refused{refused}", self.of(0))
+        let refused: Vec<_> = met.map(|(number, n)| format!("{number}: {n}")).collect();
+        let refused = if refused.is_empty() {
+            "none".into()
+        } else {
+            refused.join(", ")
+        };
+        format!("{} accepted; refused {refused}", self.of(0))
     }
 }
