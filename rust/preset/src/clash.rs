@@ -1,5 +1,5 @@
 //! One package with two feature sets (60): which uses of it they are.
-use crate::fault::called;
+use crate::entry::called;
 use crate::refusal::{Refusal, Section};
 use crate::schema::{ComponentSpec, Preset};
 use crate::shown::{plain, quoted};

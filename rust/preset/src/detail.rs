@@ -1,6 +1,6 @@
 //! What a refusal's words leave open: the name, the number, and what it was held against.
 use crate::clash;
-use crate::fault::{called, of_whole};
+use crate::entry::{called, of_whole};
 use crate::fields::{self, FEATURES_MAX};
 use crate::refusal::{Refusal, Section};
 use crate::schema::{NAME_MAX, PartitionSpec, Preset};

@@ -36,6 +36,7 @@
 
 mod clash;
 mod detail;
+mod entry;
 pub mod explain;
 mod fault;
 mod fields;

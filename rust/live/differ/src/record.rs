@@ -1,4 +1,5 @@
 //! The recorded answers: of each kind picked texts and a fixed number of random ones.
+use crate::picked::plain;
 use crate::records::compare::{Question, answers};
 use crate::{corners, document, listing, original, plan, records, validate, value};
 use replay::document::vector::{Parts, joined};
@@ -229,12 +230,6 @@ fn plan_lines(t: &Parts) -> Vec<String> {
 
 /// All files.
 pub const ALL: [Record; 7] = [TEXT, VALUE, DOCUMENT, RECORDS, VALIDATE, PLAN, LISTING];
-
-/// Texts in one part each.
-pub fn plain(texts: &[&str]) -> Vec<Parts> {
-    let each = texts.iter().map(|t| vec![(t.as_bytes().to_vec(), 1)]);
-    each.collect()
-}
 
 fn utf8(text: &Parts) -> String {
     String::from_utf8(joined(text)).expect("picked and random texts of this kind are UTF-8")

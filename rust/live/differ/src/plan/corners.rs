@@ -1,5 +1,5 @@
 //! Presets on which planners of this sort go wrong.
-use crate::record;
+use crate::picked;
 use crate::validate::corners::{A, B, K, X, Y};
 use replay::document::vector::Parts;
 use replay::records::random::EXAMPLES;
@@ -121,7 +121,6 @@ pub const CORNERS: &[&[&str]] = &[
 
 /// The corners and the presets of the repository.
 pub fn picked() -> Vec<Parts> {
-    let corners = CORNERS.iter().map(|pieces| pieces.concat());
-    let whole = corners.map(|text| vec![(text.into_bytes(), 1)]);
-    whole.chain(record::plain(&EXAMPLES)).collect()
+    let corners = picked::pieced(CORNERS).into_iter();
+    corners.chain(picked::plain(&EXAMPLES)).collect()
 }

@@ -1,5 +1,5 @@
 //! Presets on which validators of this sort go wrong.
-use crate::record;
+use crate::picked;
 use replay::document::vector::Parts;
 use replay::random::Rng;
 use replay::records::random::EXAMPLES;
@@ -305,12 +305,9 @@ pub const CORNERS: &[&[&str]] = &[
 
 /// The corners, the presets of the repository, and two presets for each fault.
 pub fn picked() -> Vec<Parts> {
-    let corners = CORNERS.iter().map(|pieces| pieces.concat());
-    let whole = corners.map(|text| vec![(text.into_bytes(), 1)]);
-    whole
-        .chain(record::plain(&EXAMPLES))
-        .chain(faults())
-        .collect()
+    let corners = picked::pieced(CORNERS).into_iter();
+    let presets = picked::plain(&EXAMPLES);
+    corners.chain(presets).chain(faults()).collect()
 }
 
 // On both chips, at the second and the third entry.
