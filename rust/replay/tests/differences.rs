@@ -6,7 +6,7 @@ use port::preset::{self, Preset};
 use port::records::{self, Rooms};
 use port::text::TEXT_MAX;
 use port::value::{ARRAYS_MAX, SEGMENTS_MAX, STORE_MIN, TREE_MIN, VALUES_MAX};
-use replay::ask::holds;
+use replay::harness::rooms::holds;
 use std::collections::BTreeSet;
 
 const PAPER: &str = include_str!("../../../docs/DIFFERENCES.md");

@@ -2,12 +2,12 @@
 //! the same twice, nothing beside the rooms or behind a listing's lines changed, and rooms that are zero after
 //! a refusal.
 use port::text::TEXT_MAX;
-use replay::ask::holds;
-use replay::faults::{Bench, FUNCTIONS, Function, Input, Said, least};
-use replay::mixed;
-use replay::plan::model;
-use replay::random::Rng;
-use replay::records::random::EXAMPLES;
+use replay::generators::mixed;
+use replay::generators::random::Rng;
+use replay::generators::records::random::EXAMPLES;
+use replay::harness::faults::{Bench, FUNCTIONS, Function, Input, Said, least};
+use replay::harness::rooms::holds;
+use replay::model::plan as model;
 use std::ops::Range;
 use std::thread;
 

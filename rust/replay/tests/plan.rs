@@ -4,21 +4,22 @@ use port::plans::{PlanCounts, Planned, Selection, SourceView, plan};
 use port::preset::{Chip, seen};
 use port::records::{Bytes, Rooms};
 use port::value::{SLOT, STORE_MIN, TREE_MIN};
-use replay::ask::holds;
-use replay::plan::ask::{PLAN, judge, look};
-use replay::plan::cases::CASES;
-use replay::plan::keys::undeclared;
-use replay::plan::{model, random};
-use replay::random::{Rng, turns};
-use replay::records::answer::{Refusal, outcome};
-use replay::records::any::{any_rooms, damaged, filled};
-use replay::records::ask::Host;
-use replay::records::random::{EXAMPLES, name};
-use replay::records::spelling::paths;
-use replay::validate::model as validate;
-use replay::validate::plain::plain;
-use replay::validate::spelled;
-use replay::{records, validate as rules};
+use replay::generators;
+use replay::generators::plan::cases::CASES;
+use replay::generators::plan::keys::undeclared;
+use replay::generators::plan::random;
+use replay::generators::random::{Rng, turns};
+use replay::generators::records::any::{any_rooms, damaged, filled};
+use replay::generators::records::random::{EXAMPLES, name};
+use replay::generators::records::spelling::paths;
+use replay::generators::validate::plain::plain;
+use replay::generators::validate::spelled;
+use replay::harness::ask::plan::{PLAN, judge, look};
+use replay::harness::ask::records::Host;
+use replay::harness::rooms::holds;
+use replay::model::answer::records::{Refusal, outcome};
+use replay::model::plan as model;
+use replay::model::validate;
 
 const BOOT_CHAIN: Selection = Selection { app: 0, key: b"" };
 
@@ -358,8 +359,8 @@ fn views_of_refused_presets() {
     let mut r = Rng::new(11);
     for i in 0..turns(3_000) {
         let text = match i % 3 {
-            0 => records::random::text(&mut r),
-            1 => rules::random::text(&mut r),
+            0 => generators::records::random::text(&mut r),
+            1 => generators::validate::random::text(&mut r),
             _ => random::text(&mut r),
         };
         if let Some((store, tree, made)) = filled(&text) {

@@ -2,17 +2,17 @@
 use port::preset::{View, rebuild, seen};
 use port::records::{self, FeatureList, FeatureView, Rooms, word};
 use port::value::{SLOT, STORE_MIN, TREE_MIN};
-use replay::ask::holds;
-use replay::document::rooms::Room;
-use replay::random::{Rng, turns};
-use replay::records::answer::{Refusal, outcome};
-use replay::records::any::{any_rooms, filled};
-use replay::records::ask::{Host, look};
-use replay::records::draft::{Draft, Edit};
-use replay::records::edits::{edited, edits, faults, paired};
-use replay::records::random::{NAMES, name, text};
-use replay::records::spelling::paths;
-use replay::records::{model, random};
+use replay::generators::random::{Rng, turns};
+use replay::generators::records::any::{any_rooms, filled};
+use replay::generators::records::draft::{Draft, Edit};
+use replay::generators::records::edits::{edited, edits, faults, paired};
+use replay::generators::records::random::{self, NAMES, name, text};
+use replay::generators::records::spelling::paths;
+use replay::harness::ask::records::{Host, look};
+use replay::harness::rooms::Room;
+use replay::harness::rooms::holds;
+use replay::model::answer::records::{Refusal, outcome};
+use replay::model::records as model;
 
 fn judged(host: &mut Host, text: &[u8], name: &[u8]) {
     let told = host.judge(text, name, &model::read(text, name));

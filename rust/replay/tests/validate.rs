@@ -1,14 +1,15 @@
 //! Validation against the definitions alone; these tests need no original.
 use port::preset::{Chip, Media};
-use replay::random::{Rng, turns};
-use replay::records::answer::{Preset, Refusal};
-use replay::records::ask::{Host, VALIDATE};
-use replay::records::model::{self as records, UNLIMITED};
-use replay::records::random::name;
-use replay::validate::cases::CASES;
-use replay::validate::faults::FAULTS;
-use replay::validate::plain::{plain, texts};
-use replay::validate::{model, random, sound, spelled};
+use replay::generators::random::{Rng, turns};
+use replay::generators::records::random::name;
+use replay::generators::validate::cases::CASES;
+use replay::generators::validate::faults::FAULTS;
+use replay::generators::validate::plain::{plain, texts};
+use replay::generators::validate::{random, sound, spelled};
+use replay::harness::ask::records::{Host, VALIDATE};
+use replay::model::answer::records::{Preset, Refusal};
+use replay::model::records::{self, UNLIMITED};
+use replay::model::validate as model;
 
 // What is changed in a plain preset with four entries in each list, and its refusal: number, section
 // and place, 0 for none.

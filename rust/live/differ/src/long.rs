@@ -4,10 +4,10 @@ pub mod answers;
 use crate::run::Run;
 use crate::run::sides::Sides;
 use crate::{document, listing, plan, records, validate};
-use replay::met::Met;
-use replay::mixed;
-use replay::random::Rng;
-use replay::records::random::name;
+use replay::generators::mixed;
+use replay::generators::random::Rng;
+use replay::generators::records::random::name;
+use replay::harness::met::Met;
 
 /// A text through every function that starts from one.
 pub struct All {

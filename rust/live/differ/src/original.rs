@@ -1,6 +1,6 @@
 //! The original's answers in full, found by calling nothing but the original.
 use oracle::toml_lite::probe as rust;
-use replay::answer::{Answer, Joined, Refusal};
+use replay::model::answer::text::{Answer, Joined, Refusal};
 
 /// Everything the original says about a text. Costs a pass over every prefix.
 pub fn answer(text: &str) -> Answer {

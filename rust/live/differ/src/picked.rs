@@ -1,5 +1,5 @@
 //! Picked texts as recorded ones are held: in parts, each with how often it is repeated.
-use replay::document::vector::Parts;
+use replay::harness::vector::document::Parts;
 
 /// One in parts that are written down.
 pub type Fixed = &'static [(&'static [u8], usize)];

@@ -2,8 +2,8 @@
 use differ::long::{All, enough};
 use differ::run::Run;
 use differ::run::sides::Sides;
-use replay::met::Met;
-use replay::random::Rng;
+use replay::generators::random::Rng;
+use replay::harness::met::Met;
 
 const RUN: Run = Run {
     sides: || Box::new(All::default()),

@@ -1,10 +1,10 @@
 //! One whole text through the port, the original and the definitions, which have limits.
 use super::original;
 use crate::shorten::shortest_difference;
-use replay::document::answer::shown;
-use replay::document::ask::{Heard, Host};
-use replay::document::model;
-use replay::met::Met;
+use replay::harness::ask::document::{Heard, Host};
+use replay::harness::met::Met;
+use replay::model::answer::document::shown;
+use replay::model::document as model;
 
 /// Reads texts on all sides and counts the refusals by number, 0 being none.
 #[derive(Default)]

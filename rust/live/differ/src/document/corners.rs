@@ -1,6 +1,6 @@
 //! Whole texts on which readers of this sort go wrong, and texts around every limit.
 use crate::picked::{Fixed, fixed, plain};
-use replay::document::vector::Parts;
+use replay::harness::vector::document::Parts;
 
 pub const CORNERS: &[&str] = &[
     // lines, comments, joining
@@ -242,7 +242,7 @@ pub fn picked() -> Vec<Parts> {
 }
 
 fn presets() -> Vec<Vec<u8>> {
-    let folder = replay::vector::file("../presets");
+    let folder = replay::harness::vector::line::file("../presets");
     let files = std::fs::read_dir(folder).expect("presets/");
     let mut paths: Vec<_> = files.map(|f| f.expect("an entry").path()).collect();
     paths.sort();

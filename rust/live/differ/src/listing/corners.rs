@@ -2,7 +2,7 @@
 use crate::picked::{fixed, pieced};
 use crate::validate::corners::{A, B, K, X, Y};
 use crate::{document, plan, records, validate};
-use replay::document::vector::Parts;
+use replay::harness::vector::document::Parts;
 
 // An updater that goes nowhere, and the last block of all.
 const U: &str = "[[component]]\nname = \"u\"\npackage = \"w\"\nupdater = true\nram = 0\n";

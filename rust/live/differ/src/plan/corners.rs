@@ -1,8 +1,8 @@
 //! Presets on which planners of this sort go wrong.
 use crate::picked;
 use crate::validate::corners::{A, B, K, X, Y};
-use replay::document::vector::Parts;
-use replay::records::random::EXAMPLES;
+use replay::generators::records::random::EXAMPLES;
+use replay::harness::vector::document::Parts;
 
 // An updater that goes nowhere, and a component of a file that leads.
 const U: &str = "[[component]]\nname = \"u\"\npackage = \"w\"\nupdater = true\nram = 0\n";

@@ -1,9 +1,9 @@
 //! Presets on which readers of this sort go wrong, and presets around every limit.
 use crate::picked::{Fixed, fixed, plain};
-use replay::document::vector::Parts;
-use replay::records::draft::Draft;
-use replay::records::edits::{edited, faults};
-use replay::records::random::EXAMPLES;
+use replay::generators::records::draft::Draft;
+use replay::generators::records::edits::{edited, faults};
+use replay::generators::records::random::EXAMPLES;
+use replay::harness::vector::document::Parts;
 
 pub const CORNERS: &[&str] = &[
     // nothing, and what is not looked at

@@ -1,5 +1,5 @@
 //! How far a run is.
-use replay::met::Met;
+use replay::harness::met::Met;
 use std::io::IsTerminal;
 use std::time::Duration;
 

@@ -1,11 +1,11 @@
 //! Presets on which validators of this sort go wrong.
 use crate::picked;
-use replay::document::vector::Parts;
-use replay::random::Rng;
-use replay::records::random::EXAMPLES;
-use replay::validate::cases::CHIPS;
-use replay::validate::faults::FAULTS;
-use replay::validate::{plain, spelled};
+use replay::generators::random::Rng;
+use replay::generators::records::random::EXAMPLES;
+use replay::generators::validate::cases::CHIPS;
+use replay::generators::validate::faults::FAULTS;
+use replay::generators::validate::{plain, spelled};
+use replay::harness::vector::document::Parts;
 
 // A partition, one behind it, a component for each, an application.
 pub(crate) const A: &str = "[[partition]]\nname = \"a\"\noffset = 0\nsize = 4096\n";

@@ -4,8 +4,8 @@ use crate::timing::{Times, measured};
 use differ::listing::original::rendered;
 use oracle::preset::{ImagePlan, Preset, Selection};
 use port::{document, plan, plans, preset, records};
-use replay::faults::{Input, Rooms, least};
-use replay::large::full;
+use replay::generators::large::full;
+use replay::harness::faults::{Input, Rooms, least};
 use std::hint::black_box;
 use std::path::Path;
 

@@ -1,0 +1,60 @@
+//! Presets with nothing in them that could be missing.
+use crate::model::answer::records::Preset;
+use crate::model::records::{self, bare, belongings};
+use crate::model::validate::erase_block;
+use port::preset::{AppSpec, Chip, ComponentSpec, PartitionSpec};
+use std::sync::LazyLock;
+
+fn read(text: &str) -> Preset {
+    let read = records::read(text.as_bytes(), b"board");
+    read.expect("records").preset
+}
+
+// An application with every default.
+static BARE: LazyLock<AppSpec> = LazyLock::new(|| read("[apps.a]").apps.remove(0));
+
+/// An application with nothing but a key and a partition.
+pub fn app(key: &str, partition: &[u8]) -> AppSpec {
+    AppSpec {
+        package: key.into(),
+        name: key.into(),
+        partition: partition.into(),
+        filename: format!("{key}.aic").into(),
+        ..BARE.clone()
+    }
+}
+
+/// A list as records hold it.
+pub fn texts(items: &[&str]) -> Vec<Vec<u8>> {
+    items.iter().map(|item| item.as_bytes().to_vec()).collect()
+}
+
+/// A board and an image with every default, and so many partitions, components and applications.
+pub fn plain(chip: Chip, counts: [u32; 3]) -> Preset {
+    let (word, ..) = belongings(chip);
+    lists(read(&format!("[board]\nchip = \"{word}\"")), counts)
+}
+
+/// With so many of them instead: one block for partition `pi`, component `ci` of package `p` and
+/// application `a0i` for it.
+pub fn lists(mut p: Preset, counts: [u32; 3]) -> Preset {
+    let [partitions, components, apps] = counts;
+    let block = erase_block(p.image.media);
+    let name = |i: u32| format!("p{}", i % partitions).into_bytes();
+    let part = |i: u32| PartitionSpec {
+        name: name(i),
+        offset: i * block,
+        size: block,
+    };
+    let built = |i: u32| ComponentSpec {
+        package: Some(b"p".to_vec()),
+        filename: b"p".to_vec(),
+        partition: name(i),
+        ..bare(&format!("c{i}"))
+    };
+    let used = |i: u32| app(&format!("a{i:02}"), &name(i));
+    p.partitions = (0..partitions).map(part).collect();
+    p.components = (0..components).map(built).collect();
+    p.apps = (0..apps).map(used).collect();
+    p
+}
