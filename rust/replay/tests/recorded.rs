@@ -65,10 +65,11 @@ fn presets(file: &str, defined: fn(&[u8], &[u8]) -> Read, mut host: Host) -> Met
             vector::records::read(&line).unwrap_or_else(|e| panic!("{e} in {line}"));
         let again = vector::records::write(&name, &text, &recorded);
         assert_eq!(again, line, "read and written again");
-        let text = vector::document::joined(&text);
+        let (parts, text) = (&text, vector::document::joined(&text));
         let want = defined(&text, &name);
         let shown = want.clone().map(|answer| (answer.text.made, answer.preset));
-        assert_eq!(shown, recorded, "{line}: definition against record");
+        let shown = vector::records::write(&name, parts, &shown);
+        assert_eq!(shown, line, "definition against record");
         let got = host.judge_fully(&text, &name, &want);
         got.map_err(|e| panic!("{line}: port against record, {e}"))
             .ok();
@@ -98,13 +99,15 @@ fn every_recorded_plan() {
             vector::plan::read(&line).unwrap_or_else(|e| panic!("{e} in {line}"));
         let again = vector::plan::write(&name, &text, &selected, &recorded);
         assert_eq!(again, line, "read and written again");
-        let (text, key) = (vector::document::joined(&text), selected.as_deref());
+        let (parts, key) = (&text, selected.as_deref());
+        let text = vector::document::joined(parts);
         let want = model::plan::read(&text, &name, key);
         let planned = want.as_ref().map_err(|e| *e).and_then(|answer| {
             let plan = model::plan::plan(&answer.preset, key)?;
             Ok((answer.text.made, plan))
         });
-        assert_eq!(planned, recorded, "{line}: definition against record");
+        let planned = vector::plan::write(&name, parts, &selected, &planned);
+        assert_eq!(planned, line, "definition against record");
         host.selected = selected;
         let got = host.judge_fully(&text, &name, &want);
         got.map_err(|e| panic!("{line}: port against record, {e}"))

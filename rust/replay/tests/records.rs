@@ -1,14 +1,15 @@
 //! Records against the definitions alone; these tests need no original.
-use port::preset::{View, rebuild, seen};
 use port::records::{self, FeatureList, FeatureView, Rooms, word};
 use port::value::{SLOT, STORE_MIN, TREE_MIN};
+use port::views::{View, seen};
+use preset::owned;
 use replay::generators::random::{Rng, turns};
 use replay::generators::records::any::{any_rooms, filled};
 use replay::generators::records::draft::{Draft, Edit};
 use replay::generators::records::edits::{edited, edits, faults, paired};
 use replay::generators::records::random::{self, NAMES, name, text};
 use replay::generators::records::spelling::paths;
-use replay::harness::ask::records::{Host, look};
+use replay::harness::ask::records::{Host, difference, look};
 use replay::harness::rooms::Room;
 use replay::harness::rooms::holds;
 use replay::model::answer::records::{Refusal, outcome};
@@ -144,8 +145,7 @@ const FILES: [(&str, Option<&str>); 16] = [
 #[test]
 fn file_names_by_definition() {
     for (path, want) in FILES {
-        let got = model::file_name(path.as_bytes());
-        assert_eq!(got, want.map(str::as_bytes), "{path}");
+        assert_eq!(model::file_name(path), want, "{path}");
     }
 }
 
@@ -165,13 +165,9 @@ fn lent_names() {
         for name in NAMES.into_iter().chain([&long[..], &broken]) {
             let want = model::read(text.as_bytes(), name);
             let board = &want.as_ref().expect("accepted").preset.board.name;
-            let lent = if std::str::from_utf8(name).is_ok() {
-                name
-            } else {
-                b"board"
-            };
+            let lent = str::from_utf8(name).unwrap_or("board");
             let own = text.strip_prefix("[board]\nname = \"");
-            let own = own.map(|rest| rest.trim_end_matches('"').as_bytes());
+            let own = own.map(|rest| rest.trim_end_matches('"'));
             assert_eq!(board, own.unwrap_or(lent), "{}", name.escape_ascii());
             let told = host.judge_fully(text.as_bytes(), name, &want);
             told.map_err(|e| panic!("{text:?}, {}: {e}", name.escape_ascii()))
@@ -350,7 +346,8 @@ fn views_of_a_preset() {
     );
     assert_eq!((counts.partitions, counts.components), (p, c));
     assert_eq!(counts.applications, a);
-    assert_eq!(rebuild(rooms, b""), Ok(want));
+    let got = owned::preset(rooms, b"").expect("records");
+    assert_eq!(difference(&got, &want), None);
     for i in [0, 1, 1_000, usize::MAX - 1] {
         assert_eq!(rooms.partition(p.saturating_add(i)).found, 0);
         assert_eq!(rooms.head(c.saturating_add(i)).found, 0);

@@ -4,9 +4,9 @@ use super::faults::{FUNCTIONS, Function, Input, least};
 use super::rooms::Fenced;
 use crate::generators::large;
 use crate::generators::records::random::EXAMPLES;
-use port::plan::rebuild;
 use port::plans::plan;
 use port::{document, records};
+use preset::owned;
 use std::ffi::{c_int, c_void};
 
 // Linux, 64 bits: what pthread_attr_t takes.
@@ -99,7 +99,7 @@ pub fn most() -> Vec<Most> {
             let made = got.made as usize;
             if got.number == 0 {
                 let rooms = records::Rooms { tree, store, made };
-                rebuild(rooms, i.name, None.into()).expect("a plan");
+                owned::plan(rooms, i.name, None.into()).expect("a plan");
             }
             got.into()
         },

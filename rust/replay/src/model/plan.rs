@@ -1,9 +1,10 @@
 //! Planning of records by 01's rules.
 use super::answer::records::{Preset, Read, Refusal};
-use super::records::{APPLICATION, bare, file_name};
+use super::records::{APPLICATION, bare, file_name, written};
 use super::validate::{self, reference};
-use port::plan::{BuildRequirement, Plan, PlannedComponent, Source};
-use port::preset::{AppSpec, ComponentKind, ComponentSpec};
+use preset::{
+    AppSpec, BuildRequirement, ComponentKind, ComponentSpec, ImagePlan, PlannedComponent, Source,
+};
 
 /// Every number that planning refuses with.
 pub const NUMBERS: [u32; 2] = [80, 81];
@@ -19,7 +20,7 @@ pub fn read(text: &[u8], name: &[u8], selected: Selected) -> Read {
 }
 
 /// The plan of a preset that breaks no rule.
-pub fn plan(p: &Preset, selected: Selected) -> Result<Plan, Refusal> {
+pub fn plan(p: &Preset, selected: Selected) -> Result<ImagePlan, Refusal> {
     let app = chosen(p, selected)?.map(component_of);
     let in_use = p.components.iter().chain(&app);
     let required_builds = first_uses(in_use.flat_map(uses));
@@ -27,7 +28,7 @@ pub fn plan(p: &Preset, selected: Selected) -> Result<Plan, Refusal> {
     if let Some(app) = app {
         components.insert(ahead(p), app);
     }
-    Ok(Plan {
+    Ok(ImagePlan {
         board: p.board.clone(),
         image: p.image.clone(),
         partitions: p.partitions.clone(),
@@ -50,9 +51,9 @@ pub(crate) fn chosen<'a>(
     let Some(key) = selected else {
         return Ok(None);
     };
-    let place = p.apps.iter().position(|a| a.package == key);
-    let place = place.ok_or(refused(80, 0))?;
-    let app = &p.apps[place];
+    let mut apps = p.apps.values().enumerate();
+    let chosen = apps.find(|(_, a)| a.package.as_bytes() == key);
+    let (place, app) = chosen.ok_or(refused(80, 0))?;
     if p.components.iter().any(|c| c.name == app.name) {
         Err(refused(81, place))
     } else {
@@ -62,7 +63,6 @@ pub(crate) fn chosen<'a>(
 
 // What an application does not say is as in a component that does not say it.
 fn component_of(a: &AppSpec) -> ComponentSpec {
-    let name = std::str::from_utf8(&a.name).expect("characters");
     ComponentSpec {
         kind: ComponentKind::App,
         package: Some(a.package.clone()),
@@ -72,7 +72,7 @@ fn component_of(a: &AppSpec) -> ComponentSpec {
         attr: a.attr.clone(),
         load_address: a.load_address,
         entry_offset: a.entry_offset,
-        ..bare(name)
+        ..bare(&a.name)
     }
 }
 
@@ -82,10 +82,10 @@ fn ahead(p: &Preset) -> usize {
     p.components.iter().take_while(|c| !placed(c)).count()
 }
 
-fn built(package: &[u8], bin: Option<&[u8]>, features: &[Vec<u8>]) -> BuildRequirement {
+fn built(package: &str, bin: Option<&str>, features: &[String]) -> BuildRequirement {
     BuildRequirement {
-        package: package.to_vec(),
-        bin: bin.unwrap_or(package).to_vec(),
+        package: package.into(),
+        bin: bin.unwrap_or(package).into(),
         features: features.to_vec(),
     }
 }
@@ -115,9 +115,22 @@ fn first_uses(all: impl Iterator<Item = BuildRequirement>) -> Vec<BuildRequireme
     out
 }
 
+fn source_of(build: BuildRequirement) -> Source {
+    let BuildRequirement {
+        package,
+        bin,
+        features,
+    } = build;
+    Source::Package {
+        package,
+        bin,
+        features,
+    }
+}
+
 // Files move from the record to the sources; only a file beside a package, which 53 refuses, stays.
 fn planned(p: &Preset, mut c: ComponentSpec) -> PlannedComponent {
-    let [own, pbp_package] = packages(&c).map(|build| build.map(Source::Package));
+    let [own, pbp_package] = packages(&c).map(|build| build.map(source_of));
     let source = own.unwrap_or_else(|| Source::File(c.file.take().expect("54")));
     let pbp = c.pbp.take().map(Source::File);
     let name = reference(&c.partition);
@@ -130,25 +143,25 @@ fn planned(p: &Preset, mut c: ComponentSpec) -> PlannedComponent {
     }
 }
 
-fn stem(p: &Preset, selected: Selected) -> Vec<u8> {
+fn stem(p: &Preset, selected: Selected) -> String {
     let leads = |c: &&ComponentSpec| c.kind == ComponentKind::App && !c.partition.is_empty();
     let own = match selected {
-        Some(key) => Some(key),
+        Some(key) => Some(str::from_utf8(key).expect("a declared key")),
         None => p.components.iter().find(leads).and_then(own_stem),
     };
-    own.unwrap_or(&p.board.name).to_vec()
+    own.unwrap_or(&p.board.name).into()
 }
 
-fn own_stem(c: &ComponentSpec) -> Option<&[u8]> {
-    let file = c.file.as_deref();
+fn own_stem(c: &ComponentSpec) -> Option<&str> {
+    let file = c.file.as_deref().map(written);
     let named = c.package.as_deref().or(c.bin.as_deref());
     named.or_else(|| file_stem(file?))
 }
 
 /// A file's name up to its last dot, unless that dot is first.
-pub fn file_stem(path: &[u8]) -> Option<&[u8]> {
+pub fn file_stem(path: &str) -> Option<&str> {
     let name = file_name(path)?;
-    match name.iter().rposition(|&b| b == b'.') {
+    match name.rfind('.') {
         None | Some(0) => Some(name),
         Some(dot) => Some(&name[..dot]),
     }

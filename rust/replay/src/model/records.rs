@@ -2,9 +2,11 @@
 use super::answer::document::{Table, Value};
 use super::answer::records::{Answer, Preset, Read, Refusal};
 use super::document;
-use port::preset::{
+use preset::{
     AppSpec, BoardInfo, Chip, ComponentKind, ComponentSpec, ImageInfo, Media, PartitionSpec,
 };
+use std::collections::{BTreeMap, BTreeSet};
+use std::path::{Path, PathBuf};
 use std::sync::LazyLock;
 
 /// The most entries of each list, and the most items of one feature list.
@@ -91,16 +93,20 @@ impl<'a> Fields<'a> {
         self.table?.get(key.as_bytes())
     }
 
-    fn text(&self, key: &str) -> Field<Option<Vec<u8>>> {
+    fn text(&self, key: &str) -> Field<Option<String>> {
         match self.get(key) {
             None => Ok(None),
-            Some(Value::Str(s)) => Ok(Some(s.clone())),
+            Some(Value::Str(s)) => Ok(Some(characters(s))),
             Some(_) => self.fault(20),
         }
     }
 
-    fn text_or(&self, key: &str, default: &str) -> Field<Vec<u8>> {
+    fn text_or(&self, key: &str, default: &str) -> Field<String> {
         Ok(self.text(key)?.unwrap_or(default.into()))
+    }
+
+    fn path(&self, key: &str) -> Field<Option<PathBuf>> {
+        Ok(self.text(key)?.map(PathBuf::from))
     }
 
     fn number(&self, key: &str) -> Field<Option<u32>> {
@@ -121,7 +127,7 @@ impl<'a> Fields<'a> {
     }
 
     // The length is checked before the items' kinds.
-    fn features(&self, key: &str, most: usize) -> Field<Vec<Vec<u8>>> {
+    fn features(&self, key: &str, most: usize) -> Field<Vec<String>> {
         let items = match self.get(key) {
             None => return Ok(Vec::new()),
             Some(Value::Str(s)) => words(s),
@@ -131,10 +137,10 @@ impl<'a> Fields<'a> {
         if items.len() > most {
             return self.fault(25);
         }
-        let mut out = std::collections::BTreeSet::new();
+        let mut out = BTreeSet::new();
         for item in items {
             match item {
-                Value::Str(s) => out.insert(s),
+                Value::Str(s) => out.insert(characters(&s)),
                 _ => return self.fault(20),
             };
         }
@@ -145,10 +151,15 @@ impl<'a> Fields<'a> {
         field.map_or_else(|| self.fault(24), Ok)
     }
 
-    fn known<T: Copy>(&self, word: &[u8], words: &[(&str, T)]) -> Field<T> {
-        let known = words.iter().find(|(w, _)| w.as_bytes() == word);
+    fn known<T: Copy>(&self, word: &str, words: &[(&str, T)]) -> Field<T> {
+        let known = words.iter().find(|(w, _)| *w == word);
         known.map_or_else(|| self.fault(22), |(_, meant)| Ok(*meant))
     }
+}
+
+// A text that was read is UTF-8, and so are its strings and keys.
+fn characters(s: &[u8]) -> String {
+    str::from_utf8(s).expect("characters").into()
 }
 
 // The pieces between spaces and commas that are not empty.
@@ -296,7 +307,7 @@ fn component(fields: Fields, most: usize) -> Field<ComponentSpec> {
     let name = fields.needed(fields.text("name")?)?;
     let package = fields.text("package")?;
     let bin = fields.text("bin")?;
-    let file = fields.text("file")?;
+    let file = fields.path("file")?;
     let filename = match fields.text("filename")? {
         Some(filename) => filename,
         None => filename_for(&bin, &file, &package),
@@ -321,15 +332,15 @@ fn component(fields: Fields, most: usize) -> Field<ComponentSpec> {
         target_filename: fields.text("target_filename")?,
         updater: fields.flag("updater")?,
         ram: fields.number("ram")?,
-        pbp: fields.text("pbp")?,
+        pbp: fields.path("pbp")?,
         pbp_package: fields.text("pbp_package")?,
-        private: fields.text("private")?,
+        private: fields.path("private")?,
         load_address: fields.number("load_address")?,
         entry_point: fields.number("entry_point")?,
         entry_offset: fields.number("entry_offset")?,
         header_version: fields.number("header_version")?,
         with_ext: fields.flag("with_ext")?,
-        ext_reserve: fields.number("ext_reserve")?.unwrap_or(0),
+        ext_reserve: fields.number("ext_reserve")?.unwrap_or(0) as usize,
     })
 }
 
@@ -347,26 +358,33 @@ pub fn bare(name: &str) -> ComponentSpec {
     }
 }
 
-type Maybe = Option<Vec<u8>>;
-
 // `bin`, else the file's name, else `package`, else `component.bin`.
-pub(crate) fn filename_for(bin: &Maybe, file: &Maybe, package: &Maybe) -> Vec<u8> {
-    let named = file.as_deref().and_then(file_name);
+pub(crate) fn filename_for(
+    bin: &Option<String>,
+    file: &Option<PathBuf>,
+    package: &Option<String>,
+) -> String {
+    let named = file.as_deref().map(written).and_then(file_name);
     let first = bin.as_deref().or(named).or(package.as_deref());
-    first.unwrap_or(b"component.bin").to_vec()
+    first.unwrap_or("component.bin").into()
+}
+
+/// A path of a preset as it is written there: `Path` takes `a//b` and `a/b` for the same.
+pub fn written(path: &Path) -> &str {
+    path.to_str().expect("characters")
 }
 
 /// The last piece between slashes that is neither empty nor `.`; none where that is `..`.
-pub fn file_name(path: &[u8]) -> Option<&[u8]> {
-    let pieces = path.split(|&b| b == b'/');
-    let last = pieces.rev().find(|piece| !matches!(*piece, b"" | b"."));
-    last.filter(|piece| *piece != b"..")
+pub fn file_name(path: &str) -> Option<&str> {
+    let pieces = path.split('/');
+    let last = pieces.rev().find(|piece| !matches!(*piece, "" | "."));
+    last.filter(|piece| *piece != "..")
 }
 
 // In byte order of key, as the tree has them.
-fn applications(root: &Table, limits: &Limits) -> Field<Vec<AppSpec>> {
+fn applications(root: &Table, limits: &Limits) -> Field<BTreeMap<String, AppSpec>> {
     let Some(apps) = table(root, APPLICATION, "apps")?.table else {
-        return Ok(Vec::new());
+        return Ok(BTreeMap::new());
     };
     if apps.len() > limits.applications {
         return Err(Refusal {
@@ -376,16 +394,17 @@ fn applications(root: &Table, limits: &Limits) -> Field<Vec<AppSpec>> {
         });
     }
     let each = |(place, (key, value)): (usize, (&Vec<u8>, &Value))| {
-        application(key, entry(value, APPLICATION, place)?, limits.features)
+        let (key, fields) = (characters(key), entry(value, APPLICATION, place)?);
+        Ok((key.clone(), application(key, fields, limits.features)?))
     };
     apps.iter().enumerate().map(each).collect()
 }
 
-fn application(key: &[u8], fields: Fields, most: usize) -> Field<AppSpec> {
-    let name = fields.text("name")?.unwrap_or(key.to_vec());
-    let file = [&name[..], b".aic"].concat();
+fn application(key: String, fields: Fields, most: usize) -> Field<AppSpec> {
+    let name = fields.text("name")?.unwrap_or(key.clone());
+    let file = format!("{name}.aic");
     Ok(AppSpec {
-        package: key.to_vec(),
+        package: key,
         name,
         partition: fields.text_or("partition", "app")?,
         filename: fields.text("filename")?.unwrap_or(file),

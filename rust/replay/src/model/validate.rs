@@ -2,8 +2,8 @@
 use super::answer::records::{Preset, Read, Refusal};
 use super::records::{self, LIMITS, Limits, belongings};
 use super::records::{APPLICATION, BOARD, COMPONENT, IMAGE, PARTITION};
-use super::value::trimmed;
-use port::preset::{AppSpec, Chip, ComponentSpec, Media, PartitionSpec};
+use super::text::trim;
+use preset::{AppSpec, Chip, ComponentSpec, Media, PartitionSpec};
 
 /// Every number that validation refuses with.
 pub const NUMBERS: [u32; 33] = [
@@ -27,11 +27,12 @@ pub fn read_within(text: &[u8], name: &[u8], limits: &Limits) -> Read {
 
 /// The first rule that is broken, in table order, one entry through its checks before the next.
 pub fn refusal(p: &Preset) -> Option<Refusal> {
+    let apps: Vec<_> = p.apps.values().collect();
     front(p)
         .or_else(|| listed(p, PARTITION, &p.partitions, beginning, partition))
         .or_else(|| listed(p, COMPONENT, &p.components, no_components, component))
         .or_else(|| feature_sets(p))
-        .or_else(|| listed(p, APPLICATION, &p.apps, |_| 0, application))
+        .or_else(|| listed(p, APPLICATION, &apps, |_| 0, application))
         .or_else(|| told(boot_chain(p), COMPONENT, 0))
 }
 
@@ -64,7 +65,7 @@ fn listed<T>(
 // Names of images and applications have no more bytes.
 const NAME_MAX: usize = 32;
 
-fn long(name: &[u8]) -> bool {
+fn long(name: &str) -> bool {
     name.len() > NAME_MAX
 }
 
@@ -78,7 +79,7 @@ fn front(p: &Preset) -> Option<Refusal> {
     };
     let number = first(&[
         (30, p.image.media != media),
-        (31, p.image.platform != word.as_bytes()),
+        (31, p.image.platform != word),
         (32, p.board.profile.is_empty()),
         (33, long(&p.image.boot_app)),
         (34, width.is_none()),
@@ -92,12 +93,11 @@ fn front(p: &Preset) -> Option<Refusal> {
 }
 
 // `riscv32` counts first.
-fn width(target: &[u8]) -> Option<u32> {
-    let has = |word: &[u8]| target.windows(word.len()).any(|part| part == word);
-    if has(b"riscv32") {
+fn width(target: &str) -> Option<u32> {
+    if target.contains("riscv32") {
         Some(32)
     } else {
-        has(b"riscv64").then_some(64)
+        target.contains("riscv64").then_some(64)
     }
 }
 
@@ -138,12 +138,14 @@ fn no_components(p: &Preset) -> u32 {
 }
 
 // The name that a component's reference means: everything from the first `;` dropped, then trimmed.
-pub(crate) fn reference(partition: &[u8]) -> &[u8] {
-    let mut pieces = partition.split(|&b| b == b';');
-    trimmed(pieces.next().expect("one piece at least"))
+pub(crate) fn reference(partition: &str) -> &str {
+    let mut pieces = partition.split(';');
+    let cut = pieces.next().expect("one piece at least");
+    let (from, end) = trim(cut.as_bytes());
+    &cut[from..end]
 }
 
-fn known(p: &Preset, name: &[u8]) -> bool {
+fn known(p: &Preset, name: &str) -> bool {
     p.partitions.iter().any(|part| part.name == name)
 }
 
@@ -167,8 +169,8 @@ fn component(p: &Preset, before: &[ComponentSpec], own: &ComponentSpec) -> u32 {
 struct Use<'a> {
     section: u32,
     place: usize,
-    package: &'a [u8],
-    features: &'a [Vec<u8>],
+    package: &'a str,
+    features: &'a [String],
 }
 
 // Where a component's two packages are one, only `pbp_features` count.
@@ -186,7 +188,7 @@ fn uses(p: &Preset) -> Vec<Use<'_>> {
             }));
         }
     }
-    out.extend(p.apps.iter().enumerate().map(|(place, a)| Use {
+    out.extend(p.apps.values().enumerate().map(|(place, a)| Use {
         section: APPLICATION,
         place,
         package: &a.package,
@@ -204,7 +206,7 @@ fn feature_sets(p: &Preset) -> Option<Refusal> {
     told(60, at.section, at.place)
 }
 
-fn application(p: &Preset, before: &[AppSpec], own: &AppSpec) -> u32 {
+fn application(p: &Preset, before: &[&AppSpec], own: &&AppSpec) -> u32 {
     first(&[
         (61, own.name.is_empty()),
         (62, long(&own.name)),
@@ -217,7 +219,7 @@ fn application(p: &Preset, before: &[AppSpec], own: &AppSpec) -> u32 {
 
 // 70: no component refers to the first partition.
 fn boot_chain(p: &Preset) -> u32 {
-    let targets = |name: &[u8]| p.components.iter().any(|c| reference(&c.partition) == name);
-    let first_name = p.partitions.first().map(|part| &part.name[..]);
+    let targets = |name: &str| p.components.iter().any(|c| reference(&c.partition) == name);
+    let first_name = p.partitions.first().map(|part| part.name.as_str());
     first(&[(70, !first_name.is_some_and(targets))])
 }

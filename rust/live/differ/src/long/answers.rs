@@ -4,9 +4,9 @@ use crate::{document, listing, plan, validate};
 use port::document::Outcome;
 use port::listing::out_min;
 use port::plans;
-use port::preset::Preset;
 use port::value::{STORE_MIN, TREE_MIN};
 use port::{document as trees, records};
+use preset::Preset;
 use replay::model::answer::records::{Read, Refusal};
 
 /// Of the port, of the original and of the definitions, one function after the other.

@@ -4,7 +4,7 @@ use crate::records::compare::{Answers, Judge, Question, agree};
 use crate::records::original::parsed;
 use crate::validate::compare::VALIDATE;
 use oracle::preset::Preset as Theirs;
-use port::preset::Preset;
+use preset::Preset;
 use replay::generators::plan::keys::{Answered, answers};
 use replay::generators::plan::random;
 use replay::harness::ask::plan::{PLAN as DOOR, difference};

@@ -1,7 +1,7 @@
 //! One preset through the port, the original and the definitions, which have limits.
 use super::original::{self, Told};
 use crate::shorten::shortest_difference;
-use port::preset::Preset;
+use preset::Preset;
 use replay::generators::plan::keys::Answered;
 use replay::generators::random::{Rng, turns};
 use replay::generators::records::random;

@@ -4,7 +4,7 @@
 //! it is the second one that is refused.
 use crate::records::original::{Told, read_and};
 use oracle::preset::Preset as Theirs;
-use port::preset::Preset;
+use preset::Preset;
 use replay::model::text::step;
 
 /// The records of a preset that it reads and validates.

@@ -3,9 +3,9 @@ use super::random::{KINDS, PATHS};
 use crate::generators::records::spelling::paths;
 use crate::generators::validate::cases::{Case, references};
 use crate::generators::validate::near::wants;
-use crate::generators::validate::plain::{app, plain};
+use crate::generators::validate::plain::{app, insert, nth_app, plain};
 use crate::model::answer::records::Preset;
-use port::preset::{Chip, ComponentKind, ComponentSpec};
+use preset::{Chip, ComponentKind, ComponentSpec};
 
 /// Each sort by its name.
 pub const CASES: [Case; 6] = [
@@ -42,14 +42,10 @@ fn places() -> Vec<Preset> {
 fn names() -> Vec<Preset> {
     let mut out = Vec::new();
     for n in 0..4usize.pow(5) {
-        let name = |i| {
-            ["a", "b", "ab", ""][n / 4usize.pow(i) % 4]
-                .as_bytes()
-                .to_vec()
-        };
+        let name = |i| ["a", "b", "ab", ""][n / 4usize.pow(i) % 4].to_string();
         let mut p = plain(Chip::D13x, [1, 3, 2]);
         (0..3).for_each(|i| p.components[i].name = name(i as u32));
-        (0..2).for_each(|i| p.apps[i].name = name(3 + i as u32));
+        (0..2).for_each(|i| nth_app(&mut p, i).name = name(3 + i as u32));
         out.push(p);
     }
     out
@@ -59,7 +55,7 @@ fn names() -> Vec<Preset> {
 // an application of either package or of neither.
 fn uses() -> Vec<Preset> {
     const PACKAGES: [Option<&str>; 3] = [None, Some("p"), Some("q")];
-    let bins = [None, Some(b"bin".to_vec())];
+    let bins = [None, Some("bin".to_string())];
     let each = PACKAGES.iter().flat_map(|a| PACKAGES.map(|b| [*a, b]));
     let all = each.flat_map(|packages| bins.clone().map(|bin| (packages, bin)));
     let all: Vec<_> = all.collect();
@@ -71,7 +67,7 @@ fn uses() -> Vec<Preset> {
                 wants(c, *packages, [&[], &[]]);
                 c.bin = bin.clone();
             }
-            p.apps.push(app(key, b"p0"));
+            insert(&mut p, app(key, "p0"));
             out.push(p);
         }
     }
@@ -87,11 +83,11 @@ fn stems() -> Vec<Preset> {
     for file in files.into_iter().chain([None]) {
         for n in 0..12 {
             let mut p = plain(Chip::D21x, [1, 2, 1]);
-            p.board.name = b"named".to_vec();
+            p.board.name = "named".into();
             p.components[1].kind = [ComponentKind::App, ComponentKind::Raw][n % 2];
             let c = &mut p.components[0];
             c.kind = KINDS[n / 4];
-            c.bin = (n / 2 % 2 == 1).then(|| b"bin".to_vec());
+            c.bin = (n / 2 % 2 == 1).then(|| "bin".into());
             if let Some(file) = &file {
                 (c.package, c.file) = (None, Some(file.clone().into()));
             }
@@ -116,10 +112,10 @@ fn full_lists() -> Vec<Preset> {
         wants(c, [Some("a00"), Some("a63")], [&[], &[]]);
     }
     let (last, others) = all[2].components.split_last_mut().expect("64");
-    last.partition = b"p0".to_vec();
+    last.partition = "p0".into();
     others.iter_mut().for_each(unplaced);
-    for (i, a) in all[3].apps.iter_mut().enumerate() {
-        a.name = format!("c{}", 63 - i).into();
+    for (i, a) in all[3].apps.values_mut().enumerate() {
+        a.name = format!("c{}", 63 - i);
     }
     all.into()
 }

@@ -19,8 +19,9 @@ fn looked_at(count: usize) -> Vec<usize> {
 /// Keys that are seldom or never declared: none at all, no characters, one that is begun or goes on,
 /// an application's name, a package.
 pub fn undeclared(p: &Preset) -> [Vec<u8>; 7] {
-    let last = p.apps.last().map_or(&b"k"[..], |a| &a.package);
-    let name = p.apps.first().map_or(&b"board"[..], |a| &a.name);
+    let (first, last) = (p.apps.first_key_value(), p.apps.last_key_value());
+    let last = last.map_or("k", |(key, _)| key).as_bytes();
+    let name = first.map_or("board", |(_, app)| &app.name);
     let package = p.components.first().and_then(|c| c.package.as_deref());
     let all: [&[u8]; 7] = [
         b"",
@@ -28,8 +29,8 @@ pub fn undeclared(p: &Preset) -> [Vec<u8>; 7] {
         b"\xFF",
         &last[..last.len().saturating_sub(1)],
         &[last, b"\0"].concat(),
-        name,
-        package.unwrap_or(b"a/b"),
+        name.as_bytes(),
+        package.unwrap_or("a/b").as_bytes(),
     ];
     all.map(<[u8]>::to_vec)
 }
@@ -78,15 +79,15 @@ pub fn answers(read: &Read) -> Vec<Answered> {
     let told = |key: &[u8]| chosen(preset, Some(key)).err();
     let looked_at = looked_at(preset.apps.len());
     let mut all = vec![Answered::boot_chain(read)];
-    all.extend(preset.apps.iter().enumerate().map(|(i, app)| Answered {
-        selected: Some(app.package.clone()),
-        refusal: told(&app.package),
+    all.extend(preset.apps.keys().enumerate().map(|(i, key)| Answered {
+        selected: Some(key.clone().into_bytes()),
+        refusal: told(key.as_bytes()),
         brief: !looked_at.contains(&i),
     }));
     all[1..].sort_by_key(|one| !one.brief);
     let mut others = undeclared(preset);
     others.rotate_left(answer.text.store.len() % 7);
-    let declared = |key: &Vec<u8>| preset.apps.iter().any(|app| app.package == *key);
+    let declared = |key: &[u8]| preset.apps.keys().any(|own| own.as_bytes() == key);
     let others = others.into_iter().filter(|key| !declared(key)).take(2);
     all.extend(others.map(|key| {
         let refusal = told(&key);

@@ -1,13 +1,12 @@
 //! Random presets to plan: sound ones, changed in what plans go by.
 use crate::generators::random::Rng;
-use crate::generators::validate::faults::insert;
 use crate::generators::validate::near::{Near, drawn, wants};
-use crate::generators::validate::plain::{app, texts};
+use crate::generators::validate::plain::{app, insert, nth_app, texts};
 use crate::generators::validate::{random as validate, sound, spelled};
 use crate::model::answer::records::Preset;
 use crate::model::records::{bare, filename_for};
 use crate::model::validate::reference;
-use port::preset::{ComponentKind, ComponentSpec};
+use preset::{ComponentKind, ComponentSpec};
 
 /// A text: mostly of a preset that breaks no rule, else any that validation is tried on.
 pub fn text(r: &mut Rng) -> Vec<u8> {
@@ -47,11 +46,11 @@ pub const KINDS: [ComponentKind; 3] = [ComponentKind::App, ComponentKind::Pbp, C
 
 // 81: an application is called like a component.
 fn named_alike(r: &mut Rng, p: &mut Preset) {
-    let free = |p: &Preset, name: &[u8]| !name.is_empty() && p.apps.iter().all(|a| a.name != name);
+    let free = |p: &Preset, name: &str| !name.is_empty() && p.apps.values().all(|a| a.name != name);
     let name = p.components[r.below(p.components.len())].name.clone();
     if !p.apps.is_empty() && free(p, &name) {
         let at = r.below(p.apps.len());
-        p.apps[at].name = name;
+        nth_app(p, at).name = name;
     }
 }
 
@@ -107,7 +106,7 @@ fn unplaced(r: &mut Rng, p: &mut Preset) {
 fn bins(r: &mut Rng, p: &mut Preset) {
     for c in &mut p.components {
         let bins = [None, None, Some("one"), Some("two"), Some("")];
-        c.bin = drawn(r, &bins).map(|bin| bin.as_bytes().to_vec());
+        c.bin = drawn(r, &bins).map(String::from);
     }
 }
 
@@ -177,10 +176,10 @@ fn other_paths(r: &mut Rng, p: &mut Preset) {
 fn references(r: &mut Rng, p: &mut Preset) {
     let names: Vec<_> = p.partitions.iter().map(|part| part.name.clone()).collect();
     for c in p.components.iter_mut().filter(|c| !c.partition.is_empty()) {
-        let name = reference(&c.partition).to_vec();
+        let name = reference(&c.partition).to_string();
         c.partition = sound::reference(r, &name);
     }
-    for a in &mut p.apps {
+    for a in p.apps.values_mut() {
         a.partition = names[r.below(names.len())].clone();
     }
 }

@@ -1,11 +1,11 @@
 //! All presets around one boundary, for one boundary after the other.
 use super::faults::FAULTS;
 use super::near::{BEFORE, BEHIND, MULTIPLES, TARGETS, named, offsets, sizes, wants};
-use super::plain::{app, plain, texts};
+use super::plain::{app, insert, nth_app, plain, texts};
 use crate::generators::random::Rng;
 use crate::model::answer::records::Preset;
 use crate::model::validate::{end, erase_block};
-use port::preset::{AppSpec, Chip};
+use preset::{AppSpec, Chip};
 
 pub const CHIPS: [Chip; 2] = [Chip::D13x, Chip::D21x];
 
@@ -86,14 +86,14 @@ fn laid(base: &Preset, n: usize, offset: u32, size: u32) -> Preset {
 fn names() -> Vec<Preset> {
     let mut out = Vec::new();
     for n in 0..4usize.pow(4) {
-        let some = [0, 1, 2, 3].map(|i| ["a", "b", "c", ""][n / 4usize.pow(i) % 4].as_bytes());
+        let some = [0, 1, 2, 3].map(|i| ["a", "b", "c", ""][n / 4usize.pow(i) % 4]);
         let mut all = [(); 3].map(|_| plain(Chip::D13x, [4, 4, 4]));
         for (i, name) in some.into_iter().enumerate() {
             all[0].partitions[i].name = name.into();
             all[0].components[i].partition = name.into();
-            all[0].apps[i].partition = name.into();
+            nth_app(&mut all[0], i).partition = name.into();
             all[1].components[i].name = name.into();
-            all[2].apps[i].name = name.into();
+            nth_app(&mut all[2], i).name = name.into();
         }
         out.extend(all);
     }
@@ -107,7 +107,7 @@ fn lengths() -> Vec<Preset> {
         let mut all = [(); 3].map(|_| plain(Chip::D21x, [1, 2, 2]));
         all[0].image.boot_app = named(&mut r, bytes);
         all[1].components[1].name = named(&mut r, bytes);
-        all[2].apps[1].name = named(&mut r, bytes);
+        nth_app(&mut all[2], 1).name = named(&mut r, bytes);
         out.extend(all);
     }
     out
@@ -123,14 +123,14 @@ pub(crate) fn references() -> Vec<Preset> {
         for name in ["a", " a", "a ", "a;b", ";", "\u{A0}a", "a\u{200B}"] {
             let mut base = plain(Chip::D13x, [2, 2, 1]);
             base.partitions[1].name = name.into();
-            base.components[1].partition = b"p0".to_vec();
+            base.components[1].partition = "p0".into();
             for held in ["a", "p0"] {
-                let reference = [before, held, behind].concat().into_bytes();
+                let reference = [before, held, behind].concat();
                 let mut all = [(); 3].map(|_| base.clone());
                 all[0].components.truncate(1);
                 all[0].components[0].partition = reference.clone();
                 all[1].components[1].partition = reference.clone();
-                all[2].apps[0].partition = reference;
+                nth_app(&mut all[2], 0).partition = reference;
                 out.extend(all);
             }
         }
@@ -153,10 +153,11 @@ fn feature_sets() -> Vec<Preset> {
             let mut p = plain(Chip::D13x, [1, 2, 0]);
             wants(&mut p.components[0], first.0, first.1);
             wants(&mut p.components[1], second.0, second.1);
-            p.apps.extend(features.map(|features| AppSpec {
-                features: texts(features),
-                ..app("p", b"p0")
-            }));
+            if let Some(features) = features {
+                let features = texts(features);
+                let app = app("p", "p0");
+                insert(&mut p, AppSpec { features, ..app });
+            }
             out.push(p);
         }
     }
@@ -174,7 +175,7 @@ fn targets() -> Vec<Preset> {
         for chip in CHIPS {
             out.extend(pieces.iter().map(|last| {
                 let mut p = plain(chip, [1, 1, 0]);
-                p.board.target = format!("{two}{last}").into();
+                p.board.target = format!("{two}{last}");
                 p
             }));
         }
@@ -190,9 +191,9 @@ fn multiples() -> Vec<Preset> {
         .chain((0..32).map(|bit| 1 << bit))
     {
         let mut all = [(); 3].map(|_| plain(Chip::D21x, [1, 2, 2]));
-        all[0].components[1].ext_reserve = n;
+        all[0].components[1].ext_reserve = n as usize;
         all[1].components[1].load_address = Some(n);
-        all[2].apps[1].load_address = Some(n);
+        nth_app(&mut all[2], 1).load_address = Some(n);
         out.extend(all);
     }
     out

@@ -1,11 +1,11 @@
 //! For each rule a way to break it.
-use super::plain::{app, texts};
+use super::plain::{app, insert, nth_app, texts};
 use super::sound::{self, brim};
 use crate::generators::random::Rng;
 use crate::model::answer::records::Preset;
 use crate::model::records::bare;
 use crate::model::validate::{end, erase_block, reference};
-use port::preset::{AppSpec, Chip, ComponentSpec, Media, PartitionSpec};
+use preset::{AppSpec, Chip, ComponentSpec, Media, PartitionSpec};
 
 /// What breaks a rule of a sound preset, at an entry of the list that the rule is about.
 pub type Fault = fn(&mut Preset, usize, &mut Rng);
@@ -49,13 +49,15 @@ pub const FAULTS: [(u32, Fault); 33] = [
         component(p, n, |it| (it.updater, it.ram) = (true, None))
     }),
     (57, |p, n, _| {
-        component(p, n, |it| (it.updater, it.partition) = (false, Vec::new()))
+        component(p, n, |it| {
+            (it.updater, it.partition) = (false, String::new())
+        })
     }),
     (58, |p, n, r| {
         component(p, n, |it| it.partition = r.pick(&NO_REFERENCES).into())
     }),
     (59, |p, n, r| {
-        component(p, n, |it| it.ext_reserve |= bit(r, 512))
+        component(p, n, |it| it.ext_reserve |= bit(r, 512) as usize)
     }),
     (60, two_sets),
     (61, |p, n, _| application(p, n, |it| it.name.clear())),
@@ -85,7 +87,7 @@ fn other_media(media: Media) -> Media {
     }
 }
 
-fn other_word(r: &mut Rng, chip: Chip) -> Vec<u8> {
+fn other_word(r: &mut Rng, chip: Chip) -> String {
     let other = match chip {
         Chip::D13x => "d21x",
         Chip::D21x => "d13x",
@@ -95,9 +97,9 @@ fn other_word(r: &mut Rng, chip: Chip) -> Vec<u8> {
 }
 
 // A name of 33 bytes or more.
-fn over(r: &mut Rng) -> Vec<u8> {
+fn over(r: &mut Rng) -> String {
     let more = r.pick(&["x", "é", "\n", "a longer end than others have"]);
-    (brim(r) + more).into()
+    brim(r) + more
 }
 
 const NEITHER: [&str; 8] = [
@@ -111,7 +113,7 @@ const NEITHER: [&str; 8] = [
     "x86_64",
 ];
 
-fn other_width(r: &mut Rng, chip: Chip) -> Vec<u8> {
+fn other_width(r: &mut Rng, chip: Chip) -> String {
     let wrong = match chip {
         Chip::D13x => ["riscv64", "riscv64gc-unknown-none-elf", "RISCV32-riscv64"],
         Chip::D21x => ["riscv32", "riscv64-riscv32", "riscv32-riscv64"],
@@ -137,7 +139,7 @@ fn later(p: &mut Preset, n: usize, change: impl FnOnce(&mut PartitionSpec, u64, 
     if let [only] = &mut p.partitions[..] {
         only.size = block;
         p.partitions.push(PartitionSpec {
-            name: b"later".to_vec(),
+            name: "later".into(),
             offset: block,
             size: block,
         });
@@ -170,14 +172,20 @@ fn beyond(r: &mut Rng, it: &mut PartitionSpec, end: u64, block: u32) {
 }
 
 // One entry has the name of an earlier one; a single one is written twice.
-fn twice<T: Clone>(list: &mut Vec<T>, n: usize, name: fn(&mut T) -> &mut Vec<u8>) {
+fn twice<T: Clone>(list: &mut Vec<T>, n: usize, name: fn(&mut T) -> &mut String) {
     if list.len() == 1 {
         list.push(list[0].clone());
     }
     if list.len() > 1 {
-        let at = 1 + n % (list.len() - 1);
-        *name(&mut list[at]) = name(&mut list[n % at]).clone();
+        let (early, late) = twins(n, list.len());
+        *name(&mut list[late]) = name(&mut list[early]).clone();
     }
+}
+
+// Two of so many entries, an earlier and a later one.
+fn twins(n: usize, count: usize) -> (usize, usize) {
+    let late = 1 + n % (count - 1);
+    (n % late, late)
 }
 
 fn component(p: &mut Preset, n: usize, change: impl FnOnce(&mut ComponentSpec)) {
@@ -227,7 +235,7 @@ fn two_sets(p: &mut Preset, n: usize, r: &mut Rng) {
     if p.components.len() == 1 {
         let partition = p.components[0].partition.clone();
         let more = ComponentSpec {
-            file: Some(b"blob".to_vec()),
+            file: Some("blob".into()),
             partition,
             ..bare("second")
         };
@@ -240,29 +248,22 @@ fn two_sets(p: &mut Preset, n: usize, r: &mut Rng) {
         0 | 1 => built(&mut late[0], "g"),
         2 => {
             built(&mut late[0], "f");
-            late[0].package = Some(b"three".to_vec());
-            late[0].pbp_package = Some(b"two".to_vec());
+            late[0].package = Some("three".into());
+            late[0].pbp_package = Some("two".into());
             late[0].pbp_features = texts(&["g"]);
         }
         _ => insert(
             p,
             AppSpec {
                 features: texts(&["g"]),
-                ..app("two", b"nowhere")
+                ..app("two", "nowhere")
             },
         ),
     }
 }
 
-// In place of one that has its key.
-pub(crate) fn insert(p: &mut Preset, app: AppSpec) {
-    p.apps.retain(|other| other.package != app.package);
-    p.apps.push(app);
-    p.apps.sort_by(|a, b| a.package.cmp(&b.package));
-}
-
 fn built(c: &mut ComponentSpec, feature: &str) {
-    (c.package, c.file) = (Some(b"two".to_vec()), None);
+    (c.package, c.file) = (Some("two".into()), None);
     (c.pbp, c.pbp_package) = (None, None);
     c.features = texts(&[feature]);
     c.pbp_features = c.features.clone();
@@ -273,7 +274,7 @@ fn at_least(p: &mut Preset, count: usize) {
     let partition = p
         .partitions
         .first()
-        .map_or(b"boot".to_vec(), |p| p.name.clone());
+        .map_or("boot".into(), |p| p.name.clone());
     for key in ["n1", "n2"] {
         if p.apps.len() < count {
             insert(p, app(key, &partition));
@@ -284,12 +285,13 @@ fn at_least(p: &mut Preset, count: usize) {
 fn application(p: &mut Preset, n: usize, change: impl FnOnce(&mut AppSpec)) {
     at_least(p, 1);
     let count = p.apps.len();
-    change(&mut p.apps[n % count]);
+    change(nth_app(p, n % count));
 }
 
 fn same_names(p: &mut Preset, n: usize) {
     at_least(p, 2);
-    twice(&mut p.apps, n, |it| &mut it.name);
+    let (early, late) = twins(n, p.apps.len());
+    nth_app(p, late).name = nth_app(p, early).name.clone();
 }
 
 // All components refer to another partition than the first.

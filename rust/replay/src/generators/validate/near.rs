@@ -1,9 +1,9 @@
 //! Presets around every boundary.
-use super::plain::{app, texts};
+use super::plain::{app, insert, texts};
 use crate::generators::random::Rng;
 use crate::model::answer::records::Preset;
 use crate::model::validate::erase_block;
-use port::preset::ComponentSpec;
+use preset::ComponentSpec;
 
 /// A change of one sort that may break a rule or not.
 pub type Near = fn(&mut Rng, &mut Preset);
@@ -61,18 +61,16 @@ fn layout(r: &mut Rng, p: &mut Preset) {
 
 // Some entries of a list are named like others.
 fn names(r: &mut Rng, p: &mut Preset) {
-    fn copied<T>(r: &mut Rng, list: &mut [T], name: fn(&mut T) -> &mut Vec<u8>) {
-        for i in 0..list.len() {
-            let from = r.below(list.len() * 2);
-            if from < list.len() {
-                *name(&mut list[i]) = name(&mut list[from]).clone();
-            }
+    let mut names: Vec<&mut String> = match r.below(3) {
+        0 => p.partitions.iter_mut().map(|it| &mut it.name).collect(),
+        1 => p.components.iter_mut().map(|it| &mut it.name).collect(),
+        _ => p.apps.values_mut().map(|it| &mut it.name).collect(),
+    };
+    for i in 0..names.len() {
+        let from = r.below(names.len() * 2);
+        if from < names.len() {
+            *names[i] = names[from].clone();
         }
-    }
-    match r.below(3) {
-        0 => copied(r, &mut p.partitions, |it| &mut it.name),
-        1 => copied(r, &mut p.components, |it| &mut it.name),
-        _ => copied(r, &mut p.apps, |it| &mut it.name),
     }
 }
 
@@ -83,21 +81,21 @@ pub const BEHIND: [&str; 9] = ["", "", " ", ";", ";x", " ;x", "\u{A0};;", "x", "
 // Each entry refers to some partition in some way.
 fn references(r: &mut Rng, p: &mut Preset) {
     let mut names: Vec<_> = p.partitions.iter().map(|part| part.name.clone()).collect();
-    names.push(Vec::new());
+    names.push(String::new());
     let components = p.components.iter_mut().map(|c| &mut c.partition);
-    for held in components.chain(p.apps.iter_mut().map(|a| &mut a.partition)) {
+    for held in components.chain(p.apps.values_mut().map(|a| &mut a.partition)) {
         if r.below(2) == 0 {
             let (before, behind) = (r.pick(&BEFORE), r.pick(&BEHIND));
             let name = &names[r.below(names.len())];
-            *held = [before.as_bytes(), name, behind.as_bytes()].concat();
+            *held = [before, name, behind].concat();
         }
     }
 }
 
 /// A component's packages and the features for each; a file where it has no package.
 pub fn wants(c: &mut ComponentSpec, packages: [Option<&str>; 2], features: [&[&str]; 2]) {
-    let [package, pbp] = packages.map(|name| name.map(|name| name.as_bytes().to_vec()));
-    c.file = package.is_none().then(|| b"blob".to_vec());
+    let [package, pbp] = packages.map(|name| name.map(String::from));
+    c.file = package.is_none().then(|| "blob".into());
     (c.package, c.pbp_package, c.pbp) = (package, pbp, None);
     (c.features, c.pbp_features) = (texts(features[0]), texts(features[1]));
 }
@@ -113,29 +111,28 @@ fn uses(r: &mut Rng, p: &mut Preset) {
     let partition = p
         .partitions
         .first()
-        .map_or(Vec::new(), |part| part.name.clone());
+        .map_or(String::new(), |part| part.name.clone());
     for key in ["p", "q"] {
-        p.apps.retain(|a| a.package != key.as_bytes());
+        p.apps.remove(key);
         if r.below(2) == 0 {
             let mut more = app(key, &partition);
             more.features = texts(drawn(r, &SETS));
-            p.apps.push(more);
+            insert(p, more);
         }
     }
-    p.apps.sort_by(|a, b| a.package.cmp(&b.package));
 }
 
 /// A name of so many bytes, some of them in longer characters.
-pub fn named(r: &mut Rng, bytes: usize) -> Vec<u8> {
+pub fn named(r: &mut Rng, bytes: usize) -> String {
     let c = r.pick(&["n", "é", "漢", "😀"]);
     let mut out = c.repeat(bytes / c.len());
     out.extend(std::iter::repeat_n('x', bytes % c.len()));
-    out.into()
+    out
 }
 
 fn lengths(r: &mut Rng, p: &mut Preset) {
     let components = p.components.iter_mut().map(|c| &mut c.name);
-    let apps = p.apps.iter_mut().map(|a| &mut a.name);
+    let apps = p.apps.values_mut().map(|a| &mut a.name);
     for held in components.chain(apps).chain([&mut p.image.boot_app]) {
         if r.below(3) == 0 {
             let bytes = drawn(r, &[0, 1, 30, 31, 31, 32, 32, 32, 33, 34]);
@@ -151,7 +148,7 @@ pub const TARGETS: [&str; 8] = [
 
 fn targets(r: &mut Rng, p: &mut Preset) {
     let pieces: Vec<_> = (0..r.below(5)).map(|_| r.pick(&TARGETS)).collect();
-    p.board.target = pieces.concat().into();
+    p.board.target = pieces.concat();
 }
 
 /// Around multiples of 4 and of 512.
@@ -179,11 +176,11 @@ pub const MULTIPLES: [u32; 18] = [
 fn multiples(r: &mut Rng, p: &mut Preset) {
     for c in &mut p.components {
         if r.below(2) == 0 {
-            c.ext_reserve = drawn(r, &MULTIPLES);
+            c.ext_reserve = drawn(r, &MULTIPLES) as usize;
             c.load_address = Some(drawn(r, &MULTIPLES));
         }
     }
-    for a in &mut p.apps {
+    for a in p.apps.values_mut() {
         if r.below(2) == 0 {
             a.load_address = Some(drawn(r, &MULTIPLES));
         }

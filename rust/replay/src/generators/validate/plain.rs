@@ -2,7 +2,7 @@
 use crate::model::answer::records::Preset;
 use crate::model::records::{self, bare, belongings};
 use crate::model::validate::erase_block;
-use port::preset::{AppSpec, Chip, ComponentSpec, PartitionSpec};
+use preset::{AppSpec, Chip, ComponentSpec, PartitionSpec};
 use std::sync::LazyLock;
 
 fn read(text: &str) -> Preset {
@@ -11,22 +11,35 @@ fn read(text: &str) -> Preset {
 }
 
 // An application with every default.
-static BARE: LazyLock<AppSpec> = LazyLock::new(|| read("[apps.a]").apps.remove(0));
+static BARE: LazyLock<AppSpec> = LazyLock::new(|| {
+    let (_, app) = read("[apps.a]").apps.pop_first().expect("one");
+    app
+});
 
 /// An application with nothing but a key and a partition.
-pub fn app(key: &str, partition: &[u8]) -> AppSpec {
+pub fn app(key: &str, partition: &str) -> AppSpec {
     AppSpec {
         package: key.into(),
         name: key.into(),
         partition: partition.into(),
-        filename: format!("{key}.aic").into(),
+        filename: format!("{key}.aic"),
         ..BARE.clone()
     }
 }
 
 /// A list as records hold it.
-pub fn texts(items: &[&str]) -> Vec<Vec<u8>> {
-    items.iter().map(|item| item.as_bytes().to_vec()).collect()
+pub fn texts(items: &[&str]) -> Vec<String> {
+    items.iter().copied().map(String::from).collect()
+}
+
+/// Application number `n` in byte order of package.
+pub fn nth_app(p: &mut Preset, n: usize) -> &mut AppSpec {
+    p.apps.values_mut().nth(n).expect("so many applications")
+}
+
+/// Puts an application in, in place of one that has its key.
+pub fn insert(p: &mut Preset, app: AppSpec) {
+    p.apps.insert(app.package.clone(), app);
 }
 
 /// A board and an image with every default, and so many partitions, components and applications.
@@ -40,21 +53,22 @@ pub fn plain(chip: Chip, counts: [u32; 3]) -> Preset {
 pub fn lists(mut p: Preset, counts: [u32; 3]) -> Preset {
     let [partitions, components, apps] = counts;
     let block = erase_block(p.image.media);
-    let name = |i: u32| format!("p{}", i % partitions).into_bytes();
+    let name = |i: u32| format!("p{}", i % partitions);
     let part = |i: u32| PartitionSpec {
         name: name(i),
         offset: i * block,
         size: block,
     };
     let built = |i: u32| ComponentSpec {
-        package: Some(b"p".to_vec()),
-        filename: b"p".to_vec(),
+        package: Some("p".into()),
+        filename: "p".into(),
         partition: name(i),
         ..bare(&format!("c{i}"))
     };
     let used = |i: u32| app(&format!("a{i:02}"), &name(i));
     p.partitions = (0..partitions).map(part).collect();
     p.components = (0..components).map(built).collect();
-    p.apps = (0..apps).map(used).collect();
+    p.apps.clear();
+    (0..apps).for_each(|i| insert(&mut p, used(i)));
     p
 }

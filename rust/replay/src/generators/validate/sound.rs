@@ -4,9 +4,8 @@ use crate::generators::random::Rng;
 use crate::model::answer::records::Preset;
 use crate::model::records::{bare, belongings, filename_for};
 use crate::model::validate::erase_block;
-use port::preset::{
-    AppSpec, BoardInfo, Chip, ComponentKind, ComponentSpec, ImageInfo, PartitionSpec,
-};
+use preset::{AppSpec, BoardInfo, Chip, ComponentKind, ComponentSpec, ImageInfo, PartitionSpec};
+use std::collections::BTreeMap;
 
 // Names that a component can refer to, and such as only an application finds.
 const PLAIN: [&str; 8] = ["boot", "app", "env", "é漢", "a b", "x#\"]\\", "-", "B\n\tC"];
@@ -98,7 +97,7 @@ fn image(r: &mut Rng, chip: Chip) -> ImageInfo {
         media,
         media_dev_id: r.below(2) as u32,
         media_id: r.pick(&["", "P=2K,B=128K"]).into(),
-        boot_app: boot_app.into(),
+        boot_app,
     }
 }
 
@@ -133,7 +132,7 @@ fn partitions(r: &mut Rng, chip: Chip) -> Vec<PartitionSpec> {
 const COMPONENTS: [&str; 6] = ["loader", "psram", "", "boot", "é", "lo ader"];
 
 // The first one, or the last, is for the first partition.
-fn components(r: &mut Rng, names: &[Vec<u8>]) -> Vec<ComponentSpec> {
+fn components(r: &mut Rng, names: &[String]) -> Vec<ComponentSpec> {
     let count = 1 + r.below(4);
     let mut own: Vec<_> = some(r, &COMPONENTS, count)
         .into_iter()
@@ -148,16 +147,14 @@ fn components(r: &mut Rng, names: &[Vec<u8>]) -> Vec<ComponentSpec> {
     out
 }
 
-fn component(r: &mut Rng, name: &str, names: &[Vec<u8>]) -> ComponentSpec {
+fn component(r: &mut Rng, name: &str, names: &[String]) -> ComponentSpec {
     let mut c = bare(name);
     c.kind = [ComponentKind::Raw, ComponentKind::App, ComponentKind::Pbp][r.below(3)];
     let features = source(r, &mut c);
     c.updater = r.below(4) == 0;
     c.ram = (c.updater || r.below(4) == 0).then_some([0, 0x4010_0000][r.below(2)]);
     // names that are trimmed or cut are not referred to
-    let found = names
-        .iter()
-        .filter(|name| PLAIN.iter().any(|plain| plain.as_bytes() == **name));
+    let found = names.iter().filter(|name| PLAIN.contains(&name.as_str()));
     let found: Vec<_> = found.collect();
     if !c.updater || r.below(2) == 0 {
         let at = r.below(found.len());
@@ -177,7 +174,7 @@ fn source(r: &mut Rng, c: &mut ComponentSpec) -> &'static [&'static str] {
         0 => c.file = Some(r.pick(&["", "blobs/x.bin", ".."]).into()),
         _ => c.package = Some(package.into()),
     }
-    c.bin = (r.below(6) == 0).then(|| b"bin".to_vec());
+    c.bin = (r.below(6) == 0).then(|| "bin".into());
     c.filename = filename_for(&c.bin, &c.file, &c.package);
     c.features = texts(features);
     c.pbp_features = c.features.clone();
@@ -204,7 +201,7 @@ fn pbp(r: &mut Rng, c: &mut ComponentSpec, features: &[&str]) {
 }
 
 /// What is trimmed and cut to the name.
-pub fn reference(r: &mut Rng, name: &[u8]) -> Vec<u8> {
+pub fn reference(r: &mut Rng, name: &str) -> String {
     let around = [
         ("", ""),
         ("", ""),
@@ -214,7 +211,7 @@ pub fn reference(r: &mut Rng, name: &[u8]) -> Vec<u8> {
         ("", " ;"),
     ];
     let (before, behind) = around[r.below(around.len())];
-    [before.as_bytes(), name, behind.as_bytes()].concat()
+    [before, name, behind].concat()
 }
 
 const KEYS: [&str; 10] = [
@@ -222,7 +219,7 @@ const KEYS: [&str; 10] = [
 ];
 
 // In byte order of key; no two have one name.
-fn applications(r: &mut Rng, names: &[Vec<u8>]) -> Vec<AppSpec> {
+fn applications(r: &mut Rng, names: &[String]) -> BTreeMap<String, AppSpec> {
     let count = [0, 1, 2, 3, 4][r.below(5)];
     let mut keys = some(r, &KEYS, count);
     keys.sort();
@@ -233,15 +230,15 @@ fn applications(r: &mut Rng, names: &[Vec<u8>]) -> Vec<AppSpec> {
             2 => format!("n {key}"),
             _ => key.to_string(),
         };
-        application(r, key, &name, names)
+        (key.to_string(), application(r, key, &name, names))
     })
     .collect()
 }
 
-fn application(r: &mut Rng, key: &str, name: &str, names: &[Vec<u8>]) -> AppSpec {
+fn application(r: &mut Rng, key: &str, name: &str, names: &[String]) -> AppSpec {
     let mut a = app(key, &names[r.below(names.len())]);
     a.name = name.into();
-    a.filename = [&a.name[..], b".aic"].concat();
+    a.filename = format!("{name}.aic");
     if r.below(4) == 0 {
         a.filename = r.pick(&["x.bin", " "]).into();
     }

@@ -4,8 +4,9 @@ use crate::generators::random::Rng;
 use crate::generators::records::draft::{Block, Draft};
 use crate::generators::records::spelling::Section;
 use crate::model::answer::records::Preset;
-use crate::model::records::{KINDS, MEDIA, belongings, filename_for, named};
-use port::preset::{AppSpec, BoardInfo, Chip, ComponentSpec, ImageInfo, PartitionSpec};
+use crate::model::records::{KINDS, MEDIA, belongings, filename_for, named, written};
+use preset::{AppSpec, BoardInfo, Chip, ComponentSpec, ImageInfo, PartitionSpec};
+use std::path::PathBuf;
 
 /// Each preset of these cases as a text, one after the other.
 pub fn each(cases: &[Case], seed: u64, mut asked: impl FnMut(&[u8])) {
@@ -31,7 +32,7 @@ pub fn text(r: &mut Rng, p: &Preset) -> String {
         let lines = component(r, c);
         draft.blocks.push(block(Section::Component, &word, lines));
     }
-    for app in &p.apps {
+    for app in p.apps.values() {
         let (header, lines) = (
             format!("[apps.{}]", key(r, &app.package)),
             application(r, app),
@@ -78,9 +79,9 @@ fn plural(r: &mut Rng, word: &str, empty: bool, draft: &mut Draft) -> String {
 // Where the board leaves the chip out, the platform names it, or it is the first one.
 fn front(r: &mut Rng, p: &Preset, draft: &mut Draft) {
     let (word, ..) = belongings(p.board.chip);
-    let platform = p.image.platform != word.as_bytes() || r.below(2) == 0;
+    let platform = p.image.platform != word || r.below(2) == 0;
     let known = if platform {
-        p.image.platform == word.as_bytes()
+        p.image.platform == word
     } else {
         p.board.chip == Chip::D13x
     };
@@ -112,20 +113,26 @@ impl Lines<'_> {
         self.out.push((key.into(), format!(" = {value}")));
     }
 
-    fn text(&mut self, key: &str, value: &[u8]) {
+    fn text(&mut self, key: &str, value: &str) {
         self.put(key, quoted(value));
     }
 
     // Mostly left out, where that means the same.
-    fn unless(&mut self, default: &[u8], key: &str, value: &[u8]) {
+    fn unless(&mut self, default: &str, key: &str, value: &str) {
         if value != default || self.r.below(6) == 0 {
             self.text(key, value);
         }
     }
 
-    fn maybe(&mut self, key: &str, value: &Option<Vec<u8>>) {
+    fn maybe(&mut self, key: &str, value: &Option<String>) {
         if let Some(value) = value {
             self.text(key, value);
+        }
+    }
+
+    fn path(&mut self, key: &str, value: &Option<PathBuf>) {
+        if let Some(value) = value {
+            self.text(key, written(value));
         }
     }
 
@@ -151,25 +158,25 @@ impl Lines<'_> {
     }
 
     // As one string where that can be, else as an array; items in any order.
-    fn features(&mut self, key: &str, items: &[Vec<u8>]) {
-        let mut items: Vec<_> = items.iter().map(|item| &item[..]).collect();
+    fn features(&mut self, key: &str, items: &[String]) {
+        let mut items: Vec<_> = items.iter().map(String::as_str).collect();
         if self.r.below(2) == 0 {
             items.reverse();
         }
-        let spaced = |item: &&[u8]| item.is_empty() || item.contains(&b' ') || item.contains(&b',');
+        let spaced = |item: &&str| item.is_empty() || item.contains([' ', ',']);
         let value = if items.iter().any(spaced) || self.r.below(2) == 0 {
             let all: Vec<_> = items.iter().map(|item| quoted(item)).collect();
             format!("[{}]", all.join(", "))
         } else {
-            quoted(&items.join(&b" ,"[self.r.below(2)]))
+            quoted(&items.join([" ", ","][self.r.below(2)]))
         };
         self.put(key, value);
     }
 }
 
-fn quoted(s: &[u8]) -> String {
+fn quoted(s: &str) -> String {
     let mut out = String::from("\"");
-    for c in std::str::from_utf8(s).expect("characters").chars() {
+    for c in s.chars() {
         match c {
             '"' | '\\' => out.extend(['\\', c]),
             '\n' => out.push_str("\\n"),
@@ -181,10 +188,10 @@ fn quoted(s: &[u8]) -> String {
     out + "\""
 }
 
-fn key(r: &mut Rng, s: &[u8]) -> String {
-    let plain = |b: &u8| b.is_ascii_alphanumeric() || matches!(b, b'-' | b'_');
-    if s.iter().all(plain) && r.below(4) > 0 {
-        String::from_utf8_lossy(s).into()
+fn key(r: &mut Rng, s: &str) -> String {
+    let plain = |b: u8| b.is_ascii_alphanumeric() || matches!(b, b'-' | b'_');
+    if s.bytes().all(plain) && r.below(4) > 0 {
+        s.into()
     } else {
         quoted(s)
     }
@@ -193,12 +200,12 @@ fn key(r: &mut Rng, s: &[u8]) -> String {
 fn board(r: &mut Rng, b: &BoardInfo, chip: bool) -> Vec<(String, String)> {
     let (word, target, _) = belongings(b.chip);
     let mut lines = Lines::of(r);
-    lines.unless(b"board", "name", &b.name);
+    lines.unless("board", "name", &b.name);
     if chip {
-        lines.text("chip", word.as_bytes());
+        lines.text("chip", word);
     }
-    lines.unless(target.as_bytes(), "target", &b.target);
-    lines.unless(b"release", "profile", &b.profile);
+    lines.unless(target, "target", &b.target);
+    lines.unless("release", "profile", &b.profile);
     lines.out
 }
 
@@ -209,16 +216,16 @@ fn image(r: &mut Rng, p: &Preset, platform: bool) -> Vec<(String, String)> {
     if platform {
         lines.text("platform", &i.platform);
     }
-    lines.unless(b"unknown", "product", &i.product);
-    lines.unless(b"0.0.0", "version", &i.version);
+    lines.unless("unknown", "product", &i.product);
+    lines.unless("0.0.0", "version", &i.version);
     let [own, usual] = [i.media, media].map(|media| named(&MEDIA, media));
-    lines.unless(usual.as_bytes(), "media", own.as_bytes());
+    lines.unless(&usual, "media", &own);
     lines.amount(
         "media_dev_id",
         (i.media_dev_id > 0).then_some(i.media_dev_id),
     );
-    lines.unless(b"", "media_id", &i.media_id);
-    lines.unless(b"", "app", &i.boot_app);
+    lines.unless("", "media_id", &i.media_id);
+    lines.unless("", "app", &i.boot_app);
     lines.out
 }
 
@@ -233,11 +240,11 @@ fn partition(r: &mut Rng, p: &PartitionSpec) -> Vec<(String, String)> {
 fn component(r: &mut Rng, c: &ComponentSpec) -> Vec<(String, String)> {
     let usual = filename_for(&c.bin, &c.file, &c.package);
     let mut lines = Lines::of(r);
-    lines.unless(b"raw", "kind", named(&KINDS, c.kind).as_bytes());
+    lines.unless("raw", "kind", &named(&KINDS, c.kind));
     lines.text("name", &c.name);
     lines.maybe("package", &c.package);
     lines.maybe("bin", &c.bin);
-    lines.maybe("file", &c.file);
+    lines.path("file", &c.file);
     lines.unless(&usual, "filename", &c.filename);
     if !c.features.is_empty() || lines.r.below(6) == 0 {
         lines.features("features", &c.features);
@@ -246,30 +253,31 @@ fn component(r: &mut Rng, c: &ComponentSpec) -> Vec<(String, String)> {
     if c.pbp_features != c.features || lines.r.below(6) == 0 {
         lines.features("pbp_features", &c.pbp_features);
     }
-    lines.unless(b"", "partition", &c.partition);
-    lines.unless(b"mtd;required", "attr", &c.attr);
+    lines.unless("", "partition", &c.partition);
+    lines.unless("mtd;required", "attr", &c.attr);
     lines.maybe("target_attr", &c.target_attr);
     lines.maybe("target_filename", &c.target_filename);
     lines.flag("updater", c.updater);
     lines.amount("ram", c.ram);
-    lines.maybe("pbp", &c.pbp);
+    lines.path("pbp", &c.pbp);
     lines.maybe("pbp_package", &c.pbp_package);
-    lines.maybe("private", &c.private);
+    lines.path("private", &c.private);
     lines.amount("load_address", c.load_address);
     lines.amount("entry_point", c.entry_point);
     lines.amount("entry_offset", c.entry_offset);
     lines.amount("header_version", c.header_version);
     lines.flag("with_ext", c.with_ext);
-    lines.amount("ext_reserve", (c.ext_reserve > 0).then_some(c.ext_reserve));
+    let reserve = u32::try_from(c.ext_reserve).expect("32 bits");
+    lines.amount("ext_reserve", (reserve > 0).then_some(reserve));
     lines.out
 }
 
 fn application(r: &mut Rng, a: &AppSpec) -> Vec<(String, String)> {
     let mut lines = Lines::of(r);
     lines.unless(&a.package, "name", &a.name);
-    lines.unless(b"app", "partition", &a.partition);
-    lines.unless(&[&a.name[..], b".aic"].concat(), "filename", &a.filename);
-    lines.unless(b"mtd;optional", "attr", &a.attr);
+    lines.unless("app", "partition", &a.partition);
+    lines.unless(&format!("{}.aic", a.name), "filename", &a.filename);
+    lines.unless("mtd;optional", "attr", &a.attr);
     if !a.features.is_empty() || lines.r.below(6) == 0 {
         lines.features("features", &a.features);
     }

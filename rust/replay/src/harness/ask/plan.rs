@@ -1,12 +1,13 @@
 //! The port's plans, with the rooms that they leave looked through.
-use super::records::{Asked, Door, Host, VALIDATE, about, differing, few, there, walk};
+use super::records::{self, Asked, Door, Host, VALIDATE, about, differing, few, there, walk};
 use crate::generators::plan::keys::{Answered, answers};
 use crate::harness::vector::plan::rows;
 use crate::model::answer::records::{Preset, Read};
 use crate::model::plan::{self as model, Selected};
-use port::plan::{Plan, rebuild};
+use crate::model::records::written;
 use port::plans::{self, Planned, Selection, SourceView};
 use port::records::{Bytes, FeatureList, Rooms};
+use preset::{ImagePlan, PlannedComponent, Source, owned};
 
 /// The planner goes on from the validator.
 pub const PLAN: Door = Door {
@@ -18,7 +19,7 @@ pub const PLAN: Door = Door {
 
 // The whole plan; `preset` is what the rooms hold.
 fn planned(rooms: Rooms, asked: Asked, preset: &Preset) -> Result<(), String> {
-    let got = rebuild(rooms, asked.name, asked.selection)?;
+    let got = owned::plan(rooms, asked.name, asked.selection)?;
     let want = model::plan(preset, selected(asked.selection));
     let want = want.map_err(|refusal| format!("planned against {refusal:?}"))?;
     difference(&got, &want).map_or(Ok(()), Err)
@@ -29,8 +30,19 @@ fn selected(s: Selection) -> Selected {
 }
 
 /// The first part in which two plans differ, or nothing.
-pub fn difference(got: &Plan, want: &Plan) -> Option<String> {
-    (got != want).then(|| differing(&rows(got), &rows(want)))
+pub fn difference(got: &ImagePlan, want: &ImagePlan) -> Option<String> {
+    let [own, other] = [got, want].map(|p| p.components.iter().flat_map(paths));
+    let same = got == want && own.eq(other);
+    (!same).then(|| differing(&rows(got), &rows(want)))
+}
+
+fn paths(c: &PlannedComponent) -> impl Iterator<Item = Option<&str>> {
+    let sources = [Some(&c.source), c.pbp_source.as_ref()];
+    let files = sources.map(|source| match source {
+        Some(Source::File(path)) => Some(written(path)),
+        _ => None,
+    });
+    records::paths(&c.spec).into_iter().chain(files)
 }
 
 /// Plans a preset for every selection, and holds each answer against the definitions.

@@ -4,11 +4,13 @@ use crate::harness::rooms::holds;
 use crate::harness::rooms::{EXACT, Fenced, LONG, Rooms, SHORT, TEXT_ROOM};
 use crate::harness::vector::records::rows;
 use crate::model::answer::records::{Preset, Read, Refusal, outcome};
+use crate::model::records::written;
 use port::document::{self, Outcome};
 use port::plans::Selection;
-use port::preset::{View, rebuild, seen};
 use port::records::{self, FeatureList};
 use port::value::{STORE_MIN, TREE_MIN};
+use port::views::{View, seen};
+use preset::{ComponentSpec, owned};
 
 /// The records, or the refusal's number.
 pub type Heard = Result<Preset, u32>;
@@ -156,7 +158,7 @@ impl Host {
         };
         let made = got.made as usize;
         let rooms = records::Rooms { tree, store, made };
-        let preset = rebuild(rooms, asked.name)?;
+        let preset = owned::preset(rooms, asked.name)?;
         if let Some(difference) = difference(&preset, &want.preset) {
             return Err(difference);
         }
@@ -228,7 +230,14 @@ pub fn about(selected: &Option<Vec<u8>>) -> String {
 
 /// The first record in which two presets differ, or nothing.
 pub fn difference(got: &Preset, want: &Preset) -> Option<String> {
-    (got != want).then(|| differing(&rows(got), &rows(want)))
+    let [own, other] = [got, want].map(|p| p.components.iter().flat_map(paths));
+    let same = got == want && own.eq(other);
+    (!same).then(|| differing(&rows(got), &rows(want)))
+}
+
+// Letter for letter, where equal paths are such as lead to the same file.
+pub(crate) fn paths(c: &ComponentSpec) -> [Option<&str>; 3] {
+    [&c.file, &c.pbp, &c.private].map(|path| path.as_deref().map(written))
 }
 
 /// The first of the rows that differ.

@@ -8,37 +8,39 @@
 //! there is none. A build is its package, its bin and its features; a source is `package` and a
 //! build, or `file` and a path.
 use super::document::{Parts, parts, quoted};
-use super::line::Reader;
-use super::records::{Recorded, board, component, image, list, maybe, partition, texts, told};
-use port::plan::{BuildRequirement, Plan, PlannedComponent, Source};
+use super::line::{Reader, quote};
+use super::records::{Recorded, board, component, image, list, partition, texts, told};
+use crate::model::records::written;
+use preset::{BuildRequirement, ImagePlan, PlannedComponent, Source};
 
 /// What is selected, as it is held.
 pub type Key = Option<Vec<u8>>;
 
 /// One line of the file, without its end.
-pub fn write(name: &[u8], text: &Parts, selected: &Key, answer: &Recorded<Plan>) -> String {
-    let (selected, answer) = (maybe(selected), told(answer, whole));
+pub fn write(name: &[u8], text: &Parts, selected: &Key, answer: &Recorded<ImagePlan>) -> String {
+    let selected = selected.as_ref().map_or("-".into(), |key| quoted(key));
+    let answer = told(answer, whole);
     format!("{} {} {selected} {answer}", quoted(name), parts(text))
 }
 
-fn whole(p: &Plan) -> String {
+fn whole(p: &ImagePlan) -> String {
     let fields = [
         board(&p.board),
         image(&p.image),
         list(&p.partitions, partition),
         list(&p.components, planned),
         list(&p.required_builds, build),
-        quoted(&p.stem),
+        quote(&p.stem),
     ];
     fields.join(" ")
 }
 
 /// Its parts in words, one by one.
-pub fn rows(p: &Plan) -> Vec<String> {
+pub fn rows(p: &ImagePlan) -> Vec<String> {
     let mut out = vec![
         format!("board {}", board(&p.board)),
         format!("image {}", image(&p.image)),
-        format!("stem {}", quoted(&p.stem)),
+        format!("stem {}", quote(&p.stem)),
     ];
     let each = p.partitions.iter().map(partition);
     out.extend(each.map(|row| format!("partition {row}")));
@@ -57,31 +59,40 @@ fn planned(c: &PlannedComponent) -> String {
 
 fn source(s: &Source) -> String {
     match s {
-        Source::Package(b) => format!("package {}", build(b)),
-        Source::File(path) => format!("file {}", quoted(path)),
+        Source::Package {
+            package,
+            bin,
+            features,
+        } => format!("package {}", built(package, bin, features)),
+        Source::File(path) => format!("file {}", quote(written(path))),
     }
 }
 
 fn build(b: &BuildRequirement) -> String {
-    [quoted(&b.package), quoted(&b.bin), texts(&b.features)].join(" ")
+    built(&b.package, &b.bin, &b.features)
+}
+
+fn built(package: &str, bin: &str, features: &[String]) -> String {
+    [quote(package), quote(bin), texts(features)].join(" ")
 }
 
 /// The name, the text, what is selected and the answer of one line.
-pub fn read(line: &str) -> Result<(Vec<u8>, Parts, Key, Recorded<Plan>), String> {
+pub fn read(line: &str) -> Result<(Vec<u8>, Parts, Key, Recorded<ImagePlan>), String> {
     let mut r = Reader(line);
-    let (name, text, selected) = (r.bytes()?, r.parts()?, r.maybe()?);
+    let (name, text) = (r.bytes()?, r.parts()?);
+    let selected = r.unless_absent(Reader::bytes)?;
     Ok((name, text, selected, r.told(Reader::plan)?))
 }
 
 impl Reader<'_> {
-    fn plan(&mut self) -> Result<Plan, String> {
-        Ok(Plan {
+    fn plan(&mut self) -> Result<ImagePlan, String> {
+        Ok(ImagePlan {
             board: self.board()?,
             image: self.image()?,
             partitions: self.list(Reader::partition)?,
             components: self.list(Reader::planned)?,
             required_builds: self.list(Reader::build)?,
-            stem: self.bytes()?,
+            stem: self.quoted()?,
         })
     }
 
@@ -96,16 +107,20 @@ impl Reader<'_> {
 
     fn source(&mut self) -> Result<Source, String> {
         match self.word() {
-            "package" => self.build().map(Source::Package),
-            "file" => self.bytes().map(Source::File),
+            "package" => Ok(Source::Package {
+                package: self.quoted()?,
+                bin: self.quoted()?,
+                features: self.texts()?,
+            }),
+            "file" => Ok(Source::File(self.quoted()?.into())),
             word => Err(format!("{word:?} stands in place of package or file")),
         }
     }
 
     fn build(&mut self) -> Result<BuildRequirement, String> {
         Ok(BuildRequirement {
-            package: self.bytes()?,
-            bin: self.bytes()?,
+            package: self.quoted()?,
+            bin: self.quoted()?,
             features: self.texts()?,
         })
     }

@@ -5,10 +5,11 @@
 //! each list in `[` and `]`; a record is its fields, one behind the other, in the order in which
 //! they are read, `-` for an absent one; features stand in `[` and `]`.
 use super::document::{Parts, parts, quoted};
-use super::line::Reader;
+use super::line::{Reader, quote};
 use crate::model::answer::records::{Preset, Refusal};
-use crate::model::records::{CHIPS, KINDS, MEDIA, named};
-use port::preset::{AppSpec, BoardInfo, ComponentSpec, ImageInfo, PartitionSpec};
+use crate::model::records::{CHIPS, KINDS, MEDIA, named, written};
+use preset::{AppSpec, BoardInfo, ComponentSpec, ImageInfo, PartitionSpec};
+use std::path::PathBuf;
 
 /// The count of values and the records, or what else is recorded; or the refusal.
 pub type Recorded<T = Preset> = Result<(usize, T), Refusal>;
@@ -38,7 +39,7 @@ fn whole(p: &Preset) -> String {
     let front = [board(&p.board), image(&p.image)].join(" ");
     let partitions = list(&p.partitions, partition);
     let components = list(&p.components, component);
-    let apps = list(&p.apps, application);
+    let apps = list(p.apps.values(), application);
     [front, partitions, components, apps].join(" ")
 }
 
@@ -52,22 +53,29 @@ pub fn rows(p: &Preset) -> Vec<String> {
     out.extend(each.map(|row| format!("partition {row}")));
     let each = p.components.iter().map(component);
     out.extend(each.map(|row| format!("component {row}")));
-    let each = p.apps.iter().map(application);
+    let each = p.apps.values().map(application);
     out.extend(each.map(|row| format!("application {row}")));
     out
 }
 
-pub(crate) fn list<T>(items: &[T], one: fn(&T) -> String) -> String {
-    let items = items.iter().map(|item| one(item) + " ");
+pub(crate) fn list<'a, T: 'a>(
+    items: impl IntoIterator<Item = &'a T>,
+    one: fn(&T) -> String,
+) -> String {
+    let items = items.into_iter().map(|item| one(item) + " ");
     format!("[ {}]", items.collect::<String>())
 }
 
-pub(crate) fn texts(items: &[Vec<u8>]) -> String {
-    list(items, |s| quoted(s))
+pub(crate) fn texts(items: &[String]) -> String {
+    list(items, |s| quote(s))
 }
 
-pub(crate) fn maybe(s: &Option<Vec<u8>>) -> String {
-    s.as_ref().map_or("-".into(), |s| quoted(s))
+pub(crate) fn maybe(s: Option<&str>) -> String {
+    s.map_or("-".into(), quote)
+}
+
+fn path(path: &Option<PathBuf>) -> String {
+    maybe(path.as_deref().map(written))
 }
 
 fn amount(n: &Option<u32>) -> String {
@@ -76,45 +84,45 @@ fn amount(n: &Option<u32>) -> String {
 
 pub(crate) fn board(b: &BoardInfo) -> String {
     let chip = named(&CHIPS, b.chip);
-    [quoted(&b.name), chip, quoted(&b.target), quoted(&b.profile)].join(" ")
+    [quote(&b.name), chip, quote(&b.target), quote(&b.profile)].join(" ")
 }
 
 pub(crate) fn image(i: &ImageInfo) -> String {
     let fields = [
-        quoted(&i.platform),
-        quoted(&i.product),
-        quoted(&i.version),
+        quote(&i.platform),
+        quote(&i.product),
+        quote(&i.version),
         named(&MEDIA, i.media),
         i.media_dev_id.to_string(),
-        quoted(&i.media_id),
-        quoted(&i.boot_app),
+        quote(&i.media_id),
+        quote(&i.boot_app),
     ];
     fields.join(" ")
 }
 
 pub(crate) fn partition(p: &PartitionSpec) -> String {
-    format!("{} {} {}", quoted(&p.name), p.offset, p.size)
+    format!("{} {} {}", quote(&p.name), p.offset, p.size)
 }
 
 pub(crate) fn component(c: &ComponentSpec) -> String {
     let fields = [
         named(&KINDS, c.kind),
-        quoted(&c.name),
-        maybe(&c.package),
-        maybe(&c.bin),
-        maybe(&c.file),
-        quoted(&c.filename),
+        quote(&c.name),
+        maybe(c.package.as_deref()),
+        maybe(c.bin.as_deref()),
+        path(&c.file),
+        quote(&c.filename),
         texts(&c.features),
         texts(&c.pbp_features),
-        quoted(&c.partition),
-        quoted(&c.attr),
-        maybe(&c.target_attr),
-        maybe(&c.target_filename),
+        quote(&c.partition),
+        quote(&c.attr),
+        maybe(c.target_attr.as_deref()),
+        maybe(c.target_filename.as_deref()),
         c.updater.to_string(),
         amount(&c.ram),
-        maybe(&c.pbp),
-        maybe(&c.pbp_package),
-        maybe(&c.private),
+        path(&c.pbp),
+        maybe(c.pbp_package.as_deref()),
+        path(&c.private),
         amount(&c.load_address),
         amount(&c.entry_point),
         amount(&c.entry_offset),
@@ -127,11 +135,11 @@ pub(crate) fn component(c: &ComponentSpec) -> String {
 
 fn application(a: &AppSpec) -> String {
     let fields = [
-        quoted(&a.package),
-        quoted(&a.name),
-        quoted(&a.partition),
-        quoted(&a.filename),
-        quoted(&a.attr),
+        quote(&a.package),
+        quote(&a.name),
+        quote(&a.partition),
+        quote(&a.filename),
+        quote(&a.attr),
         texts(&a.features),
         amount(&a.load_address),
         amount(&a.entry_offset),
@@ -168,7 +176,10 @@ impl Reader<'_> {
             image: self.image()?,
             partitions: self.list(Reader::partition)?,
             components: self.list(Reader::component)?,
-            apps: self.list(Reader::application)?,
+            apps: {
+                let apps = self.list(Reader::application)?.into_iter();
+                apps.map(|app| (app.package.clone(), app)).collect()
+            },
         })
     }
 
@@ -185,8 +196,8 @@ impl Reader<'_> {
         Ok(out)
     }
 
-    pub(crate) fn texts(&mut self) -> Result<Vec<Vec<u8>>, String> {
-        self.list(Reader::bytes)
+    pub(crate) fn texts(&mut self) -> Result<Vec<String>, String> {
+        self.list(Reader::quoted)
     }
 
     pub(crate) fn unless_absent<T>(
@@ -200,8 +211,12 @@ impl Reader<'_> {
         Ok(None)
     }
 
-    pub(crate) fn maybe(&mut self) -> Result<Option<Vec<u8>>, String> {
-        self.unless_absent(Reader::bytes)
+    fn maybe(&mut self) -> Result<Option<String>, String> {
+        self.unless_absent(Reader::quoted)
+    }
+
+    fn path(&mut self) -> Result<Option<PathBuf>, String> {
+        Ok(self.maybe()?.map(PathBuf::from))
     }
 
     fn amount(&mut self) -> Result<Option<u32>, String> {
@@ -218,28 +233,28 @@ impl Reader<'_> {
 
     pub(crate) fn board(&mut self) -> Result<BoardInfo, String> {
         Ok(BoardInfo {
-            name: self.bytes()?,
+            name: self.quoted()?,
             chip: self.meant(&CHIPS)?,
-            target: self.bytes()?,
-            profile: self.bytes()?,
+            target: self.quoted()?,
+            profile: self.quoted()?,
         })
     }
 
     pub(crate) fn image(&mut self) -> Result<ImageInfo, String> {
         Ok(ImageInfo {
-            platform: self.bytes()?,
-            product: self.bytes()?,
-            version: self.bytes()?,
+            platform: self.quoted()?,
+            product: self.quoted()?,
+            version: self.quoted()?,
             media: self.meant(&MEDIA)?,
             media_dev_id: self.number()?,
-            media_id: self.bytes()?,
-            boot_app: self.bytes()?,
+            media_id: self.quoted()?,
+            boot_app: self.quoted()?,
         })
     }
 
     pub(crate) fn partition(&mut self) -> Result<PartitionSpec, String> {
         Ok(PartitionSpec {
-            name: self.bytes()?,
+            name: self.quoted()?,
             offset: self.number()?,
             size: self.number()?,
         })
@@ -248,22 +263,22 @@ impl Reader<'_> {
     pub(crate) fn component(&mut self) -> Result<ComponentSpec, String> {
         Ok(ComponentSpec {
             kind: self.meant(&KINDS)?,
-            name: self.bytes()?,
+            name: self.quoted()?,
             package: self.maybe()?,
             bin: self.maybe()?,
-            file: self.maybe()?,
-            filename: self.bytes()?,
+            file: self.path()?,
+            filename: self.quoted()?,
             features: self.texts()?,
             pbp_features: self.texts()?,
-            partition: self.bytes()?,
-            attr: self.bytes()?,
+            partition: self.quoted()?,
+            attr: self.quoted()?,
             target_attr: self.maybe()?,
             target_filename: self.maybe()?,
             updater: self.number()?,
             ram: self.amount()?,
-            pbp: self.maybe()?,
+            pbp: self.path()?,
             pbp_package: self.maybe()?,
-            private: self.maybe()?,
+            private: self.path()?,
             load_address: self.amount()?,
             entry_point: self.amount()?,
             entry_offset: self.amount()?,
@@ -275,11 +290,11 @@ impl Reader<'_> {
 
     fn application(&mut self) -> Result<AppSpec, String> {
         Ok(AppSpec {
-            package: self.bytes()?,
-            name: self.bytes()?,
-            partition: self.bytes()?,
-            filename: self.bytes()?,
-            attr: self.bytes()?,
+            package: self.quoted()?,
+            name: self.quoted()?,
+            partition: self.quoted()?,
+            filename: self.quoted()?,
+            attr: self.quoted()?,
             features: self.texts()?,
             load_address: self.amount()?,
             entry_offset: self.amount()?,

@@ -1,7 +1,7 @@
 //! All that reading a preset leaves.
 use super::document;
 use port::document::Outcome;
-pub use port::preset::Preset;
+pub use preset::Preset;
 
 /// An accepted preset: what its text leaves, and its records.
 #[derive(Clone, Debug, PartialEq, Eq)]
