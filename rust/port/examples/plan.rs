@@ -1,6 +1,5 @@
 //! Plans a preset and prints what its plan has: `plan PRESET [APPLICATION]`, the boot chain where none is named.
-use port::plan::{Plan, rebuild};
-use port::plans::plan;
+use port::plans::{Planned, plan};
 use port::records::Rooms;
 use port::value::{STORE_MIN, TREE_MIN};
 use std::process::ExitCode;
@@ -40,26 +39,31 @@ fn planned(text: &[u8], application: Option<&str>) -> Result<String, String> {
         store: &store,
         made: got.made as usize,
     };
-    let plan = rebuild(rooms, NAME, selection)?;
-    Ok(lines(rooms.made, &plan))
+    lines(&Planned { rooms, selection })
 }
 
-fn lines(made: usize, plan: &Plan) -> String {
-    let text = |bytes: &[u8]| String::from_utf8_lossy(bytes).into_owned();
-    let mut out = format!("{made} values, stem {}\n", text(&plan.stem));
-    for component in &plan.components {
-        let at = component.partition.as_ref();
-        let at = at.map_or(String::new(), |partition| {
-            format!(" at {}", partition.offset)
-        });
-        out += &format!("component {}{at}\n", text(&component.spec.name));
+// Each view is asked for what is printed of it alone.
+fn lines(plan: &Planned) -> Result<String, String> {
+    let (rooms, counts) = (plan.rooms, plan.counts());
+    let text = |bytes: Vec<u8>| String::from_utf8_lossy(&bytes).into_owned();
+    let stem = text(rooms.text_or_name(plan.stem(NAME), NAME)?);
+    let mut out = format!("{} values, stem {stem}\n", rooms.made);
+    for i in 0..counts.components {
+        let (name, at) = (text(rooms.text(plan.head(i).name)?), plan.partition(i));
+        let at = match at.found {
+            0 => String::new(),
+            _ => format!(" at {}", at.offset),
+        };
+        out += &format!("component {name}{at}\n");
     }
-    for build in &plan.required_builds {
-        let features = build.features.iter().map(|f| format!(" +{}", text(f)));
-        let features: String = features.collect();
-        out += &format!("build {}{features}\n", text(&build.package));
+    for i in 0..counts.builds {
+        let build = plan.build(i);
+        let package = text(rooms.text(build.package)?);
+        let features = rooms.features(build.features)?.into_iter();
+        let features: String = features.map(|f| format!(" +{}", text(f))).collect();
+        out += &format!("build {package}{features}\n");
     }
-    out
+    Ok(out)
 }
 
 #[cfg(test)]

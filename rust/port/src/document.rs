@@ -178,9 +178,10 @@ impl View<'_> {
     // A child hangs where the view says it does.
     fn slot(&self, n: usize, parent: u16) -> Result<Slot, String> {
         let slot = slot(self.tree, n);
-        match n < self.made && slot.parent == u32::from(parent) {
-            true => Ok(slot),
-            false => Err(format!("value {n} is no child of {parent}: {slot:?}")),
+        if n < self.made && slot.parent == u32::from(parent) {
+            Ok(slot)
+        } else {
+            Err(format!("value {n} is no child of {parent}: {slot:?}"))
         }
     }
 

@@ -2,12 +2,11 @@
 mod boundary;
 pub mod document;
 pub mod listing;
-pub mod plan;
 pub mod plans;
-pub mod preset;
 pub mod records;
 pub mod text;
 pub mod value;
+pub mod views;
 
 /// The archive that is linked, for hosts in C.
 pub const ARCHIVE: &str = env!("PRESET_LIB");

@@ -101,9 +101,10 @@ mod sys {
 pub fn int(s: &[u8]) -> Number {
     // SAFETY: `s` is a live slice of that length, only read; value_int has no precondition.
     let got = unsafe { sys::value_int(s.as_ptr(), s.len()) };
-    let value = match got.negative {
-        true => got.magnitude.wrapping_neg() as i64,
-        false => got.magnitude as i64,
+    let value = if got.negative {
+        got.magnitude.wrapping_neg() as i64
+    } else {
+        got.magnitude as i64
     };
     Number {
         number: got.number,

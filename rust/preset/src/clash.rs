@@ -1,5 +1,5 @@
 //! One package with two feature sets (60): which uses of it they are.
-use crate::fault::called;
+use crate::entry::called;
 use crate::refusal::{Refusal, Section};
 use crate::schema::{ComponentSpec, Preset};
 use crate::shown::{plain, quoted};
@@ -21,9 +21,12 @@ pub(crate) struct Clash<'a>(Use<'a>, Use<'a>);
 impl Clash<'_> {
     pub fn said(&self, tree: &Tree) -> String {
         let Clash(later, earlier) = self;
-        let list = |features: &[String]| match features.is_empty() {
-            true => "none".into(),
-            false => plain(&features.join(", ")),
+        let list = |features: &[String]| {
+            if features.is_empty() {
+                "none".into()
+            } else {
+                plain(&features.join(", "))
+            }
         };
         let place = called(tree, earlier.section, earlier.place);
         let (own, other) = (list(later.features), list(earlier.features));

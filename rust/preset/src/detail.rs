@@ -1,6 +1,6 @@
 //! What a refusal's words leave open: the name, the number, and what it was held against.
 use crate::clash;
-use crate::fault::{called, of_whole};
+use crate::entry::{called, of_whole};
 use crate::fields::{self, FEATURES_MAX};
 use crate::refusal::{Refusal, Section};
 use crate::schema::{NAME_MAX, PartitionSpec, Preset};
@@ -224,9 +224,10 @@ fn absent(tree: &Tree, refusal: &Refusal, partition: &str) -> String {
 
 fn undeclared(preset: &Preset, key: &str) -> String {
     let declared: Vec<&str> = preset.apps.keys().map(String::as_str).collect();
-    let declared = match declared.is_empty() {
-        true => "none".into(),
-        false => plain(&declared.join(", ")),
+    let declared = if declared.is_empty() {
+        "none".into()
+    } else {
+        plain(&declared.join(", "))
     };
     format!("{}; declared: {declared}", quoted(key))
 }

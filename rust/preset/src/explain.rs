@@ -114,9 +114,10 @@ fn paragraphs(f: &mut fmt::Formatter, text: &str) -> fmt::Result {
 }
 
 fn indented(f: &mut fmt::Formatter, preset: &str) -> fmt::Result {
-    match preset.is_empty() {
-        true => Ok(()),
-        false => writeln!(f, "{}", block(preset)),
+    if preset.is_empty() {
+        Ok(())
+    } else {
+        writeln!(f, "{}", block(preset))
     }
 }
 
@@ -136,10 +137,12 @@ fn filled(paragraph: &str) -> String {
     for word in paragraph.split_whitespace() {
         let length = word.chars().count();
         let fits = column > 0 && column + 1 + length <= WIDTH;
-        let between = match (fits, column) {
-            (true, _) => " ",
-            (false, 0) => "",
-            (false, _) => "\n",
+        let between = if fits {
+            " "
+        } else if column == 0 {
+            ""
+        } else {
+            "\n"
         };
         column = if fits { column + 1 + length } else { length };
         out.push_str(between);

@@ -1,11 +1,12 @@
 //! Where in a text a refusal points: its line, its entry and what is wrong there.
 use crate::clash;
 use crate::detail;
+use crate::entry::{called, of_whole};
 use crate::fields;
 use crate::lines;
 use crate::refusal::{Refusal, Section};
 use crate::shown;
-use crate::tree::{Kind, Tree};
+use crate::tree::Tree;
 use std::fmt;
 
 /// A refusal with what the text has where it points.
@@ -93,18 +94,6 @@ fn guilty(text: &[u8], tree: &Tree, refusal: &Refusal) -> Option<usize> {
     Some(field.unwrap_or(entry))
 }
 
-/// Whether a refusal means all of its section: it says so by its number, or the section is not what it has to be.
-pub(crate) fn of_whole(tree: &Tree, refusal: &Refusal) -> bool {
-    let Some(whole) = tree.whole(refusal.section) else {
-        return true;
-    };
-    let needed = match refusal.section {
-        Section::Partition | Section::Component => Kind::Array,
-        _ => Kind::Table,
-    };
-    refusal.of_whole_list() || tree.kind(whole) != needed
-}
-
 // `component 3 "ddr"`, or `components` for all of them.
 fn entry(tree: &Tree, refusal: &Refusal) -> String {
     let (section, place) = (refusal.section, refusal.place as usize);
@@ -114,18 +103,6 @@ fn entry(tree: &Tree, refusal: &Refusal) -> String {
         _ if of_whole(tree, refusal) => format!("{word}s"),
         _ => called(tree, section, place),
     }
-}
-
-/// An entry by its section, number and name.
-pub(crate) fn called(tree: &Tree, section: Section, place: usize) -> String {
-    named(tree, section, place, tree.entry(section, place))
-}
-
-/// The same where the entry's value is at hand.
-pub(crate) fn named(tree: &Tree, section: Section, place: usize, entry: Option<usize>) -> String {
-    let name = entry.and_then(|entry| tree.called(section, entry));
-    let name = name.map_or(String::new(), |name| format!(" {}", shown::quoted(&name)));
-    format!("{} {place}{name}", section.name())
 }
 
 impl fmt::Display for Fault {

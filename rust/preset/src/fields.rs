@@ -167,9 +167,10 @@ fn word(tree: &Tree, section: Section) -> &'static str {
         Section::Image => {
             let chipless = of(Section::Board, "chip").is_none();
             let platform = of(Section::Image, "platform").filter(unknown);
-            match chipless && platform.is_some() {
-                true => "platform",
-                false => "media",
+            if chipless && platform.is_some() {
+                "platform"
+            } else {
+                "media"
             }
         }
         _ => "kind",

@@ -154,9 +154,10 @@ impl Drawing {
         let titles = titles.filter(|t| !t.is_empty()).map(|t| clean(t, WIDTH));
         let mut lines: Vec<_> = titles.collect();
         lines.extend((!lines.is_empty()).then(String::new));
-        match rows.is_empty() {
-            true => lines.push("   (no partitions)".into()),
-            false => lines.push(columns.head(self.end())),
+        if rows.is_empty() {
+            lines.push("   (no partitions)".into());
+        } else {
+            lines.push(columns.head(self.end()));
         }
         for row in rows {
             lines.push(columns.row(self, row));
@@ -242,10 +243,12 @@ impl Columns {
             Row::Gap(..) => paint(whole, '.'),
             Row::Area(i) => {
                 let area = &drawing.areas[i];
-                let own = match (area.faulty, area.size) {
-                    (true, _) => '!',
-                    (false, 0) => '|',
-                    (false, _) => '#',
+                let own = if area.faulty {
+                    '!'
+                } else if area.size == 0 {
+                    '|'
+                } else {
+                    '#'
                 };
                 paint(whole, own);
                 drawing.overlaps(i).for_each(|(_, both)| paint(both, 'X'));

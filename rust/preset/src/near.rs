@@ -28,9 +28,10 @@ fn slips(a: &[char], b: &[char]) -> usize {
             let mistaken = rows[i - 1][j - 1] + usize::from(a[i - 1] != b[j - 1]);
             let least = mistaken.min(rows[i - 1][j] + 1).min(row[j - 1] + 1);
             let swapped = i > 1 && j > 1 && a[i - 1] == b[j - 2] && a[i - 2] == b[j - 1];
-            row.push(match swapped {
-                true => least.min(rows[i - 2][j - 2] + 1),
-                false => least,
+            row.push(if swapped {
+                least.min(rows[i - 2][j - 2] + 1)
+            } else {
+                least
             });
         }
         rows.push(row);

@@ -1,191 +1,247 @@
-//! The port's records, whose texts are bytes, as owned records with strings.
+//! What the views of rooms show, copied out as owned records; for callers who lend rooms of their own.
+//!
+//! Both functions take what a call of `port` that accepted a preset left, and say what in a view is against its rules:
+//! with the proved library nothing ever is.
 use crate::schema::*;
-use port::{plan, preset};
+use port::plans::{self, Planned, SourceView};
+use port::records::{
+    BootView, Bytes, FeatureList, HeadView, LoadView, PartitionView, RoleView, Rooms,
+};
+use port::views::{all, amount, flag, seen};
+use std::collections::BTreeMap;
 use std::path::PathBuf;
 
-// A preset's text is UTF-8 (2), and it is cut at ASCII characters alone, so every text of its records is too: nothing
-// is ever replaced here.
-fn text(bytes: Vec<u8>) -> String {
-    String::from_utf8(bytes).unwrap_or_else(|e| String::from_utf8_lossy(e.as_bytes()).into_owned())
+// No list of an accepted preset has more entries.
+const ENTRIES_MAX: usize = 64;
+// Every component of a preset and an application; two packages for each and that one's.
+const COMPONENTS_MAX: usize = ENTRIES_MAX + 1;
+const BUILDS_MAX: usize = 2 * ENTRIES_MAX + 1;
+
+/// The records; `name` as it was lent for reading.
+pub fn preset(rooms: Rooms, name: &[u8]) -> Result<Preset, String> {
+    let (shown, counts) = (Shown(rooms), rooms.counts());
+    let component = |i| {
+        let own = (rooms.head(i), rooms.role(i), rooms.boot(i), rooms.load(i));
+        shown.component(i, own)
+    };
+    Ok(Preset {
+        board: shown.board(name)?,
+        image: shown.image()?,
+        partitions: shown.partitions()?,
+        components: all(counts.components, ENTRIES_MAX, component)?,
+        apps: by_package(all(counts.applications, ENTRIES_MAX, |i| {
+            shown.application(i)
+        })?)?,
+    })
 }
 
-fn texts(list: Vec<Vec<u8>>) -> Vec<String> {
-    list.into_iter().map(text).collect()
+/// The plan; `name` and `selection` as they were lent for planning.
+pub fn plan(rooms: Rooms, name: &[u8], selection: plans::Selection) -> Result<ImagePlan, String> {
+    let (shown, planned) = (Shown(rooms), Planned { rooms, selection });
+    let counts = planned.counts();
+    Ok(ImagePlan {
+        board: shown.board(name)?,
+        image: shown.image()?,
+        partitions: shown.partitions()?,
+        components: all(counts.components, COMPONENTS_MAX, |i| {
+            shown.planned(&planned, i)
+        })?,
+        required_builds: all(counts.builds, BUILDS_MAX, |i| shown.build(&planned, i))?,
+        stem: text(rooms.text_or_name(planned.stem(name), name)?)?,
+    })
 }
 
-fn path(bytes: Vec<u8>) -> PathBuf {
-    PathBuf::from(text(bytes))
-}
-
-// Lists of records, one by one.
-fn each<T, U: From<T>>(list: Vec<T>) -> Vec<U> {
-    list.into_iter().map(U::from).collect()
-}
-
-impl From<preset::Preset> for Preset {
-    fn from(p: preset::Preset) -> Self {
-        let apps: Vec<AppSpec> = each(p.apps);
-        Preset {
-            board: p.board.into(),
-            image: p.image.into(),
-            partitions: each(p.partitions),
-            components: each(p.components),
-            apps: apps.into_iter().map(|a| (a.package.clone(), a)).collect(),
-        }
+// Applications are shown in byte order of package, each once.
+fn by_package(apps: Vec<AppSpec>) -> Result<BTreeMap<String, AppSpec>, String> {
+    if apps.is_sorted_by(|a, b| a.package < b.package) {
+        Ok(apps.into_iter().map(|a| (a.package.clone(), a)).collect())
+    } else {
+        Err("packages of applications do not rise".into())
     }
 }
 
-impl From<preset::Chip> for Chip {
-    fn from(chip: preset::Chip) -> Self {
-        match chip {
-            preset::Chip::D13x => Chip::D13x,
-            preset::Chip::D21x => Chip::D21x,
-        }
-    }
+// A preset's text is UTF-8 (2), and it is cut at ASCII characters alone, so every text of its records is too.
+fn text(bytes: Vec<u8>) -> Result<String, String> {
+    String::from_utf8(bytes).map_err(|e| format!("\"{}\" is no text", e.as_bytes().escape_ascii()))
 }
 
-impl From<preset::Media> for Media {
-    fn from(media: preset::Media) -> Self {
-        match media {
-            preset::Media::SpiNor => Media::SpiNor,
-            preset::Media::SpiNand => Media::SpiNand,
+#[derive(Clone, Copy)]
+struct Shown<'a>(Rooms<'a>);
+
+// All four views of a component.
+type Views = (HeadView, RoleView, BootView, LoadView);
+
+impl Shown<'_> {
+    fn text(&self, b: Bytes) -> Result<String, String> {
+        text(self.0.text(b)?)
+    }
+
+    fn maybe(&self, b: Bytes) -> Result<Option<String>, String> {
+        self.0.maybe(b)?.map(text).transpose()
+    }
+
+    fn path(&self, b: Bytes) -> Result<Option<PathBuf>, String> {
+        Ok(self.maybe(b)?.map(PathBuf::from))
+    }
+
+    fn features(&self, list: FeatureList) -> Result<Vec<String>, String> {
+        self.0.features(list)?.into_iter().map(text).collect()
+    }
+
+    fn board(&self, name: &[u8]) -> Result<BoardInfo, String> {
+        let board = seen(self.0.board(name))?.ok_or("no board")?;
+        let chip = match board.chip {
+            1 => Chip::D13x,
+            2 => Chip::D21x,
+            _ => return Err(format!("{board:?}")),
+        };
+        Ok(BoardInfo {
+            name: text(self.0.text_or_name(board.name, name)?)?,
+            chip,
+            target: self.text(board.target)?,
+            profile: self.text(board.profile)?,
+        })
+    }
+
+    fn image(&self) -> Result<ImageInfo, String> {
+        let image = seen(self.0.image())?.ok_or("no image")?;
+        let media = match image.media {
+            1 => Media::SpiNor,
+            2 => Media::SpiNand,
+            _ => return Err(format!("{image:?}")),
+        };
+        Ok(ImageInfo {
+            platform: self.text(image.platform)?,
+            product: self.text(image.product)?,
+            version: self.text(image.version)?,
+            media,
+            media_dev_id: image.media_dev_id,
+            media_id: self.text(image.media_id)?,
+            boot_app: self.text(image.app)?,
+        })
+    }
+
+    fn partitions(&self) -> Result<Vec<PartitionSpec>, String> {
+        let count = self.0.counts().partitions;
+        all(count, ENTRIES_MAX, |i| self.partition(self.0.partition(i)))
+    }
+
+    fn partition(&self, view: PartitionView) -> Result<Option<PartitionSpec>, String> {
+        let Some(partition) = seen(view)? else {
+            return Ok(None);
+        };
+        let name = self.0.part(partition.from, partition.len)?;
+        Ok(Some(PartitionSpec {
+            name: text(name.to_vec())?,
+            offset: partition.offset,
+            size: partition.size,
+        }))
+    }
+
+    // All views of component number i are there, or none.
+    fn component(&self, i: usize, views: Views) -> Result<Option<ComponentSpec>, String> {
+        let (head, role, boot, load) = views;
+        match (seen(head)?, seen(role)?, seen(boot)?, seen(load)?) {
+            (Some(_), Some(_), Some(_), Some(_)) => self.component_of(views).map(Some),
+            (None, None, None, None) => Ok(None),
+            _ => Err(format!("only some views of component {i} are there")),
         }
     }
-}
 
-impl From<preset::ComponentKind> for ComponentKind {
-    fn from(kind: preset::ComponentKind) -> Self {
+    fn component_of(&self, (head, role, boot, load): Views) -> Result<ComponentSpec, String> {
+        let kind = match head.kind {
+            1 => ComponentKind::App,
+            2 => ComponentKind::Pbp,
+            3 => ComponentKind::Raw,
+            _ => return Err(format!("{head:?}")),
+        };
+        Ok(ComponentSpec {
+            kind,
+            name: self.text(head.name)?,
+            package: self.maybe(head.package)?,
+            bin: self.maybe(head.bin)?,
+            file: self.path(head.file)?,
+            filename: self.text(head.filename)?,
+            features: self.features(role.features)?,
+            pbp_features: self.features(role.pbp_features)?,
+            partition: self.text(role.partition)?,
+            attr: self.text(role.attr)?,
+            target_attr: self.maybe(role.target_attr)?,
+            target_filename: self.maybe(role.target_filename)?,
+            updater: flag(boot.updater)?,
+            ram: amount(boot.ram)?,
+            pbp: self.path(boot.pbp)?,
+            pbp_package: self.maybe(boot.pbp_package)?,
+            private: self.path(boot.private)?,
+            load_address: amount(load.load_address)?,
+            entry_point: amount(load.entry_point)?,
+            entry_offset: amount(load.entry_offset)?,
+            header_version: amount(load.header_version)?,
+            with_ext: flag(load.with_ext)?,
+            ext_reserve: load.ext_reserve as usize,
+        })
+    }
+
+    fn application(&self, i: usize) -> Result<Option<AppSpec>, String> {
+        let Some(app) = seen(self.0.application(i))? else {
+            return Ok(None);
+        };
+        Ok(Some(AppSpec {
+            package: self.text(app.package)?,
+            name: self.text(app.name)?,
+            partition: self.text(app.partition)?,
+            filename: self.text(app.filename)?,
+            attr: self.text(app.attr)?,
+            features: self.features(app.features)?,
+            load_address: amount(app.load_address)?,
+            entry_offset: amount(app.entry_offset)?,
+        }))
+    }
+
+    // All views of a planned component are there but for the PBP and the partition, or none.
+    fn planned(&self, plan: &Planned, i: usize) -> Result<Option<PlannedComponent>, String> {
+        let own = (plan.head(i), plan.role(i), plan.boot(i), plan.load(i));
+        let spec = self.component(i, own)?;
+        let source = self.source(plan.source(i))?;
+        let pbp_source = self.source(plan.pbp(i))?;
+        let partition = self.partition(plan.partition(i))?;
+        match (spec, source) {
+            (Some(spec), Some(source)) => Ok(Some(PlannedComponent {
+                spec,
+                source,
+                pbp_source,
+                partition,
+            })),
+            (None, None) if pbp_source.is_none() && partition.is_none() => Ok(None),
+            _ => Err(format!("only some views of component {i} are there")),
+        }
+    }
+
+    // What its kind does not use is zero.
+    fn source(&self, s: SourceView) -> Result<Option<Source>, String> {
+        let SourceView { kind, file, .. } = s;
+        let bare = SourceView::default();
+        let filed = SourceView { kind, file, ..bare };
         match kind {
-            preset::ComponentKind::App => ComponentKind::App,
-            preset::ComponentKind::Pbp => ComponentKind::Pbp,
-            preset::ComponentKind::Raw => ComponentKind::Raw,
+            0 if s == bare => Ok(None),
+            1 if file == bare.file => Ok(Some(Source::Package {
+                package: self.text(s.package)?,
+                bin: self.text(s.bin)?,
+                features: self.features(s.features)?,
+            })),
+            2 if s == filed => Ok(Some(Source::File(self.text(file)?.into()))),
+            _ => Err(format!("{s:?}")),
         }
     }
-}
 
-impl From<preset::BoardInfo> for BoardInfo {
-    fn from(b: preset::BoardInfo) -> Self {
-        BoardInfo {
-            name: text(b.name),
-            chip: b.chip.into(),
-            target: text(b.target),
-            profile: text(b.profile),
-        }
-    }
-}
-
-impl From<preset::ImageInfo> for ImageInfo {
-    fn from(i: preset::ImageInfo) -> Self {
-        ImageInfo {
-            platform: text(i.platform),
-            product: text(i.product),
-            version: text(i.version),
-            media: i.media.into(),
-            media_dev_id: i.media_dev_id,
-            media_id: text(i.media_id),
-            boot_app: text(i.boot_app),
-        }
-    }
-}
-
-impl From<preset::PartitionSpec> for PartitionSpec {
-    fn from(p: preset::PartitionSpec) -> Self {
-        PartitionSpec {
-            name: text(p.name),
-            offset: p.offset,
-            size: p.size,
-        }
-    }
-}
-
-impl From<preset::ComponentSpec> for ComponentSpec {
-    fn from(c: preset::ComponentSpec) -> Self {
-        ComponentSpec {
-            kind: c.kind.into(),
-            name: text(c.name),
-            package: c.package.map(text),
-            bin: c.bin.map(text),
-            file: c.file.map(path),
-            partition: text(c.partition),
-            attr: text(c.attr),
-            filename: text(c.filename),
-            target_attr: c.target_attr.map(text),
-            target_filename: c.target_filename.map(text),
-            updater: c.updater,
-            features: texts(c.features),
-            pbp_features: texts(c.pbp_features),
-            ram: c.ram,
-            pbp: c.pbp.map(path),
-            pbp_package: c.pbp_package.map(text),
-            private: c.private.map(path),
-            load_address: c.load_address,
-            entry_point: c.entry_point,
-            entry_offset: c.entry_offset,
-            header_version: c.header_version,
-            with_ext: c.with_ext,
-            ext_reserve: c.ext_reserve as usize,
-        }
-    }
-}
-
-impl From<preset::AppSpec> for AppSpec {
-    fn from(a: preset::AppSpec) -> Self {
-        AppSpec {
-            package: text(a.package),
-            name: text(a.name),
-            partition: text(a.partition),
-            filename: text(a.filename),
-            attr: text(a.attr),
-            features: texts(a.features),
-            load_address: a.load_address,
-            entry_offset: a.entry_offset,
-        }
-    }
-}
-
-impl From<plan::Plan> for ImagePlan {
-    fn from(p: plan::Plan) -> Self {
-        ImagePlan {
-            board: p.board.into(),
-            image: p.image.into(),
-            partitions: each(p.partitions),
-            components: each(p.components),
-            required_builds: each(p.required_builds),
-            stem: text(p.stem),
-        }
-    }
-}
-
-impl From<plan::PlannedComponent> for PlannedComponent {
-    fn from(c: plan::PlannedComponent) -> Self {
-        PlannedComponent {
-            spec: c.spec.into(),
-            source: c.source.into(),
-            pbp_source: c.pbp_source.map(Source::from),
-            partition: c.partition.map(PartitionSpec::from),
-        }
-    }
-}
-
-impl From<plan::Source> for Source {
-    fn from(source: plan::Source) -> Self {
-        match source {
-            plan::Source::Package(build) => Source::Package {
-                package: text(build.package),
-                bin: text(build.bin),
-                features: texts(build.features),
-            },
-            plan::Source::File(file) => Source::File(path(file)),
-        }
-    }
-}
-
-impl From<plan::BuildRequirement> for BuildRequirement {
-    fn from(b: plan::BuildRequirement) -> Self {
-        BuildRequirement {
-            package: text(b.package),
-            bin: text(b.bin),
-            features: texts(b.features),
-        }
+    fn build(&self, plan: &Planned, i: usize) -> Result<Option<BuildRequirement>, String> {
+        let Some(build) = seen(plan.build(i))? else {
+            return Ok(None);
+        };
+        Ok(Some(BuildRequirement {
+            package: self.text(build.package)?,
+            bin: self.text(build.bin)?,
+            features: self.features(build.features)?,
+        }))
     }
 }

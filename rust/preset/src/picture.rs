@@ -84,9 +84,10 @@ fn lands(preset: &Preset, partition: &PartitionSpec, app: Option<&str>) -> Vec<L
     });
     let apps = preset.apps.values().filter(|a| here(&a.partition));
     let apps = apps.map(|a| Land {
-        kind: match app == Some(a.package.as_str()) {
-            true => LandKind::Chosen,
-            false => LandKind::Application,
+        kind: if app == Some(a.package.as_str()) {
+            LandKind::Chosen
+        } else {
+            LandKind::Application
         },
         name: shown::plain(&a.package),
     });

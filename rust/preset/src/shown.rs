@@ -25,9 +25,10 @@ pub fn bytes(text: &[u8]) -> String {
 /// assert_eq!(preset::shown::file("".as_ref()), "\"\"");
 /// ```
 pub fn file(name: &OsStr) -> String {
-    match name.is_empty() {
-        true => "\"\"".into(),
-        false => raw(name.as_encoded_bytes()),
+    if name.is_empty() {
+        "\"\"".into()
+    } else {
+        raw(name.as_encoded_bytes())
     }
 }
 
@@ -50,9 +51,10 @@ pub fn quoted(name: &str) -> String {
 fn escaped(text: &str) -> String {
     let mut out = String::new();
     for c in text.chars() {
-        match c != '\t' && (c.is_control() || invisible(c)) {
-            true => out.extend(c.escape_default()),
-            false => out.push(c),
+        if c != '\t' && (c.is_control() || invisible(c)) {
+            out.extend(c.escape_default());
+        } else {
+            out.push(c);
         }
     }
     out

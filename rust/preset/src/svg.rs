@@ -139,9 +139,10 @@ impl Page<'_> {
     }
 
     fn title(&self) -> String {
-        match self.drawing.title.is_empty() {
-            true => "Flash map".into(),
-            false => clean(&self.drawing.title, 60),
+        if self.drawing.title.is_empty() {
+            "Flash map".into()
+        } else {
+            clean(&self.drawing.title, 60)
         }
     }
 
@@ -202,9 +203,9 @@ impl Page<'_> {
         let (y, height) = self.extent(card);
         let wide = BAR / card.lane.of as f64;
         let x = MARGIN + wide * card.lane.number as f64;
-        let look = match (card.row, card.faulty) {
-            (Row::Gap(..), _) => r#"fill="url(#preset-gap)""#.into(),
-            (_, true) => dashed(),
+        let look = match card.row {
+            Row::Gap(..) => r#"fill="url(#preset-gap)""#.into(),
+            _ if card.faulty => dashed(),
             // A seam between neighbours, but none that would hide a thin one.
             _ if height > 6.0 && wide > 8.0 => format!(r##"fill="{}" stroke="#ffffff""##, card.hue),
             _ => format!(r#"fill="{}""#, card.hue),
@@ -217,10 +218,12 @@ impl Page<'_> {
     fn card(&self, sheet: &mut Sheet, card: &Card) {
         let (y, height) = (self.top + card.y, card.height);
         let gap = matches!(card.row, Row::Gap(..));
-        let look = match (gap, card.faulty) {
-            (true, _) => r##"fill="#ffffff" stroke="#c3cad3" stroke-dasharray="2 3""##.into(),
-            (_, true) => dashed(),
-            _ => r##"fill="#f7f9fb" stroke="#d0d6de""##.to_string(),
+        let look = if gap {
+            r##"fill="#ffffff" stroke="#c3cad3" stroke-dasharray="2 3""##.into()
+        } else if card.faulty {
+            dashed()
+        } else {
+            r##"fill="#f7f9fb" stroke="#d0d6de""##.to_string()
         };
         let look = format!(r#"rx="5" {look}"#);
         sheet.rect([CARD, y, CARD_WIDTH, height], &look);
@@ -240,10 +243,12 @@ impl Page<'_> {
     fn foot(&self, sheet: &mut Sheet) {
         let (y, end) = (self.top + self.bar, self.drawing.end());
         let pale = format!(r#"font-size="12" fill="{PALE}""#);
-        let scale = match (self.cards.is_empty(), self.scale.lifted) {
-            (true, _) => "No partitions.".into(),
-            (_, false) => format!("0 to 0x{end:X}, to scale."),
-            (_, true) => format!("0 to 0x{end:X}, to scale; what is too thin to see is thicker."),
+        let scale = if self.cards.is_empty() {
+            "No partitions.".into()
+        } else if self.scale.lifted {
+            format!("0 to 0x{end:X}, to scale; what is too thin to see is thicker.")
+        } else {
+            format!("0 to 0x{end:X}, to scale.")
         };
         sheet.text((MARGIN, y + 28.0), &pale, &scale);
         let mut right = CARD_WIDTH - INSET;
@@ -269,10 +274,10 @@ impl Card {
             Row::Gap(..) => None,
         };
         let faulty = area.is_some_and(|(_, a)| a.faulty);
-        let hue = match (area, faulty) {
-            (None, _) => "#9aa4b1",
-            (_, true) => RED,
-            (Some((i, _)), _) => HUES[i % HUES.len()],
+        let hue = match area {
+            None => "#9aa4b1",
+            Some((_, area)) if area.faulty => RED,
+            Some((i, _)) => HUES[i % HUES.len()],
         };
         let note = area.and_then(|(i, a)| note(drawing, i, a));
         let note = note.map(|n| clean(&n, 80));
@@ -351,11 +356,12 @@ fn word(kind: LandKind) -> &'static str {
 }
 
 fn note(drawing: &Drawing, i: usize, area: &Area) -> Option<String> {
-    match (area.faulty, drawing.overlap_words(i)) {
-        (true, Some(overlap)) => Some(format!("refused here; {overlap}")),
-        (true, None) => Some("refused here".into()),
-        (false, overlap) => overlap,
+    let overlap = drawing.overlap_words(i);
+    if !area.faulty {
+        return overlap;
     }
+    let more = overlap.map_or(String::new(), |overlap| format!("; {overlap}"));
+    Some(format!("refused here{more}"))
 }
 
 // What lands in an area, from left to right, in as many lines as it takes.

@@ -1,6 +1,6 @@
 //! Keys that the rules do not know. They are no fault: a preset is accepted as if they were not there, and so nothing
 //! else tells that one is misspelled.
-use crate::fault::named;
+use crate::entry::named;
 use crate::fields::fields;
 use crate::lines;
 use crate::near::near;

@@ -25,13 +25,13 @@ fn assignments(text: &str) -> Vec<(usize, &str, &str)> {
 
 // The text with that line replaced.
 fn spoilt(text: &str, line: usize, by: &str) -> String {
-    let lines = text
-        .lines()
-        .enumerate()
-        .map(|(at, own)| match at + 1 == line {
-            true => format!("{by}\n"),
-            false => format!("{own}\n"),
-        });
+    let lines = text.lines().enumerate().map(|(at, own)| {
+        if at + 1 == line {
+            format!("{by}\n")
+        } else {
+            format!("{own}\n")
+        }
+    });
     lines.collect()
 }
 

@@ -1,9 +1,7 @@
-//! The crate against the port below it, and the words and sizes that it says itself against the library.
-use port::records::Rooms;
-use port::value::{STORE_MIN, TREE_MIN};
-use port::{plan, plans, preset as records};
+//! The crate against the definitions, and the words and sizes that it says itself against the library.
 use preset::*;
-use std::path::PathBuf;
+use replay::harness::ask::{plan, records};
+use replay::model;
 
 const PRESETS: [&str; 3] = [
     include_str!("../../../presets/example.toml"),
@@ -11,185 +9,28 @@ const PRESETS: [&str; 3] = [
     include_str!("../../../presets/tour-d21x.toml"),
 ];
 
-fn bytes(text: &str) -> Vec<u8> {
-    text.as_bytes().to_vec()
-}
-
-fn list(texts: &[String]) -> Vec<Vec<u8>> {
-    texts.iter().map(|t| bytes(t)).collect()
-}
-
-fn path(path: &Option<PathBuf>) -> Option<Vec<u8>> {
-    path.as_ref().map(|p| bytes(p.to_str().expect("UTF-8")))
-}
-
-fn text(text: &Option<String>) -> Option<Vec<u8>> {
-    text.as_deref().map(bytes)
-}
-
-// Records back to the port's, so that every field is compared.
-fn board(b: &BoardInfo) -> records::BoardInfo {
-    records::BoardInfo {
-        name: bytes(&b.name),
-        chip: match b.chip {
-            Chip::D13x => records::Chip::D13x,
-            Chip::D21x => records::Chip::D21x,
-        },
-        target: bytes(&b.target),
-        profile: bytes(&b.profile),
-    }
-}
-
-fn image(i: &ImageInfo) -> records::ImageInfo {
-    records::ImageInfo {
-        platform: bytes(&i.platform),
-        product: bytes(&i.product),
-        version: bytes(&i.version),
-        media: match i.media {
-            Media::SpiNor => records::Media::SpiNor,
-            Media::SpiNand => records::Media::SpiNand,
-        },
-        media_dev_id: i.media_dev_id,
-        media_id: bytes(&i.media_id),
-        boot_app: bytes(&i.boot_app),
-    }
-}
-
-fn partition(p: &PartitionSpec) -> records::PartitionSpec {
-    records::PartitionSpec {
-        name: bytes(&p.name),
-        offset: p.offset,
-        size: p.size,
-    }
-}
-
-fn component(c: &ComponentSpec) -> records::ComponentSpec {
-    records::ComponentSpec {
-        kind: match c.kind {
-            ComponentKind::App => records::ComponentKind::App,
-            ComponentKind::Pbp => records::ComponentKind::Pbp,
-            ComponentKind::Raw => records::ComponentKind::Raw,
-        },
-        name: bytes(&c.name),
-        package: text(&c.package),
-        bin: text(&c.bin),
-        file: path(&c.file),
-        filename: bytes(&c.filename),
-        features: list(&c.features),
-        pbp_features: list(&c.pbp_features),
-        partition: bytes(&c.partition),
-        attr: bytes(&c.attr),
-        target_attr: text(&c.target_attr),
-        target_filename: text(&c.target_filename),
-        updater: c.updater,
-        ram: c.ram,
-        pbp: path(&c.pbp),
-        pbp_package: text(&c.pbp_package),
-        private: path(&c.private),
-        load_address: c.load_address,
-        entry_point: c.entry_point,
-        entry_offset: c.entry_offset,
-        header_version: c.header_version,
-        with_ext: c.with_ext,
-        ext_reserve: c.ext_reserve.try_into().expect("32 bits"),
-    }
-}
-
-fn application((key, a): (&String, &AppSpec)) -> records::AppSpec {
-    assert_eq!(key, &a.package);
-    records::AppSpec {
-        package: bytes(&a.package),
-        name: bytes(&a.name),
-        partition: bytes(&a.partition),
-        filename: bytes(&a.filename),
-        attr: bytes(&a.attr),
-        features: list(&a.features),
-        load_address: a.load_address,
-        entry_offset: a.entry_offset,
-    }
-}
-
-fn source(s: &Source) -> plan::Source {
-    match s {
-        Source::Package {
-            package,
-            bin,
-            features,
-        } => plan::Source::Package(plan::BuildRequirement {
-            package: bytes(package),
-            bin: bytes(bin),
-            features: list(features),
-        }),
-        Source::File(file) => plan::Source::File(bytes(file.to_str().expect("UTF-8"))),
-    }
-}
-
-fn planned(c: &PlannedComponent) -> plan::PlannedComponent {
-    plan::PlannedComponent {
-        spec: component(&c.spec),
-        source: source(&c.source),
-        pbp_source: c.pbp_source.as_ref().map(source),
-        partition: c.partition.as_ref().map(partition),
-    }
-}
-
-fn build(b: &BuildRequirement) -> plan::BuildRequirement {
-    plan::BuildRequirement {
-        package: bytes(&b.package),
-        bin: bytes(&b.bin),
-        features: list(&b.features),
-    }
-}
-
 // Every field is used by one of these, so that none is compared by its default alone.
 const MORE: &str = "[[partition]]\nname = \"a\"\noffset = 0\nsize = 0x1000\n[[component]]\nname = \"x\"\n\
                     file = \"d/f.bin\"\npartition = \"a\"\npbp = \"p/p.bin\"\nprivate = \"k.pem\"\n\
                     entry_point = 8\nentry_offset = 4\nload_address = 12\nheader_version = 3\n\
                     [image]\nmedia_id = \"m\"\napp = \"x\"\nmedia_dev_id = 7\n";
 
-fn port_records(text: &[u8], name: &[u8]) -> records::Preset {
-    let (mut store, mut tree) = (vec![0; STORE_MIN], vec![0; TREE_MIN]);
-    let got = port::records::validate(text, name, &mut store, &mut tree);
-    assert_eq!(got.number, 0);
-    let rooms = Rooms {
-        tree: &tree,
-        store: &store,
-        made: got.made as usize,
-    };
-    records::rebuild(rooms, name).expect("records")
-}
-
 #[test]
-fn records_are_the_ports() {
+fn records_are_the_definitions() {
     for (name, text) in PRESETS.into_iter().chain([MORE]).enumerate() {
         let (name, text) = (name.to_string(), text.as_bytes());
         let own = Preset::validate(text, name.as_bytes()).expect("accepted");
         assert_eq!(Preset::read(text, name.as_bytes()), Ok(own.clone()));
-        let back = records::Preset {
-            board: board(&own.board),
-            image: image(&own.image),
-            partitions: own.partitions.iter().map(partition).collect(),
-            components: own.components.iter().map(component).collect(),
-            apps: own.apps.iter().map(application).collect(),
-        };
-        assert_eq!(back, port_records(text, name.as_bytes()));
+        let want = model::validate::read(text, name.as_bytes()).expect("accepted");
+        assert_eq!(records::difference(&own, &want.preset), None);
+        for (key, app) in &own.apps {
+            assert_eq!(key, &app.package);
+        }
     }
 }
 
-fn port_plan(text: &[u8], name: &[u8], key: Option<&[u8]>) -> plan::Plan {
-    let (mut store, mut tree) = (vec![0; STORE_MIN], vec![0; TREE_MIN]);
-    let got = plans::plan(text, name, key.into(), &mut store, &mut tree);
-    assert_eq!(got.number, 0);
-    let rooms = Rooms {
-        tree: &tree,
-        store: &store,
-        made: got.made as usize,
-    };
-    plan::rebuild(rooms, name, key.into()).expect("a plan")
-}
-
 #[test]
-fn plans_are_the_ports() {
+fn plans_are_the_definitions() {
     for text in PRESETS.into_iter().chain([MORE]) {
         let text = text.as_bytes();
         let preset = Preset::validate(text, b"n").expect("accepted");
@@ -197,15 +38,8 @@ fn plans_are_the_ports() {
         for key in keys.chain([None]) {
             let selection = key.map_or(Selection::Bootloader, |k| Selection::App(k.into()));
             let own = Preset::plan(text, b"n", &selection).expect("a plan");
-            let back = plan::Plan {
-                board: board(&own.board),
-                image: image(&own.image),
-                partitions: own.partitions.iter().map(partition).collect(),
-                components: own.components.iter().map(planned).collect(),
-                required_builds: own.required_builds.iter().map(build).collect(),
-                stem: bytes(&own.stem),
-            };
-            assert_eq!(back, port_plan(text, b"n", key.map(str::as_bytes)));
+            let want = model::plan::plan(&preset, key.map(str::as_bytes)).expect("a plan");
+            assert_eq!(plan::difference(&own, &want), None);
             for component in &own.components {
                 let found = own.partition(&component.spec.partition);
                 assert_eq!(found, component.partition.as_ref());

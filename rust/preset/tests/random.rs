@@ -1,7 +1,7 @@
 //! Texts of every sort: a fault is found for each that is refused, and its line matters.
 use preset::{Fault, Preset, Refusal, Section, Selection, picture};
-use replay::mixed;
-use replay::random::Rng;
+use replay::generators::mixed;
+use replay::generators::random::Rng;
 
 // The application that plans are asked for where there is one of that key.
 const KEY: &str = "desk";

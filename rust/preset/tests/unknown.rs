@@ -2,8 +2,8 @@
 use preset::Preset;
 use preset::explain;
 use preset::unknown::{Unknown, unknown};
-use replay::mixed;
-use replay::random::Rng;
+use replay::generators::mixed;
+use replay::generators::random::Rng;
 
 const PRESETS: [&str; 3] = [
     include_str!("../../../presets/example.toml"),

@@ -1,7 +1,9 @@
 //! The port against the definitions alone; these tests need no original.
 use port::text::{self, SCRATCH_MIN, TEXT_MAX};
-use replay::ask::{accepted, ask, holds, refused};
-use replay::{model, random, random::Rng};
+use replay::generators::random::{self, Rng};
+use replay::harness::ask::text::{accepted, ask, refused};
+use replay::harness::rooms::holds;
+use replay::model::text as model;
 
 // Asks with a scratch of that length, filled before, and looks through it afterwards.
 fn lines(text: &[u8], room: usize) -> (text::Lines, Vec<u8>) {

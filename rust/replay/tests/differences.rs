@@ -1,12 +1,12 @@
 //! docs/DIFFERENCES.md, row by row: what is asked there is answered as it says.
 use port::document::{self, Outcome, Table, Value};
-use port::plan::{self, PlannedComponent, Source};
 use port::plans::{self, Selection};
-use port::preset::{self, Preset};
 use port::records::{self, Rooms};
 use port::text::TEXT_MAX;
 use port::value::{ARRAYS_MAX, SEGMENTS_MAX, STORE_MIN, TREE_MIN, VALUES_MAX};
-use replay::ask::holds;
+use preset::{PlannedComponent, Preset, Source, owned};
+use replay::harness::rooms::holds;
+use replay::model::records::written;
 use std::collections::BTreeSet;
 
 const PAPER: &str = include_str!("../../../docs/DIFFERENCES.md");
@@ -34,13 +34,14 @@ fn rows() -> Vec<Row> {
     let (mut out, mut head, mut last) = (Vec::new(), None, "");
     for (line, l) in PAPER.lines().enumerate().map(|(i, l)| (i + 1, l)) {
         let begins = l == OF_TOML || l == OF_ORIGINAL;
-        match (l.starts_with('|'), head) {
-            (true, None) => assert!(begins, "line {line}: no table of this document begins so"),
-            (true, Some(h)) if last == h => assert_eq!(l, RULE, "line {line}"),
-            (true, Some(h)) => out.push(row(line, h == OF_TOML, l)),
-            (false, _) => {}
+        let in_table = l.starts_with('|');
+        match head {
+            _ if !in_table => {}
+            None => assert!(begins, "line {line}: no table of this document begins so"),
+            Some(h) if last == h => assert_eq!(l, RULE, "line {line}"),
+            Some(h) => out.push(row(line, h == OF_TOML, l)),
         }
-        head = l.starts_with('|').then_some(head.unwrap_or(l));
+        head = in_table.then_some(head.unwrap_or(l));
         last = l;
     }
     out
@@ -105,9 +106,12 @@ fn unescaped(escape: &str) -> Option<(Vec<u8>, &str)> {
     }
 }
 
-// The bytes of a string or a key in quotes; they are UTF-8, as the text is.
-fn quoted(s: &[u8]) -> String {
-    let s = str::from_utf8(s).expect("a part of a text");
+// A string or a key of a tree; they are UTF-8, as the text is.
+fn characters(s: &[u8]) -> &str {
+    str::from_utf8(s).expect("a part of a text")
+}
+
+fn quoted(s: &str) -> String {
     let each = s.chars().map(|c| match c {
         '"' | '\\' => format!("\\{c}"),
         ' '..='~' => c.to_string(),
@@ -121,15 +125,16 @@ fn quoted(s: &[u8]) -> String {
 
 fn key(k: &[u8]) -> String {
     let bare = |b: &u8| b.is_ascii_alphanumeric() || b"-_".contains(b);
-    match k.iter().all(bare) && !k.is_empty() {
-        true => String::from_utf8_lossy(k).into(),
-        false => quoted(k),
+    if k.iter().all(bare) && !k.is_empty() {
+        characters(k).into()
+    } else {
+        quoted(characters(k))
     }
 }
 
 fn value(v: &Value) -> String {
     match v {
-        Value::Str(s) => quoted(s),
+        Value::Str(s) => quoted(characters(s)),
         Value::Int(i) => i.to_string(),
         Value::Bool(b) => b.to_string(),
         Value::Array(items) => {
@@ -200,7 +205,7 @@ fn read_in(rooms: (usize, usize), text: &[u8]) -> String {
 // The text as a preset, for a board of that name.
 fn preset(text: &[u8], name: &[u8], show: fn(&Preset) -> String) -> String {
     let ask = |(s, t): Lent| records::read(text, name, s, t);
-    let shown = |rooms: Rooms| show(&preset::rebuild(rooms, name).expect("records"));
+    let shown = |rooms: Rooms| show(&owned::preset(rooms, name).expect("records"));
     asked(ENOUGH, ask, shown)
 }
 
@@ -228,7 +233,7 @@ fn planned(lines: &str, selected: Option<&[u8]>, show: fn(&PlannedComponent) -> 
     let (name, selection) = (b"board", Selection::from(selected));
     let ask = |(s, t): Lent| plans::plan(text.as_bytes(), name, selection, s, t);
     let shown = |rooms: Rooms| {
-        let plan = plan::rebuild(rooms, name, selection).expect("a plan");
+        let plan = owned::plan(rooms, name, selection).expect("a plan");
         show(&plan.components[0])
     };
     asked(ENOUGH, ask, shown)
@@ -236,7 +241,7 @@ fn planned(lines: &str, selected: Option<&[u8]>, show: fn(&PlannedComponent) -> 
 
 fn filed(source: Option<&Source>) -> String {
     match source {
-        Some(Source::File(path)) => quoted(path),
+        Some(Source::File(path)) => quoted(written(path)),
         other => format!("{other:?}"),
     }
 }
@@ -314,7 +319,10 @@ const BUILT: [Built; 20] = [
         "the plan of a component with the private file `k.pem`",
         || {
             planned("package = \"p\"\nprivate = \"k.pem\"", None, |c| {
-                format!("private = {}", quoted(c.spec.private.as_deref().unwrap()))
+                format!(
+                    "private = {}",
+                    quoted(written(c.spec.private.as_deref().unwrap()))
+                )
             })
         },
     ),

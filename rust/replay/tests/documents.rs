@@ -2,10 +2,11 @@
 use port::document::{self, Outcome, ROOT, child, find};
 use port::text::TEXT_MAX;
 use port::value::{SLOT, STORE_MIN, TREE_MIN};
-use replay::ask::holds;
-use replay::document::ask::Host;
-use replay::document::{model, random};
-use replay::random::{Rng, turns};
+use replay::generators::document as random;
+use replay::generators::random::{Rng, turns};
+use replay::harness::ask::document::Host;
+use replay::harness::rooms::holds;
+use replay::model::document as model;
 
 fn refused(number: u32, place: u32) -> Outcome {
     let (section, made) = (0, 0);

@@ -2,12 +2,12 @@
 //! the same twice, nothing beside the rooms or behind a listing's lines changed, and rooms that are zero after
 //! a refusal.
 use port::text::TEXT_MAX;
-use replay::ask::holds;
-use replay::faults::{Bench, FUNCTIONS, Function, Input, Said, least};
-use replay::mixed;
-use replay::plan::model;
-use replay::random::Rng;
-use replay::records::random::EXAMPLES;
+use replay::generators::mixed;
+use replay::generators::random::Rng;
+use replay::generators::records::random::EXAMPLES;
+use replay::harness::faults::{Bench, FUNCTIONS, Function, Input, Said, least};
+use replay::harness::rooms::holds;
+use replay::model::plan as model;
 use std::ops::Range;
 use std::thread;
 
@@ -134,11 +134,14 @@ fn empty_slices() {
                 .unwrap_or_else(|e| panic!("{e}"));
             let full = (0..function.rooms).all(|n| some(3 + n));
             // without a text there are no partitions, and without its key no application is declared
-            let want = match (some(0), some(2)) {
-                _ if !full => 17,
-                (false, _) => [0, 40][usize::from(function.last >= 40)],
-                (true, false) => [0, 80][usize::from(function.last >= 80)],
-                (true, true) => 0,
+            let want = if !full {
+                17
+            } else if !some(0) {
+                [0, 40][usize::from(function.last >= 40)]
+            } else if !some(2) {
+                [0, 80][usize::from(function.last >= 80)]
+            } else {
+                0
             };
             assert_eq!(said.number, want, "{}, {bits:06b}", function.called);
         }

@@ -1,9 +1,9 @@
 //! What a host may rely on beside the answers: how deep the stack is used, and that threads do not meet.
-use replay::faults::{FUNCTIONS, Function, Input, Said, least};
-use replay::mixed;
-use replay::random::Rng;
-use replay::records::random::EXAMPLES;
-use replay::stack::{most, used, within};
+use replay::generators::mixed;
+use replay::generators::random::Rng;
+use replay::generators::records::random::EXAMPLES;
+use replay::harness::faults::{FUNCTIONS, Function, Input, Said, least};
+use replay::harness::stack::{most, used, within};
 use std::thread;
 
 // docs/HOST.md says so.

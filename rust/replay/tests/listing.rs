@@ -2,14 +2,15 @@
 use port::listing::{Listed, listing, out_min};
 use port::text::TEXT_MAX;
 use port::value::{STORE_MIN, TREE_MIN};
-use replay::ask::holds;
-use replay::listing::ask::Host;
-use replay::listing::{model, random};
-use replay::met::Met;
-use replay::plan::cases::CASES;
-use replay::random::Rng;
-use replay::records::random::{EXAMPLES, NAMES, name};
-use replay::validate::spelled;
+use replay::generators::listing as random;
+use replay::generators::plan::cases::CASES;
+use replay::generators::random::Rng;
+use replay::generators::records::random::{EXAMPLES, NAMES, name};
+use replay::generators::validate::spelled;
+use replay::harness::ask::listing::Host;
+use replay::harness::met::Met;
+use replay::harness::rooms::holds;
+use replay::model::listing as model;
 
 // 01's example, and what it prints, as the program's own test has them.
 const EXAMPLE: [&str; 2] = [

@@ -1,24 +1,26 @@
 //! Planning against the definitions alone; these tests need no original.
-use port::plan::{Plan, rebuild};
 use port::plans::{PlanCounts, Planned, Selection, SourceView, plan};
-use port::preset::{Chip, seen};
 use port::records::{Bytes, Rooms};
 use port::value::{SLOT, STORE_MIN, TREE_MIN};
-use replay::ask::holds;
-use replay::plan::ask::{PLAN, judge, look};
-use replay::plan::cases::CASES;
-use replay::plan::keys::undeclared;
-use replay::plan::{model, random};
-use replay::random::{Rng, turns};
-use replay::records::answer::{Refusal, outcome};
-use replay::records::any::{any_rooms, damaged, filled};
-use replay::records::ask::Host;
-use replay::records::random::{EXAMPLES, name};
-use replay::records::spelling::paths;
-use replay::validate::model as validate;
-use replay::validate::plain::plain;
-use replay::validate::spelled;
-use replay::{records, validate as rules};
+use port::views::seen;
+use preset::{BuildRequirement, Chip, ImagePlan, Source, owned};
+use replay::generators;
+use replay::generators::plan::cases::CASES;
+use replay::generators::plan::keys::undeclared;
+use replay::generators::plan::random;
+use replay::generators::random::{Rng, turns};
+use replay::generators::records::any::{any_rooms, damaged, filled};
+use replay::generators::records::random::{EXAMPLES, name};
+use replay::generators::records::spelling::paths;
+use replay::generators::validate::plain::{nth_app, plain};
+use replay::generators::validate::spelled;
+use replay::harness::ask::plan::{PLAN, difference, judge, look};
+use replay::harness::ask::records::Host;
+use replay::harness::rooms::holds;
+use replay::model::answer::records::{Refusal, outcome};
+use replay::model::plan as model;
+use replay::model::records::written;
+use replay::model::validate;
 
 const BOOT_CHAIN: Selection = Selection { app: 0, key: b"" };
 
@@ -127,25 +129,20 @@ const RULES: [Rule; 26] = [
     ),
 ];
 
-fn text(s: &[u8]) -> String {
-    String::from_utf8_lossy(s).into()
-}
-
-fn said(p: &Plan) -> String {
-    use port::plan::{BuildRequirement, Source};
-    let build = |b: &BuildRequirement| format!("{}:{}", text(&b.package), text(&b.bin));
+fn said(p: &ImagePlan) -> String {
+    let build = |b: &BuildRequirement| format!("{}:{}", b.package, b.bin);
     let pbp = |s: &Source| match s {
-        Source::Package(b) => format!("+{}", build(b)),
-        Source::File(path) => format!("+{}", text(path)),
+        Source::Package { package, bin, .. } => format!("+{package}:{bin}"),
+        Source::File(path) => format!("+{}", written(path)),
     };
     let components = p.components.iter().map(|c| {
-        let at = c.partition.as_ref().map(|p| format!("@{}", text(&p.name)));
+        let at = c.partition.as_ref().map(|p| format!("@{}", p.name));
         let pbp = c.pbp_source.as_ref().map(pbp);
-        text(&c.spec.name) + &at.unwrap_or_default() + &pbp.unwrap_or_default()
+        c.spec.name.clone() + &at.unwrap_or_default() + &pbp.unwrap_or_default()
     });
     let components = components.collect::<Vec<_>>().join(" ");
     let builds: Vec<_> = p.required_builds.iter().map(build).collect();
-    format!("{components} / {} / {}", builds.join(" "), text(&p.stem))
+    format!("{components} / {} / {}", builds.join(" "), p.stem)
 }
 
 #[test]
@@ -190,8 +187,7 @@ const STEMS: [(&str, Option<&str>); 18] = [
 #[test]
 fn file_stems_by_definition() {
     for (path, want) in STEMS {
-        let got = model::file_stem(path.as_bytes());
-        assert_eq!(got, want.map(str::as_bytes), "{path}");
+        assert_eq!(model::file_stem(path), want, "{path}");
     }
 }
 
@@ -233,9 +229,9 @@ fn random_presets() {
 fn every_key() {
     let (mut r, mut host) = (Rng::new(7), Host::new(PLAN));
     let mut preset = plain(Chip::D21x, [2, 2, 64]);
-    preset.apps[63].name = preset.components[1].name.clone();
+    nth_app(&mut preset, 63).name = preset.components[1].name.clone();
     let text = spelled::text(&mut r, &preset);
-    let declared = preset.apps.iter().map(|a| a.package.clone());
+    let declared = preset.apps.keys().map(|key| key.clone().into_bytes());
     // as long as another one and 2^16 bytes more
     let long = [b"a00", &[b'0'; 65_536][..]].concat();
     let others = undeclared(&preset).into_iter().chain([long]);
@@ -270,7 +266,8 @@ fn numbers_of_selections() {
                 made: got.made as usize,
             };
             if let Ok(want) = want {
-                assert_eq!(rebuild(rooms, b"", selection), Ok(want), "{selection:?}");
+                let got = owned::plan(rooms, b"", selection).expect("a plan");
+                assert_eq!(difference(&got, &want), None, "{selection:?}");
             }
         }
     }
@@ -291,9 +288,10 @@ fn lent_rooms() {
         for (text, key) in texts.iter().flat_map(|t| [(t, None), (t, Some(&b"x"[..]))]) {
             let (mut held, mut slots) = (vec![0xAA; store], vec![0xAA; tree]);
             let got = plan(text.as_bytes(), b"", key.into(), &mut held, &mut slots);
-            let want = match store < STORE_MIN || tree < TREE_MIN {
-                true => &seventeen,
-                false => &model::read(text.as_bytes(), b"", key),
+            let want = if store < STORE_MIN || tree < TREE_MIN {
+                &seventeen
+            } else {
+                &model::read(text.as_bytes(), b"", key)
             };
             assert_eq!(got, outcome(want), "{text:?}, rooms {store}, {tree}");
             if want.is_err() {
@@ -357,8 +355,8 @@ fn views_of_refused_presets() {
     let mut r = Rng::new(11);
     for i in 0..turns(3_000) {
         let text = match i % 3 {
-            0 => records::random::text(&mut r),
-            1 => rules::random::text(&mut r),
+            0 => generators::records::random::text(&mut r),
+            1 => generators::validate::random::text(&mut r),
             _ => random::text(&mut r),
         };
         if let Some((store, tree, made)) = filled(&text) {

@@ -1,18 +1,19 @@
 //! Records against the definitions alone; these tests need no original.
-use port::preset::{View, rebuild, seen};
 use port::records::{self, FeatureList, FeatureView, Rooms, word};
 use port::value::{SLOT, STORE_MIN, TREE_MIN};
-use replay::ask::holds;
-use replay::document::rooms::Room;
-use replay::random::{Rng, turns};
-use replay::records::answer::{Refusal, outcome};
-use replay::records::any::{any_rooms, filled};
-use replay::records::ask::{Host, look};
-use replay::records::draft::{Draft, Edit};
-use replay::records::edits::{edited, edits, faults, paired};
-use replay::records::random::{NAMES, name, text};
-use replay::records::spelling::paths;
-use replay::records::{model, random};
+use port::views::{View, seen};
+use preset::owned;
+use replay::generators::random::{Rng, turns};
+use replay::generators::records::any::{any_rooms, filled};
+use replay::generators::records::draft::{Draft, Edit};
+use replay::generators::records::edits::{edited, edits, faults, paired};
+use replay::generators::records::random::{self, NAMES, name, text};
+use replay::generators::records::spelling::paths;
+use replay::harness::ask::records::{Host, difference, look};
+use replay::harness::rooms::Room;
+use replay::harness::rooms::holds;
+use replay::model::answer::records::{Refusal, outcome};
+use replay::model::records as model;
 
 fn judged(host: &mut Host, text: &[u8], name: &[u8]) {
     let told = host.judge(text, name, &model::read(text, name));
@@ -144,8 +145,7 @@ const FILES: [(&str, Option<&str>); 16] = [
 #[test]
 fn file_names_by_definition() {
     for (path, want) in FILES {
-        let got = model::file_name(path.as_bytes());
-        assert_eq!(got, want.map(str::as_bytes), "{path}");
+        assert_eq!(model::file_name(path), want, "{path}");
     }
 }
 
@@ -165,13 +165,9 @@ fn lent_names() {
         for name in NAMES.into_iter().chain([&long[..], &broken]) {
             let want = model::read(text.as_bytes(), name);
             let board = &want.as_ref().expect("accepted").preset.board.name;
-            let lent = if std::str::from_utf8(name).is_ok() {
-                name
-            } else {
-                b"board"
-            };
+            let lent = str::from_utf8(name).unwrap_or("board");
             let own = text.strip_prefix("[board]\nname = \"");
-            let own = own.map(|rest| rest.trim_end_matches('"').as_bytes());
+            let own = own.map(|rest| rest.trim_end_matches('"'));
             assert_eq!(board, own.unwrap_or(lent), "{}", name.escape_ascii());
             let told = host.judge_fully(text.as_bytes(), name, &want);
             told.map_err(|e| panic!("{text:?}, {}: {e}", name.escape_ascii()))
@@ -196,9 +192,10 @@ fn lent_rooms() {
                 section: 0,
                 place: 0,
             });
-            let want = match small {
-                true => seventeen,
-                false => model::read(text.as_bytes(), b""),
+            let want = if small {
+                seventeen
+            } else {
+                model::read(text.as_bytes(), b"")
             };
             assert_eq!(got, outcome(&want), "{text:?}, rooms {store}, {tree}");
             holds(&held, if got.made > 0 { b"a" } else { b"" }).expect("store");
@@ -349,7 +346,8 @@ fn views_of_a_preset() {
     );
     assert_eq!((counts.partitions, counts.components), (p, c));
     assert_eq!(counts.applications, a);
-    assert_eq!(rebuild(rooms, b""), Ok(want));
+    let got = owned::preset(rooms, b"").expect("records");
+    assert_eq!(difference(&got, &want), None);
     for i in [0, 1, 1_000, usize::MAX - 1] {
         assert_eq!(rooms.partition(p.saturating_add(i)).found, 0);
         assert_eq!(rooms.head(c.saturating_add(i)).found, 0);

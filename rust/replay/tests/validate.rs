@@ -1,14 +1,15 @@
 //! Validation against the definitions alone; these tests need no original.
-use port::preset::{Chip, Media};
-use replay::random::{Rng, turns};
-use replay::records::answer::{Preset, Refusal};
-use replay::records::ask::{Host, VALIDATE};
-use replay::records::model::{self as records, UNLIMITED};
-use replay::records::random::name;
-use replay::validate::cases::CASES;
-use replay::validate::faults::FAULTS;
-use replay::validate::plain::{plain, texts};
-use replay::validate::{model, random, sound, spelled};
+use preset::{Chip, Media};
+use replay::generators::random::{Rng, turns};
+use replay::generators::records::random::name;
+use replay::generators::validate::cases::CASES;
+use replay::generators::validate::faults::FAULTS;
+use replay::generators::validate::plain::{insert, nth_app, plain, texts};
+use replay::generators::validate::{random, sound, spelled};
+use replay::harness::ask::records::{Host, VALIDATE, difference};
+use replay::model::answer::records::{Preset, Refusal};
+use replay::model::records::{self, UNLIMITED};
+use replay::model::validate as model;
 
 // What is changed in a plain preset with four entries in each list, and its refusal: number, section
 // and place, 0 for none.
@@ -17,28 +18,28 @@ type Rule = (u32, u32, usize, fn(&mut Preset));
 const FRONT: [Rule; 14] = [
     (0, 0, 0, |_| {}),
     (30, 2, 0, |p| p.image.media = Media::SpiNand),
-    (31, 2, 0, |p| p.image.platform = b"d21x".to_vec()),
+    (31, 2, 0, |p| p.image.platform = "d21x".into()),
     (31, 2, 0, |p| {
         p.image.platform.clear();
         p.board.profile.clear();
     }),
     (32, 1, 0, |p| p.board.profile.clear()),
     (32, 1, 0, |p| {
-        p.image.boot_app = vec![b'n'; 33];
+        p.image.boot_app = "n".repeat(33);
         p.board.profile.clear();
     }),
-    (0, 0, 0, |p| p.image.boot_app = "é".repeat(16).into()),
-    (33, 2, 0, |p| p.image.boot_app = "é".repeat(17).into()),
+    (0, 0, 0, |p| p.image.boot_app = "é".repeat(16)),
+    (33, 2, 0, |p| p.image.boot_app = "é".repeat(17)),
     (33, 2, 0, |p| {
-        p.image.boot_app = vec![b'n'; 33];
+        p.image.boot_app = "n".repeat(33);
         p.board.target.clear();
     }),
     (34, 1, 0, |p| p.board.target.clear()),
-    (34, 1, 0, |p| p.board.target = b"riscv".to_vec()),
-    (35, 1, 0, |p| p.board.target = b"x-riscv64".to_vec()),
-    (0, 0, 0, |p| p.board.target = b"riscv64riscv32".to_vec()),
+    (34, 1, 0, |p| p.board.target = "riscv".into()),
+    (35, 1, 0, |p| p.board.target = "x-riscv64".into()),
+    (0, 0, 0, |p| p.board.target = "riscv64riscv32".into()),
     (35, 1, 0, |p| {
-        p.board.target = b"riscv64".to_vec();
+        p.board.target = "riscv64".into();
         p.partitions.clear();
     }),
 ];
@@ -52,11 +53,11 @@ const PARTITIONS: [Rule; 18] = [
     }),
     (42, 3, 2, |p| p.partitions[2].name.clear()),
     (43, 3, 2, |p| {
-        p.partitions[3].name = b"p0".to_vec();
-        p.partitions[2].name = b"p1".to_vec();
+        p.partitions[3].name = "p0".into();
+        p.partitions[2].name = "p1".into();
     }),
     (44, 3, 1, |p| {
-        p.partitions[2].name = b"p1".to_vec();
+        p.partitions[2].name = "p1".into();
         p.partitions[1].size = 0;
     }),
     (45, 3, 3, |p| p.partitions[3].offset += 1),
@@ -79,17 +80,19 @@ const PARTITIONS: [Rule; 18] = [
 const COMPONENTS: [Rule; 19] = [
     (50, 4, 0, |p| p.components.clear()),
     (51, 4, 2, |p| {
-        p.components[3].name = b"c0".to_vec();
-        p.components[2].name = b"c1".to_vec();
+        p.components[3].name = "c0".into();
+        p.components[2].name = "c1".into();
     }),
     (0, 0, 0, |p| p.components[1].name.clear()),
-    (0, 0, 0, |p| p.components[1].name = "漢".repeat(10).into()),
-    (52, 4, 1, |p| p.components[1].name = "漢".repeat(11).into()),
-    (53, 4, 2, |p| p.components[2].file = Some(Vec::new())),
+    (0, 0, 0, |p| p.components[1].name = "漢".repeat(10)),
+    (52, 4, 1, |p| p.components[1].name = "漢".repeat(11)),
+    (53, 4, 2, |p| {
+        p.components[2].file = Some(Default::default())
+    }),
     (54, 4, 0, |p| p.components[0].package = None),
     (55, 4, 3, |p| {
-        p.components[3].pbp = Some(Vec::new());
-        p.components[3].pbp_package = Some(Vec::new());
+        p.components[3].pbp = Some(Default::default());
+        p.components[3].pbp_package = Some(Default::default());
     }),
     (56, 4, 1, |p| p.components[1].updater = true),
     (57, 4, 1, |p| p.components[1].partition.clear()),
@@ -97,18 +100,18 @@ const COMPONENTS: [Rule; 19] = [
         p.components[1].partition.clear();
         (p.components[1].updater, p.components[1].ram) = (true, Some(0));
     }),
-    (0, 0, 0, |p| p.components[1].partition = b" p3 ;p;".to_vec()),
-    (58, 4, 1, |p| p.components[1].partition = b";p1".to_vec()),
-    (58, 4, 1, |p| p.components[1].partition = b" ".to_vec()),
+    (0, 0, 0, |p| p.components[1].partition = " p3 ;p;".into()),
+    (58, 4, 1, |p| p.components[1].partition = ";p1".into()),
+    (58, 4, 1, |p| p.components[1].partition = " ".into()),
     (58, 4, 2, |p| {
-        p.partitions[2].name = b"p2 ".to_vec();
-        p.apps[2].partition = b"p2 ".to_vec();
+        p.partitions[2].name = "p2 ".into();
+        nth_app(p, 2).partition = "p2 ".into();
     }),
     (0, 0, 0, |p| p.components[3].ext_reserve = 512),
     (59, 4, 3, |p| p.components[3].ext_reserve = 511),
     (59, 4, 0, |p| {
         p.components[0].ext_reserve = 1;
-        p.components[1].name = b"c0".to_vec();
+        p.components[1].name = "c0".into();
     }),
     (59, 4, 3, |p| {
         p.components[3].ext_reserve = 1;
@@ -122,7 +125,7 @@ const OTHERS: [Rule; 24] = [
     (0, 0, 0, |p| (0..4).for_each(|i| featured(p, i, "f"))),
     (0, 0, 0, |p| p.components[3].pbp_features = texts(&["f"])),
     (60, 4, 3, |p| {
-        p.components[3].pbp_package = Some(b"p".to_vec());
+        p.components[3].pbp_package = Some("p".into());
         p.components[3].pbp_features = texts(&["f"]);
     }),
     (60, 4, 3, |p| {
@@ -131,37 +134,44 @@ const OTHERS: [Rule; 24] = [
     }),
     (0, 0, 0, |p| {
         (0..4).for_each(|i| featured(p, i, "f"));
-        p.components[3].pbp_package = Some(b"p".to_vec());
+        p.components[3].pbp_package = Some("p".into());
         p.components[3].features = texts(&["g"]);
     }),
     (60, 5, 3, |p| {
-        p.apps[3].package = b"p".to_vec();
-        p.apps[3].features = texts(&[""]);
-        p.apps[0].name.clear();
+        last_app_for_p(p);
+        nth_app(p, 3).features = texts(&[""]);
+        nth_app(p, 0).name.clear();
     }),
-    (0, 0, 0, |p| p.apps[3].package = b"p".to_vec()),
-    (61, 5, 1, |p| p.apps[1].name.clear()),
-    (0, 0, 0, |p| p.apps[1].name = "😀".repeat(8).into()),
-    (62, 5, 1, |p| p.apps[1].name = ("😀".repeat(8) + "x").into()),
-    (63, 5, 2, |p| p.apps[2].filename.clear()),
-    (64, 5, 3, |p| p.apps[3].partition = b"p3;x".to_vec()),
-    (64, 5, 3, |p| p.apps[3].partition = b" p3".to_vec()),
-    (64, 5, 0, |p| p.apps[0].partition.clear()),
-    (65, 5, 1, |p| p.apps[0].name = b"a01".to_vec()),
+    (0, 0, 0, last_app_for_p),
+    (61, 5, 1, |p| nth_app(p, 1).name.clear()),
+    (0, 0, 0, |p| nth_app(p, 1).name = "😀".repeat(8)),
+    (62, 5, 1, |p| nth_app(p, 1).name = "😀".repeat(8) + "x"),
+    (63, 5, 2, |p| nth_app(p, 2).filename.clear()),
+    (64, 5, 3, |p| nth_app(p, 3).partition = "p3;x".into()),
+    (64, 5, 3, |p| nth_app(p, 3).partition = " p3".into()),
+    (64, 5, 0, |p| nth_app(p, 0).partition.clear()),
+    (65, 5, 1, |p| nth_app(p, 0).name = "a01".into()),
     (65, 5, 2, |p| {
-        p.apps[3].name = b"a00".to_vec();
-        p.apps[2].name = b"a01".to_vec();
+        nth_app(p, 3).name = "a00".into();
+        nth_app(p, 2).name = "a01".into();
     }),
-    (0, 0, 0, |p| p.apps[2].name = b"c0".to_vec()),
-    (66, 5, 0, |p| p.apps[0].load_address = Some(2)),
-    (0, 0, 0, |p| p.apps[0].load_address = Some(0xFFFF_FFFC)),
+    (0, 0, 0, |p| nth_app(p, 2).name = "c0".into()),
+    (66, 5, 0, |p| nth_app(p, 0).load_address = Some(2)),
+    (0, 0, 0, |p| nth_app(p, 0).load_address = Some(0xFFFF_FFFC)),
     (0, 0, 0, |p| p.components[0].load_address = Some(2)),
-    (70, 4, 0, |p| p.components[0].partition = b"p1".to_vec()),
+    (70, 4, 0, |p| p.components[0].partition = "p1".into()),
     (66, 5, 3, |p| {
-        p.components[0].partition = b"p1".to_vec();
-        p.apps[3].load_address = Some(1);
+        p.components[0].partition = "p1".into();
+        nth_app(p, 3).load_address = Some(1);
     }),
 ];
+
+// The last application builds the components' package.
+fn last_app_for_p(p: &mut Preset) {
+    let (_, mut last) = p.apps.pop_last().expect("four");
+    last.package = "p".into();
+    insert(p, last);
+}
 
 fn featured(p: &mut Preset, n: usize, feature: &str) {
     p.components[n].features = texts(&[feature]);
@@ -252,8 +262,8 @@ fn spelled_presets() {
         let preset = random::preset(&mut r);
         let text = spelled::text(&mut r, &preset);
         let read = records::read_within(text.as_bytes(), b"board", &UNLIMITED);
-        let got = read.map(|answer| answer.preset);
-        assert_eq!(got, Ok(preset), "{text}");
+        let got = read.expect("records").preset;
+        assert_eq!(difference(&got, &preset), None, "{text}");
         let want = records::read(text.as_bytes(), b"board");
         let told = host.judge(text.as_bytes(), b"board", &want);
         told.map_err(|e| panic!("{text}: port against definition, {e}"))

@@ -1,9 +1,11 @@
 //! Integers, strings, keys and values against the definitions alone; these tests need no original.
 use port::text::TEXT_MAX;
 use port::value::{self, SLOT, STORE_MIN, Slot, TREE_MIN, VALUES_MAX};
-use replay::random::{Rng, turns};
-use replay::value::answer::{Answer, Bytes, Read, Value};
-use replay::value::{ask, model, random};
+use replay::generators::random::{Rng, turns};
+use replay::generators::value as random;
+use replay::harness::ask::value as ask;
+use replay::model::answer::value::{Answer, Bytes, Read, Value};
+use replay::model::value as model;
 
 fn reads(text: &str) -> Read {
     ask::value(text.as_bytes()).unwrap_or_else(|e| panic!("{text:?}: {e}"))

@@ -2,7 +2,8 @@
 use crate::original;
 use crate::shorten::shortest;
 use port::text;
-use replay::{answer::Answer, ask::ask};
+use replay::harness::ask::text::ask;
+use replay::model::answer::text::Answer;
 
 /// Every answer of the text layer on both sides, or the first difference.
 pub fn compare(text: &str) -> Result<(), String> {

@@ -5,6 +5,7 @@ pub mod document;
 pub mod listing;
 pub mod long;
 pub mod original;
+pub mod picked;
 pub mod plan;
 pub mod record;
 pub mod records;

@@ -4,10 +4,10 @@ pub mod answers;
 use crate::run::Run;
 use crate::run::sides::Sides;
 use crate::{document, listing, plan, records, validate};
-use replay::met::Met;
-use replay::mixed;
-use replay::random::Rng;
-use replay::records::random::name;
+use replay::generators::mixed;
+use replay::generators::random::Rng;
+use replay::generators::records::random::name;
+use replay::harness::met::Met;
 
 /// A text through every function that starts from one.
 pub struct All {
@@ -75,8 +75,9 @@ const MANY: u64 = 100_000;
 /// Whether every number of 01 was met, where there were many texts.
 pub fn enough(run: &Run, met: &Met) -> Result<(), String> {
     let unmet = met.unmet();
-    match run.count < MANY || unmet.is_empty() {
-        true => Ok(()),
-        false => Err(format!("never met: {unmet:?}")),
+    if run.count < MANY || unmet.is_empty() {
+        Ok(())
+    } else {
+        Err(format!("never met: {unmet:?}"))
     }
 }

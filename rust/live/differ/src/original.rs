@@ -1,6 +1,6 @@
 //! The original's answers in full, found by calling nothing but the original.
 use oracle::toml_lite::probe as rust;
-use replay::answer::{Answer, Joined, Refusal};
+use replay::model::answer::text::{Answer, Joined, Refusal};
 
 /// Everything the original says about a text. Costs a pass over every prefix.
 pub fn answer(text: &str) -> Answer {
@@ -60,9 +60,10 @@ fn net(text: &str, kind: char, end: &str, bracket: &str) -> usize {
     let (mut low, mut high) = (0, text.matches(kind).count());
     while low < high {
         let middle = (low + high) / 2;
-        match judge(middle).ok() == few {
-            true => low = middle + 1,
-            false => high = middle,
+        if judge(middle).ok() == few {
+            low = middle + 1;
+        } else {
+            high = middle;
         }
     }
     assert_eq!(judge(low), Ok(true), "{text:?}");

@@ -1,11 +1,12 @@
 //! The recorded answers: of each kind picked texts and a fixed number of random ones.
+use crate::picked::plain;
 use crate::records::compare::{Question, answers};
 use crate::{corners, document, listing, original, plan, records, validate, value};
-use replay::document::vector::{Parts, joined};
-use replay::plan::keys::Answered;
-use replay::random::Rng;
-use replay::records::answer::Read;
-use replay::value::model;
+use replay::generators::plan::keys::Answered;
+use replay::generators::random::Rng;
+use replay::harness::vector::document::{Parts, joined};
+use replay::model::answer::records::Read;
+use replay::model::value as model;
 use std::ops::RangeInclusive;
 
 /// One file of recorded answers.
@@ -40,12 +41,15 @@ pub const TEXT: Record = Record {
     picked: || plain(corners::CORNERS),
     seed: 7,
     random: 400,
-    make: |r| replay::random::text(r).into_bytes(),
+    make: |r| replay::generators::random::text(r).into_bytes(),
     lengths: 4..=160,
     within: |_| true,
     lines: |t| {
         let t = utf8(t);
-        vec![replay::vector::write(&t, &original::answer(&t))]
+        vec![replay::harness::vector::text::write(
+            &t,
+            &original::answer(&t),
+        )]
     },
 };
 
@@ -62,14 +66,14 @@ pub const VALUE: Record = Record {
     picked: || plain(value::corners::CORNERS),
     seed: 11,
     random: 400,
-    make: |r| replay::value::random::text(r).into_bytes(),
+    make: |r| replay::generators::value::text(r).into_bytes(),
     lengths: 2..=120,
     // neither 14 nor 15 nor 16
     within: |s| model::key(s) != Err(15) && !matches!(model::value(s), Err(14 | 16)),
     lines: |t| {
         let t = utf8(t);
         let answer = value::original::answer(&t);
-        vec![replay::value::vector::write(&t, &answer)]
+        vec![replay::harness::vector::value::write(&t, &answer)]
     },
 };
 
@@ -90,12 +94,12 @@ pub const DOCUMENT: Record = Record {
     picked: document::corners::picked,
     seed: 13,
     random: 300,
-    make: replay::document::random::text,
+    make: replay::generators::document::text,
     lengths: 8..=240,
     within: |_| true,
     lines: |t| {
         let answer = document::original::answer(&joined(t));
-        vec![replay::document::vector::write(t, &answer)]
+        vec![replay::harness::vector::document::write(t, &answer)]
     },
 };
 
@@ -106,7 +110,7 @@ pub const RECORDS: Record = Record {
             records::corners::CORNERS.len(),
             records::corners::LIMITS.len(),
         );
-        let faults = replay::records::edits::faults().len();
+        let faults = replay::generators::records::edits::faults().len();
         format!(
             "Preset::parse, its records or the number of its message, to {corners} picked presets, \
              {limits} around the limits, the presets of presets/, {faults} with one fault"
@@ -117,7 +121,7 @@ pub const RECORDS: Record = Record {
     picked: records::corners::picked,
     seed: 17,
     random: 250,
-    make: replay::records::random::text,
+    make: replay::generators::records::random::text,
     lengths: 20..=500,
     within: |_| true,
     lines: |t| preset_lines(&records::compare::RECORDS, t),
@@ -127,7 +131,7 @@ pub const VALIDATE: Record = Record {
     file: "validate.txt",
     asked: || {
         let corners = validate::corners::CORNERS.len();
-        let faults = 2 * replay::validate::faults::FAULTS.len();
+        let faults = 2 * replay::generators::validate::faults::FAULTS.len();
         format!(
             "Preset::parse and validate, the records or the number of the message, to {corners} \
              picked presets, the presets of presets/, {faults} with one fault"
@@ -138,7 +142,7 @@ pub const VALIDATE: Record = Record {
     picked: validate::corners::picked,
     seed: 19,
     random: 20,
-    make: replay::validate::random::text,
+    make: replay::generators::validate::random::text,
     lengths: 150..=600,
     within: |_| true,
     lines: |t| preset_lines(&validate::compare::VALIDATE, t),
@@ -158,7 +162,7 @@ pub const PLAN: Record = Record {
     picked: plan::corners::picked,
     seed: 23,
     random: 30,
-    make: replay::plan::random::text,
+    make: replay::generators::plan::random::text,
     lengths: 150..=700,
     within: |_| true,
     lines: plan_lines,
@@ -179,20 +183,24 @@ pub const LISTING: Record = Record {
     picked: listing::corners::picked,
     seed: 29,
     random: 350,
-    make: replay::listing::random::text,
+    make: replay::generators::listing::text,
     lengths: 20..=600,
     within: |_| true,
     lines: |t| {
         let text = joined(t);
         let listed = listing::compare::listed(&text, lent(&text));
         let listed = listed.unwrap_or_else(|e| panic!("{}: {e}", text.escape_ascii()));
-        vec![replay::listing::vector::write(lent(&text), t, &listed)]
+        vec![replay::harness::vector::listing::write(
+            lent(&text),
+            t,
+            &listed,
+        )]
     },
 };
 
 // The name that is lent goes by the text.
 fn lent(text: &[u8]) -> &'static [u8] {
-    let names = replay::records::random::NAMES;
+    let names = replay::generators::records::random::NAMES;
     names[text.len() % names.len()]
 }
 
@@ -206,7 +214,11 @@ fn preset_lines(asked: &Question, t: &Parts) -> Vec<String> {
     let text = joined(t);
     let (read, _) = told(asked, &text);
     let recorded = read.map(|answer| (answer.text.made, answer.preset));
-    vec![replay::records::vector::write(lent(&text), t, &recorded)]
+    vec![replay::harness::vector::records::write(
+        lent(&text),
+        t,
+        &recorded,
+    )]
 }
 
 // Of the keys that are not declared, one.
@@ -219,22 +231,16 @@ fn plan_lines(t: &Parts) -> Vec<String> {
     told.extend(others.into_iter().nth(text.len() % count));
     let line = |one: Answered| {
         let planned = one.told(&read).into_owned().map(|answer| {
-            let plan = replay::plan::model::plan(&answer.preset, one.selected.as_deref());
+            let plan = replay::model::plan::plan(&answer.preset, one.selected.as_deref());
             (answer.text.made, plan.expect("planned"))
         });
-        replay::plan::vector::write(lent(&text), t, &one.selected, &planned)
+        replay::harness::vector::plan::write(lent(&text), t, &one.selected, &planned)
     };
     told.into_iter().map(line).collect()
 }
 
 /// All files.
 pub const ALL: [Record; 7] = [TEXT, VALUE, DOCUMENT, RECORDS, VALIDATE, PLAN, LISTING];
-
-/// Texts in one part each.
-pub fn plain(texts: &[&str]) -> Vec<Parts> {
-    let each = texts.iter().map(|t| vec![(t.as_bytes().to_vec(), 1)]);
-    each.collect()
-}
 
 fn utf8(text: &Parts) -> String {
     String::from_utf8(joined(text)).expect("picked and random texts of this kind are UTF-8")

@@ -5,8 +5,8 @@ pub mod sides;
 
 use crate::shorten::shortest_difference;
 use progress::Progress;
-use replay::met::Met;
-use replay::random::Rng;
+use replay::generators::random::Rng;
+use replay::harness::met::Met;
 use sides::{Sides, compared};
 use std::sync::atomic::{AtomicU64, Ordering};
 use std::sync::mpsc::{self, RecvTimeoutError};

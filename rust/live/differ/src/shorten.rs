@@ -63,9 +63,10 @@ fn take_out<T: Copy>(
         *left -= 1;
         let end = text.len().min(at + size);
         let shorter = [&text[..at], &text[end..]].concat();
-        match fails(&shorter) {
-            true => *text = shorter,
-            false => at += size.div_ceil(4),
+        if fails(&shorter) {
+            *text = shorter;
+        } else {
+            at += size.div_ceil(4);
         }
     }
 }

@@ -1,8 +1,9 @@
 //! Whole texts on both sides.
 use differ::document::compare::Judge;
 use differ::record::DOCUMENT;
-use replay::document::{random, vector};
-use replay::random::Rng;
+use replay::generators::document as random;
+use replay::generators::random::Rng;
+use replay::harness::vector::document as vector;
 
 // Every text of these letters up to that many of them.
 fn up_to(most: usize, letters: &[&str], judge: &mut Judge) -> usize {

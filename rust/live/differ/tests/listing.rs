@@ -2,11 +2,11 @@
 use differ::listing::compare::Judge;
 use differ::record::LISTING;
 use differ::run::Run;
-use replay::document::vector;
-use replay::plan::cases::CASES;
-use replay::random::Rng;
-use replay::records::random::NAMES;
-use replay::validate::spelled;
+use replay::generators::plan::cases::CASES;
+use replay::generators::random::Rng;
+use replay::generators::records::random::NAMES;
+use replay::generators::validate::spelled;
+use replay::harness::vector::document as vector;
 
 #[test]
 fn corners() {

@@ -2,8 +2,8 @@
 use differ::long::{All, enough};
 use differ::run::Run;
 use differ::run::sides::Sides;
-use replay::met::Met;
-use replay::random::Rng;
+use replay::generators::random::Rng;
+use replay::harness::met::Met;
 
 const RUN: Run = Run {
     sides: || Box::new(All::default()),
@@ -34,11 +34,13 @@ impl Sides for Odd {
     }
 
     fn compare(&mut self, text: &[u8]) -> Result<(), String> {
-        match text.windows(2).any(|pair| pair == b"77") {
-            true if text.len() > 2 => Err("longer than it need be".into()),
-            true => panic!("two of {}", 7),
-            false => Ok(()),
+        if !text.windows(2).any(|pair| pair == b"77") {
+            return Ok(());
         }
+        if text.len() > 2 {
+            return Err("longer than it need be".into());
+        }
+        panic!("two of {}", 7)
     }
 
     fn answers(&self, text: &[u8]) -> String {

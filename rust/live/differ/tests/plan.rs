@@ -2,15 +2,15 @@
 use differ::plan::compare::{PLAN as ASKED, judge};
 use differ::record::PLAN;
 use differ::records::compare::{answers, check_random};
-use replay::document::vector;
-use replay::met::Met;
-use replay::plan::cases::CASES;
-use replay::plan::model::NUMBERS;
-use replay::plan::random;
-use replay::random::{Rng, stride, turns};
-use replay::records::random::{NAMES, name};
-use replay::records::spelling::paths;
-use replay::validate::spelled;
+use replay::generators::plan::cases::CASES;
+use replay::generators::plan::random;
+use replay::generators::random::{Rng, stride, turns};
+use replay::generators::records::random::{NAMES, name};
+use replay::generators::records::spelling::paths;
+use replay::generators::validate::spelled;
+use replay::harness::met::Met;
+use replay::harness::vector::document as vector;
+use replay::model::plan::NUMBERS;
 
 #[test]
 fn corners() {

@@ -1,12 +1,12 @@
 //! Presets on all sides: the port, the definitions and the original.
 use differ::record::RECORDS;
 use differ::records::compare::{Judge, RECORDS as ASKED, answer, check_random};
-use replay::document::vector;
-use replay::random::{Rng, turns};
-use replay::records::draft::Draft;
-use replay::records::edits::{edited, edits, faults, paired};
-use replay::records::random::{NAMES, name, text};
-use replay::records::spelling::paths;
+use replay::generators::random::{Rng, turns};
+use replay::generators::records::draft::Draft;
+use replay::generators::records::edits::{edited, edits, faults, paired};
+use replay::generators::records::random::{NAMES, name, text};
+use replay::generators::records::spelling::paths;
+use replay::harness::vector::document as vector;
 
 #[test]
 fn every_field_in_every_spelling() {

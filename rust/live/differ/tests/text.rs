@@ -3,8 +3,8 @@ use differ::compare::{check, compare_long};
 use differ::original;
 use oracle::toml_lite::probe as rust;
 use port::text::{self, TEXT_MAX};
-use replay::ask::ask;
-use replay::random::{self, Rng, turns};
+use replay::generators::random::{self, Rng, turns};
+use replay::harness::ask::text::ask;
 
 const SEED: u64 = 20_240_601;
 

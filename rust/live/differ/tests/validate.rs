@@ -2,13 +2,13 @@
 use differ::record::VALIDATE;
 use differ::records::compare::check_random;
 use differ::validate::compare::judge;
-use replay::document::vector;
-use replay::met::Met;
-use replay::random::Rng;
-use replay::records::random::NAMES;
-use replay::validate::cases::CASES;
-use replay::validate::model::NUMBERS;
-use replay::validate::spelled;
+use replay::generators::random::Rng;
+use replay::generators::records::random::NAMES;
+use replay::generators::validate::cases::CASES;
+use replay::generators::validate::spelled;
+use replay::harness::met::Met;
+use replay::harness::vector::document as vector;
+use replay::model::validate::NUMBERS;
 
 #[test]
 fn corners() {

@@ -1,9 +1,10 @@
 //! Integers, strings, keys and values on both sides.
 use differ::compare::check_by;
 use differ::value::compare;
-use replay::model::WHITE;
-use replay::random::{Rng, turns};
-use replay::value::{ask, random};
+use replay::generators::random::{Rng, turns};
+use replay::generators::value as random;
+use replay::harness::ask::value as ask;
+use replay::model::text::WHITE;
 
 const SEED: u64 = 20_240_602;
 const COUNT: usize = 100_000;

@@ -1,10 +1,10 @@
 //! Calls every function that starts from a text, with texts, names and rooms that are heap blocks of their
 //! exact lengths. Run under valgrind (`rust/valgrind`), which sees every byte read or written beside them.
 use port::text::TEXT_MAX;
-use replay::faults::{FUNCTIONS, Input, least};
-use replay::mixed;
-use replay::random::Rng;
-use replay::records::random::{EXAMPLES, NAMES};
+use replay::generators::mixed;
+use replay::generators::random::Rng;
+use replay::generators::records::random::{EXAMPLES, NAMES};
+use replay::harness::faults::{FUNCTIONS, Input, least};
 
 fn main() {
     let (mut calls, mut accepted) = (0, 0);

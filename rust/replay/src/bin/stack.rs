@@ -1,6 +1,6 @@
 //! Prints how much of the stack each function that starts from a text uses at most, and on which of the largest texts:
 //! `cargo run --offline --bin stack`.
-use replay::stack::most;
+use replay::harness::stack::most;
 
 fn main() {
     println!("| function | bytes of stack | text |\n|---|---|---|");

@@ -10,13 +10,13 @@ use std::process::ExitCode;
 const SORTS: [(&str, Make); 7] = [
     ("text", || {
         Box::new(Plain {
-            make: replay::random::text,
+            make: replay::generators::random::text,
             compare: compare::compare,
         })
     }),
     ("value", || {
         Box::new(Plain {
-            make: replay::value::random::text,
+            make: replay::generators::value::text,
             compare: value::compare::all,
         })
     }),

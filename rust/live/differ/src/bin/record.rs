@@ -3,7 +3,7 @@ use differ::record;
 
 fn main() {
     for record in &record::ALL {
-        let path = replay::vector::file(record.file);
+        let path = replay::harness::vector::line::file(record.file);
         let all = record.render();
         let answers = all.lines().filter(|line| !line.starts_with("# "));
         println!("{} answers in {}", answers.count(), path.display());

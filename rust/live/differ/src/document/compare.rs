@@ -1,10 +1,10 @@
 //! One whole text through the port, the original and the definitions, which have limits.
 use super::original;
 use crate::shorten::shortest_difference;
-use replay::document::answer::shown;
-use replay::document::ask::{Heard, Host};
-use replay::document::model;
-use replay::met::Met;
+use replay::harness::ask::document::{Heard, Host};
+use replay::harness::met::Met;
+use replay::model::answer::document::shown;
+use replay::model::document as model;
 
 /// Reads texts on all sides and counts the refusals by number, 0 being none.
 #[derive(Default)]
@@ -25,9 +25,10 @@ impl Judge {
 
     fn both(&mut self, text: &[u8]) -> Result<(), String> {
         let want = model::read(text);
-        let heard = match self.differed {
-            true => self.host.judge_fully(text, &want),
-            false => self.host.judge(text, &want),
+        let heard = if self.differed {
+            self.host.judge_fully(text, &want)
+        } else {
+            self.host.judge(text, &want)
         };
         let heard = heard.map_err(|e| format!("port against definition, {e}"))?;
         let number = heard.as_ref().err().map_or(0, |&n| n);

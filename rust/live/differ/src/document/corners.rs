@@ -1,6 +1,6 @@
 //! Whole texts on which readers of this sort go wrong, and texts around every limit.
-use crate::record::plain;
-use replay::document::vector;
+use crate::picked::{Fixed, fixed, plain};
+use replay::harness::vector::document::Parts;
 
 pub const CORNERS: &[&str] = &[
     // lines, comments, joining
@@ -154,13 +154,10 @@ pub const CORNERS: &[&str] = &[
     "x\ny\nz",
 ];
 
-/// A fixed text in parts, each with how often it is repeated.
-pub type Parts = &'static [(&'static [u8], usize)];
-
 const NAMED: (&[u8], usize) = (b".a", 15);
 const FULL: (&[u8], usize) = (b"1,", 2_047);
 
-pub const LIMITS: &[Parts] = &[
+pub const LIMITS: &[Fixed] = &[
     // 1: the length, whatever the text
     &[(b"a", 32_769)],
     &[(b"\xFF", 32_769)],
@@ -238,21 +235,14 @@ pub const LIMITS: &[Parts] = &[
 ];
 
 /// The limits, the corners and the presets of the repository, which go by name.
-pub fn picked() -> Vec<vector::Parts> {
+pub fn picked() -> Vec<Parts> {
     let presets = presets().into_iter().map(|text| vec![(text, 1)]);
-    let limits = owned(LIMITS).into_iter();
+    let limits = fixed(LIMITS).into_iter();
     limits.chain(plain(CORNERS)).chain(presets).collect()
 }
 
-/// Fixed texts as those that are read from a file.
-pub fn owned(texts: &[Parts]) -> Vec<vector::Parts> {
-    let part = |(part, count): &(&[u8], usize)| (part.to_vec(), *count);
-    let each = texts.iter().map(|parts| parts.iter().map(part).collect());
-    each.collect()
-}
-
 fn presets() -> Vec<Vec<u8>> {
-    let folder = replay::vector::file("../presets");
+    let folder = replay::harness::vector::line::file("../presets");
     let files = std::fs::read_dir(folder).expect("presets/");
     let mut paths: Vec<_> = files.map(|f| f.expect("an entry").path()).collect();
     paths.sort();

@@ -3,9 +3,9 @@
 //! It has no limit on arrays inside one another: the callers keep deep texts away from its stack.
 use crate::value::original::number as value_number;
 use oracle::toml_lite::{self, Value as Theirs};
-use replay::document::answer::{Read, Table, Value};
-use replay::document::ask::Heard;
-use replay::document::model;
+use replay::harness::ask::document::Heard;
+use replay::model::answer::document::{Read, Table, Value};
+use replay::model::document as model;
 
 pub fn read(text: &str) -> Heard {
     toml_lite::parse(text).map(table).map_err(|e| number(&e))

@@ -4,13 +4,13 @@ use crate::plan::compare::PLAN;
 use crate::records::compare::answer;
 use crate::run::sides::Sides;
 use crate::shorten::shortest_difference;
-use replay::listing::ask::{Host, Lines, rows};
-use replay::listing::{model, random};
-use replay::met::Met;
-use replay::plan;
-use replay::random::Rng;
-use replay::records::ask::differing;
-use replay::records::random::name;
+use replay::generators::listing as random;
+use replay::generators::random::Rng;
+use replay::generators::records::random::name;
+use replay::harness::ask::listing::{Host, Lines, rows};
+use replay::harness::ask::records::differing;
+use replay::harness::met::Met;
+use replay::model;
 
 /// The lines by the definitions, once the original has the same.
 pub fn listed(text: &[u8], name: &[u8]) -> Result<Lines, String> {
@@ -18,9 +18,9 @@ pub fn listed(text: &[u8], name: &[u8]) -> Result<Lines, String> {
         Ok(answer) => answer,
         Err(refusal) => return Ok(Err(refusal)),
     };
-    let plan = plan::model::plan(&answer.preset, None);
+    let plan = model::plan::plan(&answer.preset, None);
     let plan = plan.map_err(|e| format!("no boot chain: {e:?}"))?;
-    let lines = model::lines(answer.text.made, &answer.preset, &plan);
+    let lines = model::listing::lines(answer.text.made, &answer.preset, &plan);
     let text = std::str::from_utf8(text).map_err(|e| format!("not refused with 2: {e}"))?;
     match original::read(text, name, answer.text.made) {
         Ok(theirs) if theirs.as_bytes() == lines => Ok(Ok(lines)),
@@ -52,9 +52,10 @@ impl Judge {
     fn all(&mut self, text: &[u8]) -> Result<(), String> {
         let want = listed(text, &self.name)?;
         self.met.count(want.as_ref().err().map_or(0, |e| e.number));
-        let told = match self.differed {
-            true => self.host.judge_fully(text, &self.name, &want),
-            false => self.host.judge(text, &self.name, &want),
+        let told = if self.differed {
+            self.host.judge_fully(text, &self.name, &want)
+        } else {
+            self.host.judge(text, &self.name, &want)
         };
         told.map_err(|e| format!("port against definition, {e}"))
     }

@@ -1,7 +1,8 @@
 //! Presets whose lines are easily printed wrong.
+use crate::picked::{fixed, pieced};
 use crate::validate::corners::{A, B, K, X, Y};
 use crate::{document, plan, records, validate};
-use replay::document::vector::Parts;
+use replay::harness::vector::document::Parts;
 
 // An updater that goes nowhere, and the last block of all.
 const U: &str = "[[component]]\nname = \"u\"\npackage = \"w\"\nupdater = true\nram = 0\n";
@@ -104,10 +105,9 @@ pub const CORNERS: &[&[&str]] = &[
 
 /// The corners, those of planning and validation, and the limits of texts and lists.
 pub fn picked() -> Vec<Parts> {
-    let corners = CORNERS.iter().map(|pieces| pieces.concat());
-    let own = corners.map(|text| vec![(text.into_bytes(), 1)]);
-    let limits = document::corners::owned(document::corners::LIMITS);
-    let lists = document::corners::owned(records::corners::LIMITS);
+    let own = pieced(CORNERS).into_iter();
+    let limits = fixed(document::corners::LIMITS);
+    let lists = fixed(records::corners::LIMITS);
     let rules = plan::corners::picked()
         .into_iter()
         .chain(validate::corners::picked());

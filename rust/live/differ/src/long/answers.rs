@@ -4,16 +4,16 @@ use crate::{document, listing, plan, validate};
 use port::document::Outcome;
 use port::listing::out_min;
 use port::plans;
-use port::preset::Preset;
 use port::value::{STORE_MIN, TREE_MIN};
 use port::{document as trees, records};
-use replay::records::answer::{Read, Refusal};
+use preset::Preset;
+use replay::model::answer::records::{Read, Refusal};
 
 /// Of the port, of the original and of the definitions, one function after the other.
 pub fn answers(text: &[u8], name: &[u8]) -> String {
     let lent = format!("lent name \"{}\"", name.escape_ascii());
     let (ours, theirs) = (ours(text, name), theirs(text, name));
-    let read = replay::plan::model::read(text, name, None);
+    let read = replay::model::plan::read(text, name, None);
     let defined = format!("definitions: {}", shown(&read));
     let made = read.map(|answer| answer.text.made);
     let listings = made.map_or(String::new(), |made| listings(text, name, made));
@@ -27,7 +27,7 @@ fn listings(text: &[u8], name: &[u8], made: usize) -> String {
     let theirs = theirs.map_or("not asked".into(), |told| {
         told.unwrap_or_else(|e| format!("{e:?}\n"))
     });
-    let defined = replay::listing::model::read(text, name);
+    let defined = replay::model::listing::read(text, name);
     let defined = defined.map_or_else(|e| format!("{e:?}"), |lines| written(&lines));
     let ours = written(&printed(text, name));
     format!("listing of the port:\n{ours}of the original:\n{theirs}by the definitions:\n{defined}")
@@ -81,7 +81,7 @@ fn shown(read: &Read) -> String {
 // Sections and places where its messages name an entry.
 fn theirs(text: &[u8], name: &[u8]) -> String {
     // it has no limits, and no text that is not UTF-8 can be handed to it
-    let defined = replay::document::model::read(text);
+    let defined = replay::model::document::read(text);
     let limited = matches!(defined, Err((1 | 2 | 14..=16, _)));
     let Some(text) = std::str::from_utf8(text).ok().filter(|_| !limited) else {
         return "original: not asked, since it has no such limit".into();

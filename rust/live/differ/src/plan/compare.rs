@@ -4,12 +4,13 @@ use crate::records::compare::{Answers, Judge, Question, agree};
 use crate::records::original::parsed;
 use crate::validate::compare::VALIDATE;
 use oracle::preset::Preset as Theirs;
-use port::preset::Preset;
-use replay::plan::ask::{PLAN as DOOR, difference};
-use replay::plan::keys::{Answered, answers};
-use replay::plan::{model, random};
-use replay::records::answer::Read;
-use replay::records::ask::{Host, about};
+use preset::Preset;
+use replay::generators::plan::keys::{Answered, answers};
+use replay::generators::plan::random;
+use replay::harness::ask::plan::{PLAN as DOOR, difference};
+use replay::harness::ask::records::{Host, about};
+use replay::model::answer::records::Read;
+use replay::model::plan as model;
 
 /// What is planned for all that may be selected.
 pub const PLAN: Question = Question {

@@ -1,8 +1,8 @@
 //! Presets on which planners of this sort go wrong.
-use crate::record;
+use crate::picked;
 use crate::validate::corners::{A, B, K, X, Y};
-use replay::document::vector::Parts;
-use replay::records::random::EXAMPLES;
+use replay::generators::records::random::EXAMPLES;
+use replay::harness::vector::document::Parts;
 
 // An updater that goes nowhere, and a component of a file that leads.
 const U: &str = "[[component]]\nname = \"u\"\npackage = \"w\"\nupdater = true\nram = 0\n";
@@ -121,7 +121,6 @@ pub const CORNERS: &[&[&str]] = &[
 
 /// The corners and the presets of the repository.
 pub fn picked() -> Vec<Parts> {
-    let corners = CORNERS.iter().map(|pieces| pieces.concat());
-    let whole = corners.map(|text| vec![(text.into_bytes(), 1)]);
-    whole.chain(record::plain(&EXAMPLES)).collect()
+    let corners = picked::pieced(CORNERS).into_iter();
+    corners.chain(picked::plain(&EXAMPLES)).collect()
 }

@@ -1,10 +1,9 @@
 //! The original's plan of a preset, or what its message says.
-use crate::records::original::{Told, board, component, image, partition, read_and, texts};
+use crate::records::original::{Told, board, component, image, partition, read_and};
 use crate::validate::original::told_of;
 use oracle::preset::{self as theirs, Preset as Theirs, Selection};
-use port::plan::{BuildRequirement, Plan, PlannedComponent, Source};
-use port::preset::Preset;
-use std::os::unix::ffi::OsStringExt;
+use preset::{BuildRequirement, ImagePlan, PlannedComponent, Preset, Source};
+use replay::model::records::written;
 use std::path::PathBuf;
 
 /// The records of a preset whose boot chain it plans, which validates it first.
@@ -17,7 +16,7 @@ pub fn read(text: &str, name: &[u8]) -> Result<Preset, Told> {
 }
 
 /// The plan of a preset that breaks no rule.
-pub fn plan(preset: &Theirs, key: Option<&str>) -> Result<Plan, Told> {
+pub fn plan(preset: &Theirs, key: Option<&str>) -> Result<ImagePlan, Told> {
     let selection = match key {
         None => Selection::Bootloader,
         Some(key) => Selection::App(key.into()),
@@ -50,20 +49,18 @@ fn refused(preset: &Theirs, key: &str, message: &str) -> Option<Told> {
     (message == reused).then(|| told(81, place))
 }
 
-fn ours(p: theirs::ImagePlan) -> Plan {
+fn ours(p: theirs::ImagePlan) -> ImagePlan {
     let found = |c: &theirs::PlannedComponent| p.partition(&c.spec.partition).cloned();
     let found: Vec<_> = p.components.iter().map(found).collect();
     let components = p.components.into_iter().zip(found);
     let builds = p.required_builds.into_iter();
-    Plan {
+    ImagePlan {
         board: board(p.board),
         image: image(p.image),
         partitions: p.partitions.into_iter().map(partition).collect(),
         components: components.map(planned).collect(),
-        required_builds: builds
-            .map(|b| build(b.package, b.bin, b.features))
-            .collect(),
-        stem: p.stem.into(),
+        required_builds: builds.map(build).collect(),
+        stem: p.stem,
     }
 }
 
@@ -87,25 +84,29 @@ fn source(s: theirs::Source) -> Source {
             package,
             bin,
             features,
-        } => Source::Package(build(package, bin, features)),
+        } => Source::Package {
+            package,
+            bin,
+            features,
+        },
         theirs::Source::File(path) => Source::File(unjoined(path)),
     }
 }
 
-fn build(package: String, bin: String, features: Vec<String>) -> BuildRequirement {
+fn build(b: theirs::BuildRequirement) -> BuildRequirement {
     BuildRequirement {
-        package: package.into(),
-        bin: bin.into(),
-        features: texts(features),
+        package: b.package,
+        bin: b.bin,
+        features: b.features,
     }
 }
 
 // Presets stand in `.`, which is joined to every path that does not begin at the root.
-fn unjoined(path: PathBuf) -> Vec<u8> {
-    let path = path.into_os_string().into_vec();
-    match path.strip_prefix(b"./") {
-        Some(written) => written.to_vec(),
-        None if path.starts_with(b"/") => path,
-        None => panic!("{} is not joined", path.escape_ascii()),
+fn unjoined(path: PathBuf) -> PathBuf {
+    let joined = written(&path);
+    match joined.strip_prefix("./") {
+        Some(own) => own.into(),
+        None if joined.starts_with('/') => path,
+        None => panic!("{joined} is not joined"),
     }
 }

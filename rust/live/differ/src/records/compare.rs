@@ -1,14 +1,14 @@
 //! One preset through the port, the original and the definitions, which have limits.
 use super::original::{self, Told};
 use crate::shorten::shortest_difference;
-use port::preset::Preset;
-use replay::met::Met;
-use replay::plan::keys::Answered;
-use replay::random::{Rng, turns};
-use replay::records::answer::{Read, Refusal};
-use replay::records::ask::{Host, difference};
-use replay::records::model::{self, LIMITS, Limits, UNLIMITED};
-use replay::records::random;
+use preset::Preset;
+use replay::generators::plan::keys::Answered;
+use replay::generators::random::{Rng, turns};
+use replay::generators::records::random;
+use replay::harness::ask::records::{Host, difference};
+use replay::harness::met::Met;
+use replay::model::answer::records::{Read, Refusal};
+use replay::model::records::{self as model, LIMITS, Limits, UNLIMITED};
 use std::thread;
 
 /// What is asked about presets: the definitions and the original.

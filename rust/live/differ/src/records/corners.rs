@@ -1,10 +1,9 @@
 //! Presets on which readers of this sort go wrong, and presets around every limit.
-use crate::document::corners::{Parts, owned};
-use crate::record::plain;
-use replay::document::vector;
-use replay::records::draft::Draft;
-use replay::records::edits::{edited, faults};
-use replay::records::random::EXAMPLES;
+use crate::picked::{Fixed, fixed, plain};
+use replay::generators::records::draft::Draft;
+use replay::generators::records::edits::{edited, faults};
+use replay::generators::records::random::EXAMPLES;
+use replay::harness::vector::document::Parts;
 
 pub const CORNERS: &[&str] = &[
     // nothing, and what is not looked at
@@ -162,7 +161,7 @@ const SMALL: (&[u8], usize) = (b"[[partition]]\nname = \"a\"\noffset = 0\nsize =
 const EMPTY: (&[u8], usize) = (b"[[component]]\n", 1);
 const NAMED: (&[u8], usize) = (b"[[component]]\nname = \"c\"\n", 63);
 
-pub const LIMITS: &[Parts] = &[
+pub const LIMITS: &[Fixed] = &[
     // 25: the three lists, each at its own turn and before its entries
     &[SMALL],
     &[SMALL, (SMALL.0, 1)],
@@ -227,11 +226,11 @@ pub const LIMITS: &[Parts] = &[
 ];
 
 /// The limits, the corners, the presets of the repository, and one preset for each fault.
-pub fn picked() -> Vec<vector::Parts> {
+pub fn picked() -> Vec<Parts> {
     let bare = Draft::bare();
     let one = |fault| vec![(edited(&bare, fault).into_bytes(), 1)];
     let faults = faults();
-    let picked = owned(LIMITS).into_iter().chain(plain(CORNERS));
+    let picked = fixed(LIMITS).into_iter().chain(plain(CORNERS));
     let whole = picked.chain(plain(&EXAMPLES));
     whole.chain(faults.iter().map(one)).collect()
 }

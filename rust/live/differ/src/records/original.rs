@@ -1,7 +1,7 @@
 //! The original's answer to a preset: its records, or what its message says.
 use crate::document::original::number;
 use oracle::preset as theirs;
-use port::preset::{
+use preset::{
     AppSpec, BoardInfo, Chip, ComponentKind, ComponentSpec, ImageInfo, Media, PartitionSpec, Preset,
 };
 use std::ffi::OsString;
@@ -117,49 +117,37 @@ fn preset(p: theirs::Preset) -> Preset {
 
 pub(crate) fn board(b: theirs::BoardInfo) -> BoardInfo {
     BoardInfo {
-        name: b.name.into(),
+        name: b.name,
         chip: match b.chip {
             theirs::Chip::D13x => Chip::D13x,
             theirs::Chip::D21x => Chip::D21x,
         },
-        target: b.target.into(),
-        profile: b.profile.into(),
+        target: b.target,
+        profile: b.profile,
     }
 }
 
 pub(crate) fn image(i: theirs::ImageInfo) -> ImageInfo {
     ImageInfo {
-        platform: i.platform.into(),
-        product: i.product.into(),
-        version: i.version.into(),
+        platform: i.platform,
+        product: i.product,
+        version: i.version,
         media: match i.media {
             theirs::Media::SpiNor => Media::SpiNor,
             theirs::Media::SpiNand => Media::SpiNand,
         },
         media_dev_id: i.media_dev_id,
-        media_id: i.media_id.into(),
-        boot_app: i.boot_app.into(),
+        media_id: i.media_id,
+        boot_app: i.boot_app,
     }
 }
 
 pub(crate) fn partition(p: theirs::PartitionSpec) -> PartitionSpec {
     PartitionSpec {
-        name: p.name.into(),
+        name: p.name,
         offset: p.offset,
         size: p.size,
     }
-}
-
-fn text(s: Option<String>) -> Option<Vec<u8>> {
-    s.map(String::into_bytes)
-}
-
-fn path(p: Option<PathBuf>) -> Option<Vec<u8>> {
-    p.map(|p| p.into_os_string().into_vec())
-}
-
-pub(crate) fn texts(all: Vec<String>) -> Vec<Vec<u8>> {
-    all.into_iter().map(String::into_bytes).collect()
 }
 
 pub(crate) fn component(c: theirs::ComponentSpec) -> ComponentSpec {
@@ -169,42 +157,43 @@ pub(crate) fn component(c: theirs::ComponentSpec) -> ComponentSpec {
             theirs::ComponentKind::Pbp => ComponentKind::Pbp,
             theirs::ComponentKind::Raw => ComponentKind::Raw,
         },
-        name: c.name.into(),
-        package: text(c.package),
-        bin: text(c.bin),
-        file: path(c.file),
-        filename: c.filename.into(),
-        features: texts(c.features),
-        pbp_features: texts(c.pbp_features),
-        partition: c.partition.into(),
-        attr: c.attr.into(),
-        target_attr: text(c.target_attr),
-        target_filename: text(c.target_filename),
+        name: c.name,
+        package: c.package,
+        bin: c.bin,
+        file: c.file,
+        filename: c.filename,
+        features: c.features,
+        pbp_features: c.pbp_features,
+        partition: c.partition,
+        attr: c.attr,
+        target_attr: c.target_attr,
+        target_filename: c.target_filename,
         updater: c.updater,
         ram: c.ram,
-        pbp: path(c.pbp),
-        pbp_package: text(c.pbp_package),
-        private: path(c.private),
+        pbp: c.pbp,
+        pbp_package: c.pbp_package,
+        private: c.private,
         load_address: c.load_address,
         entry_point: c.entry_point,
         entry_offset: c.entry_offset,
         header_version: c.header_version,
         with_ext: c.with_ext,
-        ext_reserve: u32::try_from(c.ext_reserve).expect("read as 32 bits"),
+        ext_reserve: c.ext_reserve,
     }
 }
 
 // Its key in the map is its package.
-fn application((key, a): (String, theirs::AppSpec)) -> AppSpec {
+fn application((key, a): (String, theirs::AppSpec)) -> (String, AppSpec) {
     assert_eq!(key, a.package);
-    AppSpec {
-        package: a.package.into(),
-        name: a.name.into(),
-        partition: a.partition.into(),
-        filename: a.filename.into(),
-        attr: a.attr.into(),
-        features: texts(a.features),
+    let own = AppSpec {
+        package: a.package,
+        name: a.name,
+        partition: a.partition,
+        filename: a.filename,
+        attr: a.attr,
+        features: a.features,
         load_address: a.load_address,
         entry_offset: a.entry_offset,
-    }
+    };
+    (key, own)
 }

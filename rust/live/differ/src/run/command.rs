@@ -1,6 +1,6 @@
 //! A run from the command line: `[COUNT [SEED]]`, or `--only SEED NUMBER` for one text of a run.
 use super::{Run, progress::Progress};
-use replay::met::Met;
+use replay::harness::met::Met;
 use std::process::ExitCode;
 
 /// The run of these words, `run` where they leave something out.

@@ -1,5 +1,5 @@
 //! How far a run is.
-use replay::met::Met;
+use replay::harness::met::Met;
 use std::io::IsTerminal;
 use std::time::Duration;
 
@@ -25,9 +25,10 @@ impl Progress {
 
     /// On a terminal each line takes the last one's place.
     pub fn tell(&self) {
-        match std::io::stderr().is_terminal() {
-            true => eprint!("\x1b[K{}\r", self.line()),
-            false => eprintln!("{}", self.line()),
+        if std::io::stderr().is_terminal() {
+            eprint!("\x1b[K{}\r", self.line());
+        } else {
+            eprintln!("{}", self.line());
         }
     }
 }

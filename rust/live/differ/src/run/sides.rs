@@ -1,8 +1,8 @@
 //! Texts of one sort, and what compares them.
 use crate::{document, records};
-use replay::met::Met;
-use replay::random::Rng;
-use replay::records::random::name;
+use replay::generators::random::Rng;
+use replay::generators::records::random::name;
+use replay::harness::met::Met;
 use std::panic::{AssertUnwindSafe, catch_unwind};
 
 /// What a run asks for.
@@ -38,7 +38,7 @@ pub fn compared(sides: &mut dyn Sides, text: &[u8]) -> Result<(), String> {
 
 impl Sides for document::compare::Judge {
     fn make(&mut self, r: &mut Rng) -> Vec<u8> {
-        replay::document::random::text(r)
+        replay::generators::document::text(r)
     }
 
     fn compare(&mut self, text: &[u8]) -> Result<(), String> {

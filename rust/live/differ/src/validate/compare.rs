@@ -1,8 +1,9 @@
 //! What is asked about validation.
 use super::original;
 use crate::records::compare::{Judge, Question, RECORDS};
-use replay::records::ask::{self, Host};
-use replay::validate::{model, random};
+use replay::generators::validate::random;
+use replay::harness::ask::records::{self as ask, Host};
+use replay::model::validate as model;
 
 /// Whether presets break a rule.
 pub const VALIDATE: Question = Question {

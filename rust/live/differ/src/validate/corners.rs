@@ -1,11 +1,11 @@
 //! Presets on which validators of this sort go wrong.
-use crate::record;
-use replay::document::vector::Parts;
-use replay::random::Rng;
-use replay::records::random::EXAMPLES;
-use replay::validate::cases::CHIPS;
-use replay::validate::faults::FAULTS;
-use replay::validate::{plain, spelled};
+use crate::picked;
+use replay::generators::random::Rng;
+use replay::generators::records::random::EXAMPLES;
+use replay::generators::validate::cases::CHIPS;
+use replay::generators::validate::faults::FAULTS;
+use replay::generators::validate::{plain, spelled};
+use replay::harness::vector::document::Parts;
 
 // A partition, one behind it, a component for each, an application.
 pub(crate) const A: &str = "[[partition]]\nname = \"a\"\noffset = 0\nsize = 4096\n";
@@ -305,12 +305,9 @@ pub const CORNERS: &[&[&str]] = &[
 
 /// The corners, the presets of the repository, and two presets for each fault.
 pub fn picked() -> Vec<Parts> {
-    let corners = CORNERS.iter().map(|pieces| pieces.concat());
-    let whole = corners.map(|text| vec![(text.into_bytes(), 1)]);
-    whole
-        .chain(record::plain(&EXAMPLES))
-        .chain(faults())
-        .collect()
+    let corners = picked::pieced(CORNERS).into_iter();
+    let presets = picked::plain(&EXAMPLES);
+    corners.chain(presets).chain(faults()).collect()
 }
 
 // On both chips, at the second and the third entry.

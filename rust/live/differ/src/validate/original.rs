@@ -4,8 +4,8 @@
 //! it is the second one that is refused.
 use crate::records::original::{Told, read_and};
 use oracle::preset::Preset as Theirs;
-use port::preset::Preset;
-use replay::model::step;
+use preset::Preset;
+use replay::model::text::step;
 
 /// The records of a preset that it reads and validates.
 pub fn read(text: &str, name: &[u8]) -> Result<Preset, Told> {

@@ -1,7 +1,8 @@
 //! One text through each reader on both sides, and through the definitions, which have limits.
 use super::original;
-use replay::value::answer::{Read, Value, parts};
-use replay::value::{ask, model};
+use replay::harness::ask::value as ask;
+use replay::model::answer::value::{Read, Value, parts};
+use replay::model::value as model;
 use std::fmt::Debug;
 
 /// All four readers.

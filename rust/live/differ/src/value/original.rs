@@ -2,7 +2,7 @@
 //!
 //! It has no limit on arrays inside one another: the callers keep deep texts away from its stack.
 use oracle::toml_lite::{Value as Theirs, probe as rust};
-use replay::value::answer::{Answer, Bytes, Int, Key, Read, Str, Value};
+use replay::model::answer::value::{Answer, Bytes, Int, Key, Read, Str, Value};
 
 /// Everything the original's readers say about a text.
 pub fn answer(text: &str) -> Answer {

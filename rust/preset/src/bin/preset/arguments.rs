@@ -80,10 +80,10 @@ struct Sorted {
 
 impl Sorted {
     fn one(&mut self, command: &str, what: &str) -> Result<OsString, String> {
-        match (self.files.pop(), self.files.is_empty()) {
-            (Some(only), true) => Ok(only),
-            (None, _) => Err(format!("{command}: no {what} is named")),
-            _ => Err(format!("{command}: more than one {what} is named")),
+        match self.files.pop() {
+            None => Err(format!("{command}: no {what} is named")),
+            Some(only) if self.files.is_empty() => Ok(only),
+            Some(_) => Err(format!("{command}: more than one {what} is named")),
         }
     }
 

@@ -92,9 +92,10 @@ pub fn advice(mut numbers: Vec<u32>) -> String {
         .iter()
         .map(|n| format!("preset explain {n}"))
         .collect();
-    match each.is_empty() {
-        true => String::new(),
-        false => format!("what it means and how it is mended: {}\n", each.join(", ")),
+    if each.is_empty() {
+        String::new()
+    } else {
+        format!("what it means and how it is mended: {}\n", each.join(", "))
     }
 }
 

@@ -39,9 +39,10 @@ fn same(file: &OsStr, out: &OsStr) -> bool {
         let found = std::fs::metadata(path).ok().filter(Metadata::is_file)?;
         Some((found.dev(), found.ino()))
     };
-    let from = match file == "-" {
-        true => own("/dev/stdin".as_ref()),
-        false => own(file),
+    let from = if file == "-" {
+        own("/dev/stdin".as_ref())
+    } else {
+        own(file)
     };
     out != "-" && from.is_some() && from == own(out)
 }

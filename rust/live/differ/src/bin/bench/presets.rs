@@ -3,9 +3,11 @@ use crate::texts::{EXAMPLES, example};
 use crate::timing::{Times, measured};
 use differ::listing::original::rendered;
 use oracle::preset::{ImagePlan, Preset, Selection};
-use port::{document, plan, plans, preset, records};
-use replay::faults::{Input, Rooms, least};
-use replay::large::full;
+use port::{document, plans, records};
+use preset::owned;
+use replay::generators::large::full;
+use replay::harness::ask;
+use replay::harness::faults::{Input, Rooms, least};
 use std::hint::black_box;
 use std::path::Path;
 
@@ -75,7 +77,7 @@ pub const WHOLE: Job<(Preset, ImagePlan)> = Job {
         let selection = Some(i.key).into();
         let got = plans::plan(i.text, i.name, selection, store, tree);
         let made = got.made as usize;
-        let plan = plan::rebuild(records::Rooms { tree, store, made }, i.name, selection);
+        let plan = owned::plan(records::Rooms { tree, store, made }, i.name, selection);
         black_box(plan).expect("a plan");
         got.number
     },
@@ -112,9 +114,9 @@ pub fn listed(text: &str, made: usize) -> (Preset, ImagePlan, String) {
 }
 
 fn same_plan(rooms: records::Rooms, text: &str, key: Option<&str>) -> bool {
-    let got = plan::rebuild(rooms, NAME, key.map(str::as_bytes).into());
+    let got = owned::plan(rooms, NAME, key.map(str::as_bytes).into());
     let want = differ::plan::original::plan(&parsed(text), key);
-    got.expect("a plan") == want.expect("a plan")
+    ask::plan::difference(&got.expect("a plan"), &want.expect("a plan")).is_none()
 }
 
 /// One table of a job.
@@ -154,9 +156,10 @@ pub fn both<T>(job: &Job<T>, name: &str, text: &str) -> Times {
     let times = measured(ours, || (job.theirs)(black_box(text), &key));
     let [store, tree, out] = &rooms;
     let rooms = records::Rooms { tree, store, made };
-    let got = preset::rebuild(rooms, NAME).expect("records");
-    let want = differ::records::original::read(text, NAME);
-    assert!(want == Ok(got), "{name}: records");
+    let got = owned::preset(rooms, NAME).expect("records");
+    let want = differ::records::original::read(text, NAME).expect("records");
+    let difference = ask::records::difference(&got, &want);
+    assert_eq!(difference, None, "{name}: records");
     assert!((job.same)(rooms, text, &key, out), "{name}: plans or lines");
     times
 }

@@ -4,7 +4,7 @@ use crate::texts::{EXAMPLES, example};
 use crate::timing::{timed, turns};
 use port::records::validate;
 use port::value::{STORE_MIN, TREE_MIN};
-use replay::large::full;
+use replay::generators::large::full;
 use std::hint::black_box;
 
 const HEAD: &str = "\

@@ -4,7 +4,7 @@ use port::text::TEXT_MAX;
 pub const EXAMPLES: [&str; 3] = ["example.toml", "stage-d13x.toml", "tour-d21x.toml"];
 
 pub fn example(name: &str) -> String {
-    let path = replay::vector::file("../presets").join(name);
+    let path = replay::harness::vector::line::file("../presets").join(name);
     std::fs::read_to_string(path).expect(name)
 }
 

@@ -1,0 +1,10 @@
+//! Texts, presets and rooms to ask about.
+pub mod document;
+pub mod large;
+pub mod listing;
+pub mod mixed;
+pub mod plan;
+pub mod random;
+pub mod records;
+pub mod validate;
+pub mod value;

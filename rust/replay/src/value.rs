@@ -1,6 +1,0 @@
-//! The same for integers, strings, keys and values.
-pub mod answer;
-pub mod ask;
-pub mod model;
-pub mod random;
-pub mod vector;
