@@ -1,0 +1,7 @@
+pub mod Words
+pub mod Demand3
+pub mod Demand3Needs
+pub mod NeverMet
+pub mod AcceptedLayout
+pub mod Lines
+pub mod Listing
