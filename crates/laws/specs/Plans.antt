@@ -3,7 +3,7 @@ use Prim.Native.Nat.{ℕ}
 use mathlib.Core.List.{List}
 use mathlib.Core.Path.{_≡_, subst}
 use Rattle.meaning.specs.declared.Limits.{Limits}
-use Rattle.meaning.specs.Refusal.{Answer, accepted, after}
+use Rattle.meaning.specs.Refusal.{Answer, accepted, acceptedThen}
 use Rattle.meaning.specs.Verdict.{fine}
 use Rattle.meaning.specs.Rules.{rules}
 use Rattle.meaning.specs.Preset.{Read, read, validate}
@@ -15,7 +15,7 @@ module _ (lim : Limits) (width store tree : ℕ) (name text : List ℕ) where
   pub valid-rules : (x : Read) → validate lim width store tree name text ≡ accepted x → rules (x .preset) ≡ fine
   unfolding validate
   valid-rules x e =
-      let y = after-accepted (λ (r : Read). after (rules (r .preset)) (λ u. accepted r)) (read lim width store tree name text) x e in
+      let y = after-accepted (λ (r : Read). acceptedThen (rules (r .preset)) (λ u. accepted r)) (read lim width store tree name text) x e in
       let u = after-accepted (λ u. accepted (y .0)) (rules (y .0 .preset)) x (y .2) in
       subst (λ (r : Read). rules (r .preset) ≡ fine) (accepted-one (y .0) x (u .2)) (u .1)
 
@@ -24,7 +24,7 @@ module _ (lim : Limits) (width store tree : ℕ) (name text : List ℕ) where
     validated = validate lim width store tree name text
 
     abbrev ending : Read → Answer Planned
-    ending x = after (planOf (x .preset) s) (λ p. accepted (record { read = x; plan = p }))
+    ending x = acceptedThen (planOf (x .preset) s) (λ p. accepted (record { read = x; plan = p }))
 
     -- a plan is made of a preset that is validated
     pub text-planned : (q : Planned) → plan lim width store tree name s text ≡ accepted q

@@ -7,7 +7,7 @@ use mathlib.Core.Option.{Option, none, some}
 use mathlib.Core.Path.{_≡_, refl, sym, subst}
 use native.Mathlib.Omega.{arith}
 use Rattle.meaning.specs.declared.Limits.{Limits}
-use Rattle.meaning.specs.Refusal.{Fault, numbered, Answer, accepted, refused, after, inApplication}
+use Rattle.meaning.specs.Refusal.{Fault, numbered, Answer, accepted, refused, acceptedThen, inApplication}
 use Rattle.meaning.specs.Schema.{Component, Application, Preset}
 use Rattle.meaning.specs.Verdict.{among}
 use Rattle.meaning.specs.Preset.{Read, validate}
@@ -62,7 +62,7 @@ says-why r (app key) = go (declared 0 key (r .applications)) refl
         (why-81 key (d .0) (e .application) (declared-lemma (r .applications) key (d .0) (e .application) (d .2))
         (taken-lemma (r .components) (e .application .name) (among-taken (r .components) (e .application .name) t)))
 
-    go : (o : Option Entry) → declared 0 key (r .applications) ≡ o → Says r (app key) (after (admitted (r .components) o) (λ a. accepted (composed r (app key) a)))
+    go : (o : Option Entry) → declared 0 key (r .applications) ≡ o → Says r (app key) (acceptedThen (admitted (r .components) o) (λ a. accepted (composed r (app key) a)))
     go none h = why-80 key (undeclared-lemma (r .applications) key (none-undeclared key 0 (r .applications) h))
     go (some e) h = on (among (e .application .name) (componentNames (r .components))) (λ t. rw t (found e h t)) (λ t. rw t tt)
 
@@ -92,7 +92,7 @@ text-refused lim width store tree name text s f section place e = go (after-refu
     validated = validate lim width store tree name text
 
     ending : Read → Answer Planned
-    ending x = after (planOf (x .preset) s) (λ p. accepted (record { read = x; plan = p }))
+    ending x = acceptedThen (planOf (x .preset) s) (λ p. accepted (record { read = x; plan = p }))
 
     why : (x : Read) → (planOf (x .preset) s ≡ refused f section place) ⊎ ((p : Plan) × (planOf (x .preset) s ≡ accepted p) × (_≡_ {A = Answer Planned} (accepted (record { read = x; plan = p })) (refused f section place)))
         → Why (x .preset) s f section place

@@ -1,9 +1,9 @@
 use Rattle.preset.proofs.Settling.{read-judged, validate-judged, plan-judged}
 use borrow.Author.Needs.{needs}
-use Rattle.preset.proofs.judge.Statement.{statement}
-use Rattle.preset.proofs.judge.Tie as tie
-use Rattle.preset.proofs.judge.Reads as reads
-use Rattle.preset.proofs.judge.Lts as lts
+use Rattle.preset.proofs.judge_rooms.Statement.{statement}
+use Rattle.preset.proofs.judge_rooms.Tie as tie
+use Rattle.preset.proofs.judge_rooms.Reads as reads
+use Rattle.preset.proofs.judge_rooms.Lts as lts
 use Rattle.parse.proofs.judge.Reads as judge-reads
 use Rattle.plan.proofs.judge.Reads as judge-reads′
 use Rattle.validate.proofs.judge.Reads as judge-reads′′
@@ -35,8 +35,8 @@ returns-2 c = search (needs, validate-judged)
 returns-3 : tie.Need-returns-3
 returns-3 c = search (needs, plan-judged)
 
-pub judge-spec : {M : Type 1} → statement M
-judge-spec =
+pub judge-rooms-spec : {M : Type 1} → statement M
+judge-rooms-spec =
     tie.close
     (tie.spec
     enum-told
