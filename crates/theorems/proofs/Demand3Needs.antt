@@ -13,7 +13,7 @@ use Rattle.meaning.specs.Rules.{rules}
 use Rattle.meaning.specs.Plan.{bootChain, app, built, Plan, planned, componentOf, partitionFor, composed, planOf, computes}
 use Rattle.laws.specs.Places.{none-some}
 use Rattle.theorems.specs.Demand3.{ReferencesFind, FeaturesOfEachUse, as-payload}
-use Rattle.theorems.specs.Demand3Needs.{PlannedWithout, desk, going, y, twoSets, NeedsNoSemicolon, NeedsNoWhiteSpace, NeedsOneFeatureSet}
+use Rattle.theorems.specs.Demand3Needs.{PlannedWithout, desk, going, y, twoSets, NeedsNoSemicolon, NeedsTrimmed, NeedsOneSet}
 
 module _ (name : List ℕ) where
   abbrev goingPlan : Plan
@@ -34,13 +34,13 @@ pub needs-no-semicolon : NeedsNoSemicolon
 unfolding computes
 needs-no-semicolon = fails (ascii "a;b") refl refl refl refl
 
-pub needs-no-white-space : NeedsNoWhiteSpace
+pub needs-trimmed : NeedsTrimmed
 unfolding computes
-needs-no-white-space = fails (ascii " a") refl refl refl refl
+needs-trimmed = fails (ascii " a") refl refl refl refl
 
-pub needs-one-feature-set : NeedsOneFeatureSet
+pub needs-one-set : NeedsOneSet
 unfolding computes
-needs-one-feature-set =
+needs-one-set =
     record {
       obeys = refl;
       plan = composed twoSets bootChain none;

@@ -52,8 +52,8 @@ abbrev pub NeedsNoSemicolon : Type 0
 NeedsNoSemicolon = PlannedWithout (going (ascii "a;b")) (app (ascii "desk")) ReferencesFind
 
 -- and white space at its ends is trimmed
-abbrev pub NeedsNoWhiteSpace : Type 0
-NeedsNoWhiteSpace = PlannedWithout (going (ascii " a")) (app (ascii "desk")) ReferencesFind
+abbrev pub NeedsTrimmed : Type 0
+NeedsTrimmed = PlannedWithout (going (ascii " a")) (app (ascii "desk")) ReferencesFind
 
 -- ---- premise 2: one package with two feature sets
 
@@ -94,5 +94,5 @@ twoSets =
     }
 
 -- `p` is built with `f` and `g`, the features of its first use
-abbrev pub NeedsOneFeatureSet : Type 0
-NeedsOneFeatureSet = PlannedWithout twoSets bootChain FeaturesOfEachUse
+abbrev pub NeedsOneSet : Type 0
+NeedsOneSet = PlannedWithout twoSets bootChain FeaturesOfEachUse
