@@ -20,7 +20,7 @@ use Rattle.scalar.specs.Splits.{flat, endsOf, takes, Splits, Asked}
 use Rattle.laws.specs.Cases.{on}
 use Rattle.scalar.proofs.Splitting.{ends-size}
 use Rattle.scalar.proofs.Keying.{Accepted, accepted, refused-7, refused-8, refused-9, refused-15}
-use Rattle.host.specs.declared.values.Segments.{Segments}
+use Rattle.host.specs.declared.single_values.Segments.{Segments}
 use Rattle.host.specs.Values.{faultOf, segmentsOf, splitBy, endBy, Split, Ends}
 use Rattle.host.proofs.Exports.{length-zeros}
 

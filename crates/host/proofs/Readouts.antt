@@ -17,7 +17,7 @@ use Rattle.values.specs.declared.Reply.the-variants.{Fine, Fault}
 use Rattle.values.specs.Out.{Out, moved, replyOf, cells, Ready, Filled}
 use Rattle.toml_lite.specs.Rooms.{suffice}
 use Rattle.toml_lite.proofs.Reading.{suffices}
-use Rattle.host.specs.declared.values.ValueRead.{ValueRead}
+use Rattle.host.specs.declared.single_values.ValueRead.{ValueRead}
 use Rattle.host.specs.Values.{sizedOf, outOf, told, Readout}
 use Rattle.host.proofs.Exports.{length-zeros}
 

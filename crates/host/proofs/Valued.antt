@@ -20,7 +20,7 @@ use Rattle.scalar.specs.Decodes.{answer, answerOf, Decodes}
 use Rattle.scalar.specs.Stores.{over}
 use Rattle.tree.specs.declared.Slot.{Slot}
 use Rattle.tree.specs.Room.{slotAt, Holds}
-use Rattle.host.specs.declared.values.Spelling.{Spelling}
+use Rattle.host.specs.declared.single_values.Spelling.{Spelling}
 use Rattle.host.specs.Values.{numberOf, spellingBy, spellBy, Spelled, valueOf, slotOf}
 use Rattle.host.proofs.Exports.{length-zeros}
 

@@ -16,11 +16,11 @@ use Rattle.scalar.specs.Splits.{flat, endsOf}
 use Rattle.tree.specs.declared.Slot.{Slot}
 use Rattle.tree.specs.Room.{slotAt}
 use Rattle.toml_lite.specs.Rooms.{suffice}
-use Rattle.host.specs.declared.values.Number.{Number}
-use Rattle.host.specs.declared.values.Spelling.{Spelling}
-use Rattle.host.specs.declared.values.Value.{Value}
-use Rattle.host.specs.declared.values.Segments.{Segments}
-use Rattle.host.specs.declared.values.ValueRead.{ValueRead}
+use Rattle.host.specs.declared.single_values.Number.{Number}
+use Rattle.host.specs.declared.single_values.Spelling.{Spelling}
+use Rattle.host.specs.declared.single_values.Value.{Value}
+use Rattle.host.specs.declared.single_values.Segments.{Segments}
+use Rattle.host.specs.declared.single_values.ValueRead.{ValueRead}
 use Rattle.laws.specs.Stored.{stored}
 use Rattle.values.specs.Out.{Out, cells}
 use Rattle.values.specs.Fill.{valueOut}

@@ -5,7 +5,7 @@ mod listings;
 mod plans;
 mod presets;
 mod records;
-mod values;
+mod single_values;
 
 use text::Next;
 use text::Reading;

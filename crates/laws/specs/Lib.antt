@@ -19,8 +19,6 @@ pub mod Places
 pub mod Uses
 pub mod Builds
 pub mod Chosen
-pub mod Demand
-pub mod DemandNeeds
 pub mod Plans
 pub mod Weights
 pub mod RecordWeights

@@ -21,7 +21,7 @@ use Rattle.meaning.specs.Document.{Parsed, document, inRooms}
 use Rattle.meaning.specs.Records.{lentName, presetOf}
 use Rattle.meaning.specs.Preset.{Read, read, validate}
 use Rattle.meaning.specs.Plan.{bootChain, Build, Plan, Planned, built?, wanted, wantedBy, firstUses, inOrder, buildsOf, firstApp, app?, ownStem, stemFor, chosen, composed, planOf, plan}
-use Rattle.meaning.specs.Listing.{digits, decimal, spaced, line, okLine, partLine, dashed, compLine, appLine, buildLine, stemLine, each, linesOf, outSize, short, Listed, listed, listing}
+use Rattle.meaning.specs.Listing.{digits, decimal, spaced, line, okLine, partLine, dashed, compLine, appLine, buildLine, stemLine, each, linesOf, outSize, listed}
 use Rattle.laws.specs.Cases.{on}
 use Rattle.laws.specs.Answers.{accepted-one, refused-never, after-accepted}
 use Rattle.laws.specs.Accepted.{All, Sound, Groups, rules-groups, layout-sound, passes-all, fine-passes}
@@ -264,11 +264,3 @@ planned-fits width store tree name text x e =
     subst (λ (p : Plan). length (linesOf (x .read .parsed .made) (x .read .preset) p) ≤ outSize name) (plan-is (x .read .preset) (x .plan) (h .1))
     (lines-fit (x .read .parsed .made) name root (x .read .preset) (valid-rules of01 width store tree name text (x .read) (h .0))
     (subst (Tells (Costs root 28 68 40 of01 name)) (q .1) (preset-costs root 28 68 40 of01 name)) (text-weighs of01 text (x .read .parsed) (q .0)))
-
--- the listing of an accepted text is no longer than the output that is asked for
-pub listing-fits : (width store tree out : ℕ) (name text : List ℕ) (l : Listed) → listing of01 width store tree out name text ≡ accepted l → length (l .lines) ≤ outSize name
-unfolding listing
-listing-fits width store tree out name text l e =
-    on (short out name) (λ t. refused-never _ _ _ l (rw t at e))
-    (λ t. let x = after-accepted (λ x. accepted (listed x)) (plan of01 width store tree name bootChain text) l (rw t at e) in
-    subst (λ (k : Listed). length (k .lines) ≤ outSize name) (accepted-one (listed (x .0)) l (x .2)) (planned-fits width store tree name text (x .0) (x .1)))

@@ -3,7 +3,7 @@ use Prim.Native.Nat.{ℕ, zero, suc, _+_, _-_}
 use mathlib.Core.List.{List, [], _∷_, _++_}
 use mathlib.Core.Bool.{true}
 use mathlib.Core.Option.{Option, none, some}
-use mathlib.Core.Path.{_≡_, refl, subst}
+use mathlib.Core.Path.{_≡_, refl}
 use borrow.Author.Tests.{eq-eqb}
 use lib.Dec.{eqb, ltb, leb}
 use lib.ListN.{length, getD, take, drop}
@@ -11,7 +11,7 @@ use Rattle.meaning.specs.declared.Limits.{Limits}
 use Rattle.meaning.specs.declared.Fate.{Fate}
 use Rattle.meaning.specs.declared.Fate.the-variants.{Over, Unended, Whole}
 use Rattle.meaning.specs.Base.{same, cut, onFirst, nil?, final, concat}
-use Rattle.meaning.specs.Refusal.{R, ok, bad, okThen, Answer, accepted, refused, acceptedThen, Fault, numbered, Unmet, unmet}
+use Rattle.meaning.specs.Refusal.{R, ok, bad, okThen, Answer, accepted, refused, acceptedThen, Fault, numbered, unmet}
 use Rattle.meaning.specs.Reading.{Grown, grown, stuck, Got, got, failed, growThen, growMap, storing, adding, gotThen, gotMap, okThenGot, growThenGot, make}
 use Rattle.meaning.specs.Tree.{Value, Items, Table, str, int, boolean, array, table, none′, item, empty, entry, Grow, lookup, insert, snoc, hang, down, toLast, known, inLast, underLast, enter, ensure, pushTo, push, assign, asTable}
 use Rattle.meaning.specs.Keys.{keys, segments, segment}
@@ -359,7 +359,3 @@ never lim s =
     (λ e. rw e (on (valid s)
     (λ v. rw v (after-ok Any Any (join closed 1 (keptLines (physical s))) _ (join-ok closed 1 (keptLines (physical s))) (λ ls. lines-ok lim (record { root = empty; under = tables [] }) ls 0 tt)))
     (λ v. rw v tt)))
-
--- one by one: by no text a table or array is unknown, or is none; no path is empty; no array is without elements, or with another last element than a table
-pub never-met : (e : Unmet) (lim : Limits) (s : List ℕ) (i p : ℕ) → document lim s ≡ refused (unmet e) i p → ⊥
-never-met e lim s i p h = subst (λ (a : Answer Parsed). Answers a) h (never lim s)

@@ -1,11 +1,11 @@
 use Rattle.host.proofs.Keyed.{key-short, key-out, key-refused}
 use borrow.Author.Needs.{needs}
-use Rattle.host.proofs.values.value_key.Statement.{statement}
-use Rattle.host.proofs.values.value_key.Tie as tie
-use Rattle.host.proofs.values.value_key.Reads as reads
-use Rattle.host.proofs.values.value_key.Lts as lts
-use Rattle.host.proofs.values.number_of.Reads as number-of-reads
-use Rattle.host.proofs.values.unsplit.Reads as unsplit-reads
+use Rattle.host.proofs.single_values.value_key.Statement.{statement}
+use Rattle.host.proofs.single_values.value_key.Tie as tie
+use Rattle.host.proofs.single_values.value_key.Reads as reads
+use Rattle.host.proofs.single_values.value_key.Lts as lts
+use Rattle.host.proofs.single_values.number_of.Reads as number-of-reads
+use Rattle.host.proofs.single_values.unsplit.Reads as unsplit-reads
 use Rattle.scalar.proofs.key.put_key.Reads as put-key-reads
 use Rattle.slices.proofs.zero.Reads as zero-reads
 

@@ -1,11 +1,11 @@
 use Rattle.host.proofs.Readouts.{unsized, ready, read-out, fault-out}
 use borrow.Author.Needs.{needs}
-use Rattle.host.proofs.values.value_read.Statement.{statement}
-use Rattle.host.proofs.values.value_read.Tie as tie
-use Rattle.host.proofs.values.value_read.Reads as reads
-use Rattle.host.proofs.values.value_read.Lts as lts
-use Rattle.host.proofs.values.sized.Reads as sized-reads
-use Rattle.host.proofs.values.unread.Reads as unread-reads
+use Rattle.host.proofs.single_values.value_read.Statement.{statement}
+use Rattle.host.proofs.single_values.value_read.Tie as tie
+use Rattle.host.proofs.single_values.value_read.Reads as reads
+use Rattle.host.proofs.single_values.value_read.Lts as lts
+use Rattle.host.proofs.single_values.sized.Reads as sized-reads
+use Rattle.host.proofs.single_values.unread.Reads as unread-reads
 use Rattle.slices.proofs.zero.Reads as zero-reads
 use Rattle.values.proofs.value.value.Reads as value-reads
 

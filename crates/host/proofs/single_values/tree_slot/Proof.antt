@@ -1,9 +1,9 @@
 use Rattle.host.proofs.Valued.{slot-there, slot-none}
 use borrow.Author.Needs.{needs}
-use Rattle.host.proofs.values.tree_slot.Statement.{statement}
-use Rattle.host.proofs.values.tree_slot.Tie as tie
-use Rattle.host.proofs.values.tree_slot.Reads as reads
-use Rattle.host.proofs.values.tree_slot.Lts as lts
+use Rattle.host.proofs.single_values.tree_slot.Statement.{statement}
+use Rattle.host.proofs.single_values.tree_slot.Tie as tie
+use Rattle.host.proofs.single_values.tree_slot.Reads as reads
+use Rattle.host.proofs.single_values.tree_slot.Lts as lts
 use Rattle.tree.proofs.capacity.Reads as capacity-reads
 use Rattle.tree.proofs.get.Reads as get-reads
 

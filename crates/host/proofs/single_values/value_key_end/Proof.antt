@@ -1,10 +1,10 @@
 use Rattle.host.proofs.Keyed.{end-short, end-out, end-past, end-refused}
 use borrow.Author.Needs.{needs}
-use Rattle.host.proofs.values.value_key_end.Statement.{statement}
-use Rattle.host.proofs.values.value_key_end.Tie as tie
-use Rattle.host.proofs.values.value_key_end.Reads as reads
-use Rattle.host.proofs.values.value_key_end.Lts as lts
-use Rattle.host.proofs.values.number_of.Reads as number-of-reads
+use Rattle.host.proofs.single_values.value_key_end.Statement.{statement}
+use Rattle.host.proofs.single_values.value_key_end.Tie as tie
+use Rattle.host.proofs.single_values.value_key_end.Reads as reads
+use Rattle.host.proofs.single_values.value_key_end.Lts as lts
+use Rattle.host.proofs.single_values.number_of.Reads as number-of-reads
 use Rattle.scalar.proofs.key.put_key.Reads as put-key-reads
 use Rattle.slices.proofs.zero.Reads as zero-reads
 

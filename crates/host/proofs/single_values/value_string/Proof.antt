@@ -1,10 +1,10 @@
 use Rattle.host.proofs.Valued.{too-short, string-out, escape-out, unended-out}
 use borrow.Author.Needs.{needs}
-use Rattle.host.proofs.values.value_string.Statement.{statement}
-use Rattle.host.proofs.values.value_string.Tie as tie
-use Rattle.host.proofs.values.value_string.Reads as reads
-use Rattle.host.proofs.values.value_string.Lts as lts
-use Rattle.host.proofs.values.misspelt.Reads as misspelt-reads
+use Rattle.host.proofs.single_values.value_string.Statement.{statement}
+use Rattle.host.proofs.single_values.value_string.Tie as tie
+use Rattle.host.proofs.single_values.value_string.Reads as reads
+use Rattle.host.proofs.single_values.value_string.Lts as lts
+use Rattle.host.proofs.single_values.misspelt.Reads as misspelt-reads
 use Rattle.scalar.proofs.string.decode.Reads as decode-reads
 use Rattle.slices.proofs.zero.Reads as zero-reads
 

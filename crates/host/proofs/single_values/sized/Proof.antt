@@ -1,9 +1,9 @@
 use Rattle.host.proofs.Readouts.{sized-large, sized-well, sized-small}
 use borrow.Author.Needs.{needs}
-use Rattle.host.proofs.values.sized.Statement.{statement}
-use Rattle.host.proofs.values.sized.Tie as tie
-use Rattle.host.proofs.values.sized.Reads as reads
-use Rattle.host.proofs.values.sized.Lts as lts
+use Rattle.host.proofs.single_values.sized.Statement.{statement}
+use Rattle.host.proofs.single_values.sized.Tie as tie
+use Rattle.host.proofs.single_values.sized.Reads as reads
+use Rattle.host.proofs.single_values.sized.Lts as lts
 use Rattle.toml_lite.proofs.rooms_suffice.Reads as rooms-suffice-reads
 
 rooms-suffice-requires : tie.Need-rooms-suffice-requires

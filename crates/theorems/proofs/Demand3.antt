@@ -1,126 +1,31 @@
--- What every plan of an accepted preset has, whatever was selected.
-use Prim.Native.Nat.{ℕ, zero, suc, _<_}
+-- The plan of an accepted preset meets the demand, whatever was selected.
+use Prim.Native.Nat.{ℕ, zero, suc, _+_, _*_, _≤_}
 use mathlib.Core.Bool.{true, false}
 use mathlib.Core.List.{List, [], _∷_, map}
 use mathlib.Core.Logic.{_⊎_, inl, inr}
 use mathlib.Core.Option.{Option, none, some}
 use mathlib.Core.Path.{_≡_, refl, sym, ap, _∙_, subst}
 use native.Mathlib.Omega.{arith}
-use lib.ListN.{getD}
+use lib.ListN.{length, take, getD, length-map}
 use Rattle.meaning.specs.Base.{pick, nil?, same}
-use Rattle.meaning.specs.Refusal.{Fault, numbered, Answer, accepted, refused, acceptedThen, inApplication}
+use Rattle.meaning.specs.Refusal.{accepted}
 use Rattle.meaning.specs.Schema.{Partition, Component, Application, Preset}
 use Rattle.meaning.specs.Verdict.{fine, among}
-use Rattle.meaning.specs.Layout.{endOf}
 use Rattle.meaning.specs.Rules.{given, nameOf, partitionNames, allUses, usesOf, rules}
-use Rattle.meaning.specs.Plan.{Selection, bootChain, app, Build, built, built?, Source, fromPackage, fromFile, PlannedComponent, Plan, payload, pbpPayload, planned, componentOf, Entry, declared, componentNames, admitted, chosen, composition, wanted, wantedBy, firstUses, inOrder, buildsOf, firstNamed, partitionFor, composed, planOf}
+use Rattle.meaning.specs.Plan.{Selection, Build, built?, Source, fromPackage, fromFile, PlannedComponent, Plan, payload, pbpPayload, planned, componentOf, chosen, composition, wanted, wantedBy, firstUses, inOrder, buildsOf, firstNamed, partitionFor, composed, planOf}
 use Rattle.laws.specs.Cases.{on, never}
 use Rattle.laws.specs.Order.{same-eq, eq-same}
-use Rattle.laws.specs.Accepted.{Kept, Holds, Meant, Groups, rules-groups, components-kept, layout-at, layout-meant, layout-disjoint}
+use Rattle.laws.specs.Accepted.{Kept, Meant, Groups, rules-groups, components-kept, layout-at, layout-meant, layout-disjoint}
 use Rattle.laws.specs.Places.{At, In, at-inside, at-getD, getD-at, all-of, at-map, map-at, in-left, in-right, in-split, none-some, some-one}
 use Rattle.laws.specs.Answers.{accepted-one}
 use Rattle.laws.specs.Uses.{AllAlike, uses-alike, application-uses, uses-append}
-use Rattle.laws.specs.Builds.{First, firsts-first, firsts-has, firsts-one, asked, Agrees, wanted-use, wanted-by, by-wanted, Among, composition-in, in-composition, order-in, in-order}
-use Rattle.laws.specs.Chosen.{Undeclared, Declared, Taken, undeclared-none, none-undeclared, some-declared, declared-some, taken-among, among-taken, plan-made, chosen-in, application-known}
-
--- ---- words
-
--- why planning refuses: 80 for a key that no application has, 81 for an application whose name some component has, told at its entry
-pub data Why (r : Preset) : Selection → Fault → ℕ → ℕ → Type 0 where
-  why-80 : (key : List ℕ) → Undeclared (r .applications) key → Why r (app key) (numbered 80) inApplication 0
-  why-81 : (key : List ℕ) (i : ℕ) (a : Application) → Declared (r .applications) key i a → Taken (r .components) (a .name) → Why r (app key) (numbered 81) inApplication i
-
--- c is a component of the preset, or the selected application as a component
-pub data Origin (r : Preset) (s : Selection) (c : Component) : Type 0 where
-  own : (j : ℕ) → At (r .components) j c → Origin r s c
-  selected : (a : Application) → chosen r s ≡ accepted (some a) → c ≡ componentOf a → Origin r s c
-
--- a component has a package and no file, and the package is its payload; or it has a file and no package, and the file is
-pub data Payload (c : Component) (source : Source) : Type 0 where
-  package-only : (p : List ℕ) → c .head .pack ≡ some p → c .head .file ≡ none → source ≡ fromPackage (built p (c .head .bin) (c .role .features)) → Payload c source
-  file-only : (path : List ℕ) → c .head .pack ≡ none → c .head .file ≡ some path → source ≡ fromFile path → Payload c source
-
--- the partition of a name, and the only one; it ends below 2^32, and no byte of it is another's
-pub record Lies (ps : List Partition) (name : List ℕ) : Type 0 where
-  pub place : ℕ
-  pub partition : Partition
-  pub here : At ps place partition
-  pub is : partition .name ≡ name
-  pub only : (j : ℕ) (q : Partition) → At ps j q → q .name ≡ name → j ≡ place
-  pub ends : endOf partition < 4294967296
-  pub apart : (j x : ℕ) (q : Partition) → At ps j q → (j ≡ place → ⊥) → Holds partition x → Holds q x → ⊥
-
--- a reference that finds it
-pub record Finds (ps : List Partition) (reference : List ℕ) : Type 0 where
-  pub lies : Lies ps (nameOf reference)
-  pub found : partitionFor ps reference ≡ some (lies .partition)
-
--- a planned component uses a package, as payload or as PBP
-pub data Uses (q : PlannedComponent) (b : Build) : Type 0 where
-  as-payload : q .source ≡ fromPackage b → Uses q b
-  as-pbp : q .pbpSource ≡ some (fromPackage b) → Uses q b
-
--- one build is of the package, and no other
-pub record BuiltOnce (builds : List Build) (pack : List ℕ) : Type 0 where
-  pub place : ℕ
-  pub build : Build
-  pub here : At builds place build
-  pub is : build .pack ≡ pack
-  pub only : (j : ℕ) (d : Build) → At builds j d → d .pack ≡ pack → j ≡ place
-
--- what the plan of an accepted preset has
-pub record Demand (r : Preset) (s : Selection) (p : Plan) : Type 0 where
-  -- each planned component is one of the preset's or the selected application, and has exactly one payload source
-  pub sources : (i : ℕ) (q : PlannedComponent) → At (p .components) i q → (c : Component) × Origin r s c × (q ≡ planned c) × Payload c (q .source)
-  -- and none is left out
-  pub complete : (c : Component) → Origin r s c → In (planned c) (p .components)
-  -- each reference of a planned component finds exactly one partition, if the application's holds no `;` and no outer white space
-  pub references : ((a : Application) → chosen r s ≡ accepted (some a) → nameOf (a .partition) ≡ a .partition)
-      → (i : ℕ) (q : PlannedComponent) → At (p .components) i q → nil? (q .spec .role .partition) ≡ false → Finds (p .partitions) (q .spec .role .partition)
-  -- a component's does in any case
-  pub own-references : (j : ℕ) (c : Component) → At (r .components) j c → nil? (c .role .partition) ≡ false → Finds (p .partitions) (c .role .partition)
-  -- and letter for letter the application's names one
-  pub exactly : (a : Application) → chosen r s ≡ accepted (some a) → Lies (p .partitions) (a .partition)
-  -- each package that a planned component uses is built exactly once
-  pub built-once : (i : ℕ) (q : PlannedComponent) (b : Build) → At (p .components) i q → Uses q b → BuiltOnce (p .builds) (b .pack)
-  -- with the features of every use, if no component uses one package as payload and as PBP with two feature sets
-  pub features : ((j : ℕ) (c : Component) → At (r .components) j c → Agrees c)
-      → (i : ℕ) (q : PlannedComponent) (b : Build) → At (p .components) i q → Uses q b → (k : ℕ) (d : Build) → At (p .builds) k d → d .pack ≡ b .pack → d .features ≡ b .features
-  -- nothing else is built
-  pub needed : (k : ℕ) (d : Build) → At (p .builds) k d → (i : ℕ) × (q : PlannedComponent) × At (p .components) i q × Uses q d
-
--- ---- refusals
-
--- what an answer of planning says
-abbrev Says : Preset → Selection → Answer Plan → Type 0
-Says r s (accepted p) = Unit {0}
-Says r s (refused f section place) = Why r s f section place
-
-says-why : (r : Preset) (s : Selection) → Says r s (planOf r s)
-unfolding planOf chosen admitted
-says-why r bootChain = tt
-says-why r (app key) = go (declared 0 key (r .applications)) refl
-  where
-    found : (e : Entry) → declared 0 key (r .applications) ≡ some e → among (e .application .name) (componentNames (r .components)) ≡ true
-        → Why r (app key) (numbered 81) inApplication (e .place)
-    found e h t =
-        let d = some-declared key 0 (r .applications) e h in
-        let k : d .0 ≡ e .place = omega (arith, d .1) in
-        subst (λ (i : ℕ). Why r (app key) (numbered 81) inApplication i) k (why-81 key (d .0) (e .application) (d .2) (among-taken (r .components) (e .application .name) t))
-
-    go : (o : Option Entry) → declared 0 key (r .applications) ≡ o → Says r (app key) (acceptedThen (admitted (r .components) o) (λ a. accepted (composed r (app key) a)))
-    go none h = why-80 key (none-undeclared key 0 (r .applications) h)
-    go (some e) h = on (among (e .application .name) (componentNames (r .components))) (λ t. rw t (found e h t)) (λ t. rw t tt)
-
--- planning refuses for no other reason
-pub refused-why : (r : Preset) (s : Selection) (f : Fault) (section place : ℕ) → planOf r s ≡ refused f section place → Why r s f section place
-refused-why r s f section place e = subst (Says r s) e (says-why r s)
-
--- and always for these
-pub why-refused : (r : Preset) (s : Selection) (f : Fault) (section place : ℕ) → Why r s f section place → planOf r s ≡ refused f section place
-unfolding planOf chosen admitted
-why-refused r s f section place (why-80 key h) = rw (undeclared-none key 0 (r .applications) h)
-why-refused r s f section place (why-81 key i a h t) = rw (declared-some key 0 (r .applications) i i a (omega arith) h, taken-among (r .components) (a .name) t)
+use Rattle.laws.specs.Builds.{First, firsts-first, firsts-has, firsts-one, asked, Agrees, wanted-use, wanted-by, by-wanted, Among, composition-in, in-composition, composition-length, order-in, in-order, builds-length}
+use Rattle.laws.specs.Chosen.{plan-made, chosen-in, application-known}
+use Rattle.laws.specs.Plans.{valid-rules, text-planned}
+use Rattle.theorems.specs.Words as words
+use Rattle.theorems.specs.Words.{Holds}
+use Rattle.theorems.specs.Demand3.{Origin, own, selected, Payload, package-only, file-only, Lies, Finds, Uses, as-payload, as-pbp, BuiltOnce, PlainName, OneFeatureSet, Demand, PlanMeetsDemand, PlanIsSmall, PlainNameIsFound, TextMeetsDemand}
+use Rattle.theorems.proofs.Standing.{lemma-at, at-lemma}
 
 -- ---- payloads
 
@@ -151,12 +56,12 @@ layout-lies r name g t =
     record {
       place = m .place;
       partition = getD ps (m .place) nowhere;
-      here = getD-at ps (m .place) nowhere (m .inside);
+      here = at-lemma ps (m .place) (getD ps (m .place) nowhere) (getD-at ps (m .place) nowhere (m .inside));
       is = sym (same-eq name _ (m .is nowhere));
-      only = λ j q h n. m .only nowhere j (at-inside ps j q h) (eq-same name _ (sym n ∙ ap (λ (z : Partition). z .name) (sym (at-getD ps j q nowhere h))));
+      only = λ j q h n. m .only nowhere j (at-inside ps j q (lemma-at ps j q h)) (eq-same name _ (sym n ∙ ap (λ (z : Partition). z .name) (sym (at-getD ps j q nowhere (lemma-at ps j q h)))));
       ends = layout-at (r .board .chip) ps nowhere (g .laid) (m .place) (m .inside) .fits;
-      apart = λ j x q h n k l. layout-disjoint (r .board .chip) ps nowhere (g .laid) (m .place) j x (λ e. n (sym e)) (m .inside) (at-inside ps j q h) k
-          (subst (λ (z : Partition). Holds z x) (sym (at-getD ps j q nowhere h)) l);
+      apart = λ j x q h n k l. layout-disjoint (r .board .chip) ps nowhere (g .laid) (m .place) j x (λ e. n (sym e)) (m .inside) (at-inside ps j q (lemma-at ps j q h)) k
+          (subst (λ (z : Partition). Holds z x) (sym (at-getD ps j q nowhere (lemma-at ps j q h))) l);
     }
 
 first-named : (name : List ℕ) (ps : List Partition) (i : ℕ) (p : Partition) → At ps i p → p .name ≡ name
@@ -170,7 +75,11 @@ first-named name (x ∷ ps) (suc i) p h e only =
 
 lies-finds : (ps : List Partition) (reference : List ℕ) → Lies ps (nameOf reference) → Finds ps reference
 unfolding partitionFor
-lies-finds ps reference l = record { lies = l; found = first-named (nameOf reference) ps (l .place) (l .partition) (l .here) (l .is) (l .only) }
+lies-finds ps reference l =
+    record {
+      lies = l;
+      found = first-named (nameOf reference) ps (l .place) (l .partition) (lemma-at ps (l .place) (l .partition) (l .here)) (l .is) (λ j q h n. l .only j q (at-lemma ps j q h) n);
+    }
 
 -- ---- builds
 
@@ -236,11 +145,11 @@ module _ (r : Preset) (s : Selection) (p : Plan) (obeys : rules r ≡ fine) (mad
   chosenOne = plan-made r s p made .0
 
   origin-of : (c : Component) → Among chosenOne (r .components) c → Origin r s c
-  origin-of c (inl h) = own (h .0) (h .1)
+  origin-of c (inl h) = own (h .0) (at-lemma (r .components) (h .0) c (h .1))
   origin-of c (inr h) = selected (h .0) (plan-made r s p made .1 ∙ ap accepted (h .1)) (h .2)
 
   of-origin : (c : Component) → Origin r s c → Among chosenOne (r .components) c
-  of-origin c (own j h) = inl (j, h)
+  of-origin c (own j h) = inl (j, lemma-at (r .components) j c h)
   of-origin c (selected a e h) = inr (a, accepted-one chosenOne (some a) (sym (plan-made r s p made .1) ∙ e), h)
 
   kept : (j : ℕ) (c : Component) → At (r .components) j c → Kept (partitionNames (r .partitions)) c
@@ -269,7 +178,7 @@ module _ (r : Preset) (s : Selection) (p : Plan) (obeys : rules r ≡ fine) (mad
       (k .0, subst (λ (l : List PlannedComponent). At l (k .0) (planned c)) components-are (map-at planned (composition chosenOne (r .components)) (k .0) c (k .1)))
 
   payload-of : (c : Component) → Origin r s c → Payload c (planned c .source)
-  payload-of c (own j h) = kept-payload (partitionNames (r .partitions)) c (kept j c h)
+  payload-of c (own j h) = kept-payload (partitionNames (r .partitions)) c (kept j c (lemma-at (r .components) j c h))
   payload-of c (selected a e h) = subst (λ (d : Component). Payload d (planned d .source)) (sym h) (application-payload a)
 
   known-lies : (name : List ℕ) → among name (partitionNames (r .partitions)) ≡ true → Lies (p .partitions) name
@@ -281,9 +190,9 @@ module _ (r : Preset) (s : Selection) (p : Plan) (obeys : rules r ≡ fine) (mad
   application-lies : (a : Application) → chosen r s ≡ accepted (some a) → Lies (p .partitions) (a .partition)
   application-lies a e = known-lies (a .partition) (application-known (partitionNames (r .partitions)) (r .applications) a (groups .applied) (chosen-in r s a e))
 
-  finds-of : ((a : Application) → chosen r s ≡ accepted (some a) → nameOf (a .partition) ≡ a .partition) → (c : Component) → Origin r s c → nil? (c .role .partition) ≡ false → Finds (p .partitions) (c .role .partition)
+  finds-of : PlainName r s → (c : Component) → Origin r s c → nil? (c .role .partition) ≡ false → Finds (p .partitions) (c .role .partition)
   unfolding componentOf
-  finds-of plain c (own j h) n = component-finds j c h n
+  finds-of plain c (own j h) n = component-finds j c (lemma-at (r .components) j c h) n
   finds-of plain c (selected a e h) n =
       subst (λ (d : Component). Finds (p .partitions) (d .role .partition)) (sym h)
       (lies-finds (p .partitions) (a .partition) (subst (Lies (p .partitions)) (sym (plain a e)) (application-lies a e)))
@@ -304,11 +213,17 @@ module _ (r : Preset) (s : Selection) (p : Plan) (obeys : rules r ≡ fine) (mad
   once b h =
       let f = firsts-has [] wants (h .0) b (h .1) refl in
       subst (λ (l : List Build). BuiltOnce l (b .pack)) builds-are
-      (record { place = f .0; build = f .1; here = f .2; is = f .3; only = λ j d g e. firsts-one [] wants j (f .0) d (f .1) g (f .2) (e ∙ sym (f .3)) })
+      (record {
+        place = f .0;
+        build = f .1;
+        here = at-lemma (firstUses [] wants) (f .0) (f .1) (f .2);
+        is = f .3;
+        only = λ j d g e. firsts-one [] wants j (f .0) d (f .1) (lemma-at (firstUses [] wants) j d g) (f .2) (e ∙ sym (f .3));
+      })
 
   one-pbp : (c : Component) → Origin r s c → pick (given (c .boot .pbp)) (given (c .boot .pbpPack)) false ≡ false
   unfolding componentOf
-  one-pbp c (own j h) = kept j c h .one-pbp
+  one-pbp c (own j h) = kept j c (lemma-at (r .components) j c h) .one-pbp
   one-pbp c (selected a e h) = subst (λ (d : Component). pick (given (d .boot .pbp)) (given (d .boot .pbpPack)) false ≡ false) (sym h) refl
 
   build-used : (d : Build) → In d wants → (i : ℕ) × (q : PlannedComponent) × At (p .components) i q × Uses q d
@@ -318,7 +233,7 @@ module _ (r : Preset) (s : Selection) (p : Plan) (obeys : rules r ≡ fine) (mad
       let k = is-planned (w .0) o in
       (k .0, planned (w .0), k .1, wanted-uses (w .0) d (one-pbp (w .0) o) (w .2))
 
-  agrees-of : ((j : ℕ) (c : Component) → At (r .components) j c → Agrees c) → (c : Component) → Origin r s c → Agrees c
+  agrees-of : OneFeatureSet r → (c : Component) → Origin r s c → Agrees c
   unfolding componentOf
   agrees-of agrees c (own j h) = agrees j c h
   agrees-of agrees c (selected a e h) = subst Agrees (sym h) (λ n k l. none-some n l)
@@ -330,26 +245,51 @@ module _ (r : Preset) (s : Selection) (p : Plan) (obeys : rules r ≡ fine) (mad
       let k = chosen-in r s x e in
       subst AllAlike (sym (uses-append (r .components) (componentOf x ∷ []))) (application-uses (r .components) (r .applications) (groups .built) (k .0) x (k .1))
 
-  same-features : ((j : ℕ) (c : Component) → At (r .components) j c → Agrees c) → (b d : Build) → In b wants → In d wants → d .pack ≡ b .pack → d .features ≡ b .features
+  same-features : OneFeatureSet r → (b d : Build) → In b wants → In d wants → d .pack ≡ b .pack → d .features ≡ b .features
   same-features agrees b d h g =
       let cs = inOrder chosenOne (r .components) in
       let each : (j : ℕ) (c : Component) → At cs j c → Agrees c = λ j c k. agrees-of agrees c (origin-of c (order-in chosenOne (r .components) c (j, k))) in
       all-alike chosenOne (plan-made r s p made .1) (asked d) (asked b) (wanted-use cs d each g) (wanted-use cs b each h)
 
--- the plan of an accepted preset meets the demand, for every selection
-pub demand : (r : Preset) (s : Selection) (p : Plan) → rules r ≡ fine → planOf r s ≡ accepted p → Demand r s p
+pub demand : PlanMeetsDemand
 unfolding planned
 demand r s p obeys made =
+    let planned-at : (i : ℕ) (q : PlannedComponent) → words.At (p .components) i q → At (p .components) i q = lemma-at (p .components) in
+    let built-at : (k : ℕ) (d : Build) → words.At (p .builds) k d → First (wants r s p obeys made) d = λ k d h. build-first r s p obeys made k d (lemma-at (p .builds) k d h) in
     record {
-      sources = λ i q h. let o = origin r s p obeys made i q h in
+      sources = λ i q h. let o = origin r s p obeys made i q (planned-at i q h) in
           (o .0, o .1, o .2, subst (λ (z : PlannedComponent). Payload (o .0) (z .source)) (sym (o .2)) (payload-of r s p obeys made (o .0) (o .1)));
-      complete = is-planned r s p obeys made;
-      references = λ plain i q h. let o = origin r s p obeys made i q h in
+      complete = λ c h. let k = is-planned r s p obeys made c h in (k .0, at-lemma (p .components) (k .0) (planned c) (k .1));
+      references = λ plain i q h. let o = origin r s p obeys made i q (planned-at i q h) in
           subst (λ (z : PlannedComponent). nil? (z .spec .role .partition) ≡ false → Finds (p .partitions) (z .spec .role .partition)) (sym (o .2)) (finds-of r s p obeys made plain (o .0) (o .1));
-      own-references = component-finds r s p obeys made;
+      own-references = λ j c h. component-finds r s p obeys made j c (lemma-at (r .components) j c h);
       exactly = application-lies r s p obeys made;
-      built-once = λ i q b h u. once r s p obeys made b (use-wanted r s p obeys made i q b h u);
-      features = λ agrees i q b h u k d g. let f = build-first r s p obeys made k d g in
-          same-features r s p obeys made agrees b d (use-wanted r s p obeys made i q b h u) (f .place, f .here);
-      needed = λ k d h. let f = build-first r s p obeys made k d h in build-used r s p obeys made d (f .place, f .here);
+      built-once = λ i q b h u. once r s p obeys made b (use-wanted r s p obeys made i q b (planned-at i q h) u);
+      features = λ agrees i q b h u k d g. let f = built-at k d g in
+          same-features r s p obeys made agrees b d (use-wanted r s p obeys made i q b (planned-at i q h) u) (f .place, f .here);
+      needed = λ k d h. let f = built-at k d h in
+          let u = build-used r s p obeys made d (f .place, f .here) in
+          (u .0, u .1, at-lemma (p .components) (u .0) (u .1) (u .2), u .3);
     }
+
+pub text-demand : TextMeetsDemand
+text-demand lim width store tree name text s q e =
+    let h = text-planned lim width store tree name text s q e in
+    demand (q .read .preset) s (q .plan) (valid-rules lim width store tree name text (q .read) (h .0)) (h .1)
+
+-- ---- beside it
+
+pub plan-size : PlanIsSmall
+unfolding composed
+plan-size r s p e =
+    let m = plan-made r s p e in
+    subst (λ (q : Plan). (length (q .components) ≤ suc (length (r .components))) × (length (q .builds) ≤ 2 * length (r .components) + 1)) (m .2)
+    (rw (length-map (composition (m .0) (r .components)) planned) (composition-length (m .0) (r .components)), builds-length (m .0) (r .components))
+
+pub plain-name : PlainNameIsFound
+unfolding nameOf
+plain-name name e t = rw (e, take-all name, t)
+  where
+    take-all : (s : List ℕ) → take (length s) s ≡ s
+    take-all [] = refl
+    take-all (b ∷ s) = ap (λ (l : List ℕ). b ∷ l) (take-all s)

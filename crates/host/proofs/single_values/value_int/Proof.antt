@@ -1,9 +1,9 @@
 use Rattle.host.proofs.Valued.{int-told, int-refused}
 use borrow.Author.Needs.{needs}
-use Rattle.host.proofs.values.value_int.Statement.{statement}
-use Rattle.host.proofs.values.value_int.Tie as tie
-use Rattle.host.proofs.values.value_int.Reads as reads
-use Rattle.host.proofs.values.value_int.Lts as lts
+use Rattle.host.proofs.single_values.value_int.Statement.{statement}
+use Rattle.host.proofs.single_values.value_int.Tie as tie
+use Rattle.host.proofs.single_values.value_int.Reads as reads
+use Rattle.host.proofs.single_values.value_int.Lts as lts
 use Rattle.scalar.proofs.integer.read_int.Reads as read-int-reads
 
 read-int-requires : tie.Need-read-int-requires
