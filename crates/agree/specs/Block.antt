@@ -9,7 +9,7 @@ use native.Mathlib.Omega.{arith}
 use lib.Dec.{eqb, ltb}
 use borrow.Author.Tests.{eqb-true, eqb-false, eq-eqb, ne-eqb, ltb-true, ltb-false}
 use Rattle.meaning.specs.Base.{pick}
-use Rattle.meaning.specs.Tree.{Value, Items, str, int, boolean, array, table, none′, item, seen, count as many}
+use Rattle.meaning.specs.Tree.{Value, Items, str, int, boolean, array, table, none′, item, readAs, count as many}
 use Rattle.laws.specs.Cases.{on}
 use Rattle.tree.specs.declared.Slot.{Slot}
 use Rattle.agree.specs.Key.{Key, name, index}
@@ -287,7 +287,7 @@ module _ (bytes : List ℕ) (b : Log) (m : ℕ) where
   child-goes (array is) (index i) g = item-goes is i g (nth is i) refl
   child-goes (table t) j g = absurd (g .laid)
 
-step-goes : (bytes : List ℕ) (b : Log) (p : ℕ) (o : Option Value) (j : Key) → Goes bytes b p o → Goes bytes b (child bytes b p j) (seen (λ v. get v j) o)
+step-goes : (bytes : List ℕ) (b : Log) (p : ℕ) (o : Option Value) (j : Key) → Goes bytes b p o → Goes bytes b (child bytes b p j) (readAs (λ v. get v j) o)
 step-goes bytes b p none j h = rw h (child-nothing bytes b j)
 step-goes bytes b p (some v) j h =
     subst (λ (z : ℕ). Goes bytes b (child bytes b z j) (get v j)) (sym (h .1)) (child-goes bytes b (h .0) v j (h .2))

@@ -11,7 +11,7 @@ use borrow.Author.Tests.{eqb-true, eqb-false, le-leb}
 use Rattle.meaning.specs.Base.{part}
 use Rattle.meaning.specs.Refusal.{numbered}
 use Rattle.meaning.specs.Reading.{Grown, grown, stuck, growMap, make}
-use Rattle.meaning.specs.Tree.{Value, Table, str, int, boolean, array, table, empty, seen, asTable, lookup, hang, Grow, down, enter}
+use Rattle.meaning.specs.Tree.{Value, Table, str, int, boolean, array, table, empty, readAs, asTable, lookup, withTable, Grow, alongPath, tableOrNew}
 use Rattle.laws.specs.Cases.{on}
 use Rattle.laws.specs.Never.{same-refl}
 use Rattle.tree.specs.declared.Slot.{Slot}
@@ -37,7 +37,7 @@ graft x g (grown t m) = grown (setAt x g (table t)) m
 graft x g (stuck e) = stuck e
 
 pub graft-hang : (x : Value) (g : List Key) (t : Table) (k : List ℕ) (r : Grown Table) → find (some x) g ≡ some (table t)
-    → graft x g (growMap (hang t k) r) ≡ graft x (name k ∷ g) r
+    → graft x g (growMap (withTable t k) r) ≡ graft x (name k ∷ g) r
 graft-hang x g t k (grown w m) e = ap (λ (o : Option Value). grown (setAt x g (put o (name k) (table w))) m) (sym e)
 graft-hang x g t k (stuck f) e = refl
 
@@ -67,7 +67,7 @@ pub record Came (limit : ℕ) (bytes : List ℕ) (vs : List Slot) (x : Value) (g
   pub tree : Value
   pub tab : Table
   pub stand : Stand bytes vs' tree (onto g ks) tab p'
-  pub is : (f : Table → Grow Table) → graft x g (down (enter limit) f ks t (length vs)) ≡ graft tree (onto g ks) (f tab (length vs'))
+  pub is : (f : Table → Grow Table) → graft x g (alongPath (tableOrNew limit) f ks t (length vs)) ≡ graft tree (onto g ks) (f tab (length vs'))
   pub news : List Slot
   pub longer : vs' ≡ vs ++ news
   pub kept : (q : List Key) → length q ≤ length g → to bytes vs' q ≡ to bytes vs q
@@ -76,7 +76,7 @@ pub record Came (limit : ℕ) (bytes : List ℕ) (vs : List Slot) (x : Value) (g
 
 abbrev pub Comes : ℕ → List ℕ → List Slot → Value → List Key → Table → List (List ℕ) → GrownS → Type 0
 Comes limit bytes vs x g t ks (grownS vs' p') = Came limit bytes vs x g t ks vs' p'
-Comes limit bytes vs x g t ks (stuckS n) = (n ≡ 16) × ((f : Table → Grow Table) → down (enter limit) f ks t (length vs) ≡ stuck (numbered 16))
+Comes limit bytes vs x g t ks (stuckS n) = (n ≡ 16) × ((f : Table → Grow Table) → alongPath (tableOrNew limit) f ks t (length vs) ≡ stuck (numbered 16))
 
 pub keyed-slot : (bytes : List ℕ) (kind p : ℕ) (s : Seg) (k : List ℕ) → part (s .at) (s .at + s .len) bytes ≡ k → s .at + s .len ≤ length bytes
     → keyed bytes (keyedSlot kind p s) k ≡ true
@@ -87,8 +87,8 @@ module _ (limit : ℕ) (bytes : List ℕ) (vs : List Slot) (x : Value) (g : List
     (spelt : part (s .at) (s .at + s .len) bytes ≡ k) (lies : s .at + s .len ≤ length bytes) (ks : List (List ℕ)) where
   -- the table is there
   module _ (w : Table) (e : lookup t k ≡ some (table w)) where
-    old-step : (f : Table → Grow Table) → down (enter limit) f (k ∷ ks) t (length vs) ≡ growMap (hang t k) (down (enter limit) f ks w (length vs))
-    unfolding enter
+    old-step : (f : Table → Grow Table) → alongPath (tableOrNew limit) f (k ∷ ks) t (length vs) ≡ growMap (withTable t k) (alongPath (tableOrNew limit) f ks w (length vs))
+    unfolding tableOrNew
     old-step f = rw e
 
     shift-calm : (n : ℕ) → Calm bytes vs n g → Calm bytes vs n (name k ∷ g)
@@ -102,17 +102,17 @@ module _ (limit : ℕ) (bytes : List ℕ) (vs : List Slot) (x : Value) (g : List
           tree = c .tree;
           tab = c .tab;
           stand = c .stand;
-          is = λ f. ap (graft x g) (old-step f) ∙ graft-hang x g t k (down (enter limit) f ks w (length vs)) (a .found) ∙ c .is f;
+          is = λ f. ap (graft x g) (old-step f) ∙ graft-hang x g t k (alongPath (tableOrNew limit) f ks w (length vs)) (a .found) ∙ c .is f;
           news = c .news;
           longer = c .longer;
           kept = λ q l. c .kept q (omega arith);
           calm = λ n h. c .calm n (shift-calm n h);
           closed = c .closed;
         }
-    old-comes (stuckS n) c = (c .0, λ f. old-step f ∙ ap (growMap (hang t k)) (c .1 f))
+    old-comes (stuckS n) c = (c .0, λ f. old-step f ∙ ap (growMap (withTable t k)) (c .1 f))
 
   -- it is made
-  module _ (e : (m : ℕ) → enter limit (lookup t k) m ≡ make limit empty m) where
+  module _ (e : (m : ℕ) → tableOrNew limit (lookup t k) m ≡ make limit empty m) where
     slot : Slot
     slot = keyedSlot 5 p s
 
@@ -122,12 +122,12 @@ module _ (limit : ℕ) (bytes : List ℕ) (vs : List Slot) (x : Value) (g : List
     tree : Value
     tree = setAt x (name k ∷ g) (table empty)
 
-    full-stuck : leb limit (length vs) ≡ true → (f : Table → Grow Table) → down (enter limit) f (k ∷ ks) t (length vs) ≡ stuck (numbered 16)
+    full-stuck : leb limit (length vs) ≡ true → (f : Table → Grow Table) → alongPath (tableOrNew limit) f (k ∷ ks) t (length vs) ≡ stuck (numbered 16)
     unfolding make
     full-stuck l f = rw (e (length vs), l)
 
     new-step : leb limit (length vs) ≡ false → (f : Table → Grow Table)
-        → down (enter limit) f (k ∷ ks) t (length vs) ≡ growMap (hang t k) (down (enter limit) f ks empty (length vs + 1))
+        → alongPath (tableOrNew limit) f (k ∷ ks) t (length vs) ≡ growMap (withTable t k) (alongPath (tableOrNew limit) f ks empty (length vs + 1))
     unfolding make
     new-step l f = rw (e (length vs), l)
 
@@ -159,9 +159,9 @@ module _ (limit : ℕ) (bytes : List ℕ) (vs : List Slot) (x : Value) (g : List
           tree = c .tree;
           tab = c .tab;
           stand = c .stand;
-          is = λ f. ap (graft x g) (new-step l f) ∙ graft-hang x g t k (down (enter limit) f ks empty (length vs + 1)) (a .found)
-              ∙ ap (λ (m : ℕ). graft x (name k ∷ g) (down (enter limit) f ks empty m)) n
-              ∙ sym (graft-again x g (name k) (table empty) (down (enter limit) f ks empty (length made)) takes) ∙ c .is f;
+          is = λ f. ap (graft x g) (new-step l f) ∙ graft-hang x g t k (alongPath (tableOrNew limit) f ks empty (length vs + 1)) (a .found)
+              ∙ ap (λ (m : ℕ). graft x (name k ∷ g) (alongPath (tableOrNew limit) f ks empty m)) n
+              ∙ sym (graft-again x g (name k) (table empty) (alongPath (tableOrNew limit) f ks empty (length made)) takes) ∙ c .is f;
           news = slot ∷ c .news;
           longer = c .longer ∙ append-assoc vs (slot ∷ []) (c .news);
           kept = λ q h. c .kept q (omega arith)
@@ -172,7 +172,7 @@ module _ (limit : ℕ) (bytes : List ℕ) (vs : List Slot) (x : Value) (g : List
         }
     new-comes l (stuckS n) c =
         let i : length vs + 1 ≡ length made = sym (length-more vs slot) in
-        (c .0, λ f. new-step l f ∙ ap (λ (m : ℕ). growMap (hang t k) (down (enter limit) f ks empty m)) i ∙ ap (growMap (hang t k)) (c .1 f))
+        (c .0, λ f. new-step l f ∙ ap (λ (m : ℕ). growMap (withTable t k) (alongPath (tableOrNew limit) f ks empty m)) i ∙ ap (growMap (withTable t k)) (c .1 f))
 
     -- within the limit or not
     make-comes : (next : List Slot → ℕ → GrownS) → (Stand bytes made tree (name k ∷ g) empty (length vs + 2) → Comes limit bytes made tree (name k ∷ g) empty ks (next made (length vs + 2)))
@@ -200,8 +200,8 @@ kind-other bytes w (boolean b) h d = refl
 kind-other bytes w (array is) h d = refl
 kind-other bytes w (table u) h d = absurd (d h)
 
-enter-none : (limit : ℕ) (o : Option Value) → seen asTable o ≡ none → (m : ℕ) → enter limit o m ≡ make limit empty m
-unfolding enter
+enter-none : (limit : ℕ) (o : Option Value) → readAs asTable o ≡ none → (m : ℕ) → tableOrNew limit o m ≡ make limit empty m
+unfolding tableOrNew
 enter-none limit o e m = rw e
 
 -- a search that found n
@@ -223,7 +223,7 @@ key-missing bytes vs q (some v) h e = absurd (omega (arith, h .0))
 pub key-meets : (bytes : List ℕ) (vs : List Slot) (x : Value) (g : List Key) (t : Table) (p : ℕ) → Stand bytes vs x g t p → (k : List ℕ)
     → Meets bytes (logOf vs) (to bytes vs (name k ∷ g)) (lookup t k)
 key-meets bytes vs x g t p a k =
-    subst (λ (o : Option Value). Meets bytes (logOf vs) (to bytes vs (name k ∷ g)) o) (ap (seen (λ v. get v (name k))) (a .found)) (a .agree .shown (name k ∷ g))
+    subst (λ (o : Option Value). Meets bytes (logOf vs) (to bytes vs (name k ∷ g)) o) (ap (readAs (λ v. get v (name k))) (a .found)) (a .agree .shown (name k ∷ g))
 
 pub search-is : (bytes : List ℕ) (vs : List Slot) (x : Value) (g : List Key) (t : Table) (p : ℕ) → Stand bytes vs x g t p → (key k : List ℕ) → key ≡ k
     → placeOf (lookS bytes 0 vs p key Nothing) ≡ to bytes vs (name k ∷ g)
@@ -234,7 +234,7 @@ search-is bytes vs x g t p a key k e =
 module _ (limit : ℕ) (bytes : List ℕ) (vs : List Slot) (x : Value) (g : List Key) (t : Table) (p : ℕ) (a : Stand bytes vs x g t p) (s : Seg) (k : List ℕ)
     (spelt : part (s .at) (s .at + s .len) bytes ≡ k) (lies : s .at + s .len ≤ length bytes) (ks : List (List ℕ))
     (next : List Slot → ℕ → GrownS) (go : (ws : List Slot) (y : Value) (h : List Key) (u : Table) (q : ℕ) → Stand bytes ws y h u q → Comes limit bytes ws y h u ks (next ws q)) where
-  step-new : seen asTable (lookup t k) ≡ none → Comes limit bytes vs x g t (k ∷ ks) (onward (makeS limit vs (keyedSlot 5 p s)) next)
+  step-new : readAs asTable (lookup t k) ≡ none → Comes limit bytes vs x g t (k ∷ ks) (onward (makeS limit vs (keyedSlot 5 p s)) next)
   step-new e =
       make-comes limit bytes vs x g t p a s k spelt lies ks (enter-none limit (lookup t k) e) next
       (λ h. go _ _ (name k ∷ g) empty (length vs + 2) h)
@@ -242,7 +242,7 @@ module _ (limit : ℕ) (bytes : List ℕ) (vs : List Slot) (x : Value) (g : List
   step-old : (n : ℕ) → n + 2 ≡ to bytes vs (name k ∷ g) → (w : Table) → lookup t k ≡ some (table w) → Comes limit bytes vs x g t (k ∷ ks) (next vs (n + 2))
   step-old n e w d =
       old-comes limit bytes vs x g t p a s k spelt lies ks w d (next vs (n + 2))
-      (go vs x (name k ∷ g) w (n + 2) (record { agree = a .agree; found = ap (seen (λ v. get v (name k))) (a .found) ∙ d; leads = sym e }))
+      (go vs x (name k ∷ g) w (n + 2) (record { agree = a .agree; found = ap (readAs (λ v. get v (name k))) (a .found) ∙ d; leads = sym e }))
 
   step-comes : (r : Found) → placeOf r ≡ to bytes vs (name k ∷ g) → Comes limit bytes vs x g t (k ∷ ks) (onward (enterBy limit vs p s r) next)
   step-comes (At n) e =
@@ -250,9 +250,9 @@ module _ (limit : ℕ) (bytes : List ℕ) (vs : List Slot) (x : Value) (g : List
       on (eqb (getD vs n void .kind) 5)
       (λ c. let u = kind-table bytes (getD vs n void) (f .it) (f .shows) (eqb-true (getD vs n void .kind) 5 c) in
       rw c (step-old n e (u .0) (f .is ∙ ap some (u .1))))
-      (λ c. rw c (step-new (ap (seen asTable) (f .is) ∙ kind-other bytes (getD vs n void) (f .it) (f .shows) (eqb-false (getD vs n void .kind) 5 c))))
+      (λ c. rw c (step-new (ap (readAs asTable) (f .is) ∙ kind-other bytes (getD vs n void) (f .it) (f .shows) (eqb-false (getD vs n void .kind) 5 c))))
   step-comes Nothing e =
-      step-new (ap (seen asTable) (key-missing bytes vs (to bytes vs (name k ∷ g)) (lookup t k) (key-meets bytes vs x g t p a k) e))
+      step-new (ap (readAs asTable) (key-missing bytes vs (to bytes vs (name k ∷ g)) (lookup t k) (key-meets bytes vs x g t p a k) e))
 
 -- the theorem of walks: along every path both come to the same table, or are refused by 16
 pub down-comes : (limit : ℕ) (bytes : List ℕ) (ss : List Seg) (ks : List (List ℕ)) → Spelling bytes ss ks

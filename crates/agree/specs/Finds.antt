@@ -7,7 +7,7 @@ use mathlib.Core.Path.{_≡_, refl, sym, ap, _∙_}
 use mathlib.Core.Logic.{_⊎_, inl, inr, ⊎-elim}
 use native.Mathlib.Omega.{arith}
 use Rattle.meaning.specs.Base.{same}
-use Rattle.meaning.specs.Tree.{Value, Items, Table, str, int, boolean, array, table, none′, item, empty, entry, lookup, insert, snoc, count, seen}
+use Rattle.meaning.specs.Tree.{Value, Items, Table, str, int, boolean, array, table, none′, item, empty, entry, lookup, insert, snoc, count, readAs}
 use Rattle.laws.specs.Cases.{on, never}
 use Rattle.laws.specs.Never.{same-refl, lookup-insert}
 use Rattle.laws.specs.Order.{lookup-other}
@@ -32,7 +32,7 @@ get (table t) (index i) = none
 -- what stands at a path, innermost key first
 abbrev pub find : Option Value → List Key → Option Value
 find o [] = o
-find o (k ∷ q) = seen (λ v. get v k) (find o q)
+find o (k ∷ q) = readAs (λ v. get v k) (find o q)
 
 abbrev pub setItem : Items → ℕ → Value → Items
 setItem none′ i u = item u none′
@@ -219,12 +219,12 @@ pub record From (o : Option Value) (k : Key) (u : Value) : Type 0 where
   pub is : o ≡ some it
   pub has : get it k ≡ some u
 
-pub from : (o : Option Value) (k : Key) (u : Value) → seen (λ v. get v k) o ≡ some u → From o k u
+pub from : (o : Option Value) (k : Key) (u : Value) → readAs (λ v. get v k) o ≡ some u → From o k u
 from none k u e = no-value u e
 from (some v) k u e = record { it = v; is = refl; has = e }
 
 -- what has something under it takes its key
-above : (o : Option Value) (i k : Key) → Takes (seen (λ v. get v i) o) k → Takes o i
+above : (o : Option Value) (i k : Key) → Takes (readAs (λ v. get v i) o) k → Takes o i
 above none i k h = h
 above (some v) i k h = go (get v i) refl h
   where
@@ -241,7 +241,7 @@ module _ (k : Key) (u : Value) where
   got-put none h = absurd h
   got-put (some v) h = get-put v k u h
 
-  got-other : (o : Option Value) (m : Key) → Takes o k → (k ≡ m → ⊥) → get (put o k u) m ≡ seen (λ v. get v m) o
+  got-other : (o : Option Value) (m : Key) → Takes o k → (k ≡ m → ⊥) → get (put o k u) m ≡ readAs (λ v. get v m) o
   got-other none m h d = absurd h
   got-other (some v) m h d = get-other v k m u h d
 
@@ -259,7 +259,7 @@ at (i ∷ p) x u w = rw (at p x (put (find (some x) p) i u) (up x p i w)) (got-p
 
 pub find-split : (o : Option Value) (r h : List Key) → find o (r ++ h) ≡ find (find o h) r
 find-split o [] h = refl
-find-split o (j ∷ r) h = ap (seen (λ v. get v j)) (find-split o r h)
+find-split o (j ∷ r) h = ap (readAs (λ v. get v j)) (find-split o r h)
 
 -- under p is p itself, or a child of p and what is under that
 split : (p q : List Key) → below p q ≡ true → (q ≡ p) ⊎ ((m : Key) × (below (m ∷ p) q ≡ true))
@@ -293,7 +293,7 @@ elsewhere (i ∷ p) x u w q b =
         let z : Beyond (m ∷ p) q = beyond (m ∷ p) q c in
         let y : Value = put (find (some x) p) i u in
         let e : find (some (setAt x p y)) (m ∷ p) ≡ find (some x) (m ∷ p) =
-        ap (seen (λ v. get v m)) (at p x y (up x p i w)) ∙ got-other i u (find (some x) p) m w d in
+        ap (readAs (λ v. get v m)) (at p x y (up x p i w)) ∙ got-other i u (find (some x) p) m w d in
         ap (find (some (setAt x p y))) (z .is) ∙ find-split (some (setAt x p y)) (z .rest) (m ∷ p) ∙ ap (λ (o : Option Value). find o (z .rest)) e
         ∙ sym (find-split (some x) (z .rest) (m ∷ p)) ∙ ap (find (some x)) (sym (z .is))
 

@@ -10,9 +10,9 @@ use Rattle.meaning.specs.declared.Limits.{Limits}
 use Rattle.meaning.specs.Base.{part, concat}
 use Rattle.meaning.specs.Refusal.{Fault, numbered, unmet, R, ok, bad}
 use Rattle.meaning.specs.Reading.{Grown, grown, stuck, Got, got, failed, growMap, storing}
-use Rattle.meaning.specs.Tree.{Value, Items, Table, array, table, empty, seen, count as many, down, enter, pushOne, ensure, push}
+use Rattle.meaning.specs.Tree.{Value, Items, Table, array, table, empty, readAs, count as many, alongPath, tableOrNew, pushOne, openTables, push}
 use Rattle.meaning.specs.Values.{value}
-use Rattle.meaning.specs.Document.{Doc, tables, arrays, here}
+use Rattle.meaning.specs.Document.{Doc, tables, arrays, underHeader}
 use Rattle.scalar.specs.Splits.{flat, endsOf}
 use Rattle.tree.specs.declared.Slot.{Slot}
 use Rattle.values.specs.Out.{Out}
@@ -145,12 +145,12 @@ module _ (lim : Limits) (d : Doc) (r : DocS) (s : Same d r) where
     spells = spelling-of ks (r .bytes)
 
     head-by : (g : GrownS) → Comes (lim .values) store (r .slots) x [] (d .root) ks g
-        → Line-agrees (r .bytes) (storing (concat ks) (growMap (λ t. record { root = t; under = tables ks }) (ensure (lim .values) ks (d .root) m))) (settleS store g (λ p. p))
+        → Line-agrees (r .bytes) (storing (concat ks) (growMap (λ t. record { root = t; under = tables ks }) (openTables (lim .values) ks (d .root) m))) (settleS store g (λ p. p))
     unfolding store
     head-by (grownS vs p) c =
-        let e : graft x [] (ensure (lim .values) ks (d .root) m) ≡ grown (c .tree) (length vs) =
+        let e : graft x [] (openTables (lim .values) ks (d .root) m) ≡ grown (c .tree) (length vs) =
         c .is grown ∙ ap (λ (y : Value). grown y (length vs)) (set-same (onto [] ks) (c .tree) (table (c .tab)) (c .stand .found)) in
-        let u : Ungrafted x [] (ensure (lim .values) ks (d .root) m) (c .tree) (length vs) = ungraft x [] (ensure (lim .values) ks (d .root) m) (c .tree) (length vs) e in
+        let u : Ungrafted x [] (openTables (lim .values) ks (d .root) m) (c .tree) (length vs) = ungraft x [] (openTables (lim .values) ks (d .root) m) (c .tree) (length vs) e in
         rw (u .is) (
           ap (λ (b : List ℕ). r .bytes ++ b) (flat-is ks),
           refl,
@@ -165,7 +165,7 @@ module _ (lim : Limits) (d : Doc) (r : DocS) (s : Same d r) where
         )
     head-by (stuckS n) c = rw (c .1 grown) (ap numbered (sym (c .0)))
 
-    pub head-agrees : Line-agrees (r .bytes) (storing (concat ks) (growMap (λ t. record { root = t; under = tables ks }) (ensure (lim .values) ks (d .root) m)))
+    pub head-agrees : Line-agrees (r .bytes) (storing (concat ks) (growMap (λ t. record { root = t; under = tables ks }) (openTables (lim .values) ks (d .root) m)))
         (settleS (r .bytes ++ flat ks) (downS (lim .values) (r .bytes ++ flat ks) (segsOf (length (r .bytes)) (endsOf (length (r .bytes)) ks)) (r .slots) 1) (λ p. p))
     unfolding store segs
     head-agrees =
@@ -185,19 +185,19 @@ module _ (lim : Limits) (d : Doc) (r : DocS) (s : Same d r) where
     abbrev pushed-line : Got Doc
     pushed-line = storing (concat (k ∷ ks)) (growMap (λ t. record { root = t; under = arrays (k ∷ ks) }) (push (lim .values) (k ∷ ks) (d .root) m))
 
-    push-stuck : (n : ℕ) → down (enter (lim .values)) (pushOne (lim .values) key) front (d .root) m ≡ stuck (numbered n) → Line-agrees (r .bytes) pushed-line (bad n)
+    push-stuck : (n : ℕ) → alongPath (tableOrNew (lim .values)) (pushOne (lim .values) key) front (d .root) m ≡ stuck (numbered n) → Line-agrees (r .bytes) pushed-line (bad n)
     unfolding key front
-    push-stuck n e = rw (toLast-is (enter (lim .values)) (pushOne (lim .values)) k ks (d .root) m, e) refl
+    push-stuck n e = rw (toLast-is (tableOrNew (lim .values)) (pushOne (lim .values)) k ks (d .root) m, e) refl
 
     module _ (vs : List Slot) (p : ℕ) (c : Came (lim .values) b (r .slots) x [] (d .root) front vs p) where
       push-by : (w : GrownS) → Pushes (lim .values) b vs (c .tree) (onto [] front) (c .tab) key w → Line-agrees (r .bytes) pushed-line (settleS b w (λ p. p))
       unfolding key front
       push-by (stuckS n) q =
-          push-stuck n (unstuck x [] (down (enter (lim .values)) (pushOne (lim .values) key) front (d .root) m) (numbered n)
+          push-stuck n (unstuck x [] (alongPath (tableOrNew (lim .values)) (pushOne (lim .values) key) front (d .root) m) (numbered n)
           (c .is (pushOne (lim .values) key) ∙ ap (graft (c .tree) (onto [] front)) q))
       push-by (grownS ws q) h =
           let e : graft x [] (push (lim .values) (k ∷ ks) (d .root) m) ≡ grown (h .tree) (length ws) =
-          ap (graft x []) (toLast-is (enter (lim .values)) (pushOne (lim .values)) k ks (d .root) m) ∙ c .is (pushOne (lim .values) key) ∙ h .is in
+          ap (graft x []) (toLast-is (tableOrNew (lim .values)) (pushOne (lim .values)) k ks (d .root) m) ∙ c .is (pushOne (lim .values) key) ∙ h .is in
           let u : Ungrafted x [] (push (lim .values) (k ∷ ks) (d .root) m) (h .tree) (length ws) = ungraft x [] (push (lim .values) (k ∷ ks) (d .root) m) (h .tree) (length ws) e in
           let l : onto [] (k ∷ ks) ≡ name key ∷ onto [] front = onto-last [] k ks in
           let f : find (some (table (u .it))) (name key ∷ onto [] front) ≡ some (array (longer (h .items))) =
@@ -218,7 +218,7 @@ module _ (lim : Limits) (d : Doc) (r : DocS) (s : Same d r) where
                 last-one = sym (count-snoc (h .items) (table empty));
               };
               tab = empty;
-              found = ap (seen (λ v. get v (index (many (h .items))))) f ∙ i;
+              found = ap (readAs (λ v. get v (index (many (h .items))))) f ∙ i;
               leads = h .leads;
             },
           )

@@ -10,7 +10,7 @@ use borrow.Author.Tests.{eqb-true, eq-eqb, le-leb, lt-ltb}
 use Rattle.meaning.specs.Base.{pick, same, less}
 use Rattle.meaning.specs.declared.Limits.{Limits}
 use Rattle.meaning.specs.Refusal.{accepted}
-use Rattle.meaning.specs.Tree.{Value, Items, Table, str, int, boolean, array, table, none′, item, empty, entry, lookup, seen}
+use Rattle.meaning.specs.Tree.{Value, Items, Table, str, int, boolean, array, table, none′, item, empty, entry, lookup, readAs}
 use Rattle.meaning.specs.Document.{Parsed, document}
 use Rattle.meaning.specs.Order.{sorted, past, entries}
 use Rattle.laws.specs.Cases.{on}
@@ -112,7 +112,7 @@ module _ (bytes : List ℕ) (vs : List Slot) (x : Value) (a : Agree bytes vs x) 
     table-there = table-at bytes vs x a (h .path) t (h .found)
 
     found-key : (k : List ℕ) → find (some x) (name k ∷ h .path) ≡ lookup t k
-    found-key k = ap (seen (λ v. get v (name k))) (h .found)
+    found-key k = ap (readAs (λ v. get v (name k))) (h .found)
 
     -- a value with the key hangs under the table
     test-is : (k : List ℕ) (n : ℕ) → test bytes (logOf vs) (to bytes vs (h .path)) (name k) n ≡ mineS bytes (getD vs n void) p k
@@ -307,7 +307,7 @@ find-once : (x : Value) → Once x → (g : List Key) → Maybe Once (find (some
 find-once x h [] = h
 find-once x h (k ∷ g) = go (find (some x) g) (find-once x h g)
   where
-    go : (o : Option Value) → Maybe Once o → Maybe Once (seen (λ v. get v k) o)
+    go : (o : Option Value) → Maybe Once o → Maybe Once (readAs (λ v. get v k) o)
     go none e = tt
     go (some v) e = get-once v k e
 

@@ -11,7 +11,7 @@ use borrow.Author.Tests.{eqb-true, eqb-false}
 use Rattle.meaning.specs.Base.{part}
 use Rattle.meaning.specs.Refusal.{numbered}
 use Rattle.meaning.specs.Reading.{grown, stuck, growMap, make}
-use Rattle.meaning.specs.Tree.{Value, Items, Table, str, int, boolean, array, table, none′, empty, seen, asArray, lookup, insert, snoc, count as many, pushOne, pushTo}
+use Rattle.meaning.specs.Tree.{Value, Items, Table, str, int, boolean, array, table, none′, empty, readAs, asArray, lookup, insert, snoc, count as many, pushOne, pushTo}
 use Rattle.laws.specs.Cases.{on}
 use Rattle.tree.specs.declared.Slot.{Slot}
 use Rattle.tree.specs.declared.Found.{Found}
@@ -198,7 +198,7 @@ module _ (limit : ℕ) (bytes : List ℕ) (vs : List Slot) (x : Value) (g : List
       (λ c. let u = kind-array bytes (getD vs n void) (f .it) (f .shows) (eqb-true (getD vs n void .kind) 4 c) in
       let d : lookup t k ≡ some (array (u .0)) = f .is ∙ ap some (u .1) in
       rw c (there-pushes (u .0) d (itemS limit vs (n + 2))
-      (items-come limit bytes vs x (name k ∷ g) (u .0) (a .agree) (ap (seen (λ v. get v (name k))) (a .found) ∙ d) (n + 2) (sym e))))
+      (items-come limit bytes vs x (name k ∷ g) (u .0) (a .agree) (ap (readAs (λ v. get v (name k))) (a .found) ∙ d) (n + 2) (sym e))))
       (λ c. rw c (no-array (f .it) (f .is) (kind-no-array bytes (getD vs n void) (f .it) (f .shows) (eqb-false (getD vs n void .kind) 4 c))))
   by-search Nothing e = none-pushes (key-missing bytes vs (to bytes vs (name k ∷ g)) (lookup t k) (key-meets bytes vs x g t p a k) e)
 

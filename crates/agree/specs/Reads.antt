@@ -9,7 +9,7 @@ use lib.Dec.{eqb, ltb}
 use lib.ListN.{length, getD}
 use borrow.Author.Tests.{eqb-true, eqb-false, eq-eqb, ltb-true, ltb-false}
 use Rattle.meaning.specs.Base.{pick}
-use Rattle.meaning.specs.Tree.{Value, Items, Table, array, table, lookup, seen, count as many}
+use Rattle.meaning.specs.Tree.{Value, Items, Table, array, table, lookup, readAs, count as many}
 use Rattle.laws.specs.Cases.{on}
 use Rattle.tree.specs.declared.Slot.{Slot}
 use Rattle.tree.specs.declared.Found.{Found}
@@ -76,7 +76,7 @@ module _ (bytes : List ℕ) (vs : List Slot) (x : Value) (a : Agree bytes vs x) 
     stand = record { agree = a; found = h .found; leads = h .leads }
 
     key-found-is : find (some x) (name k ∷ h .path) ≡ lookup t k
-    key-found-is = ap (seen (λ v. get v (name k))) (h .found)
+    key-found-is = ap (readAs (λ v. get v (name k))) (h .found)
 
     search : placeOf (lookS bytes 0 vs p k Nothing) ≡ to bytes vs (name k ∷ h .path)
     search = search-is bytes vs x (h .path) t p stand k k refl
@@ -112,7 +112,7 @@ module _ (bytes : List ℕ) (vs : List Slot) (x : Value) (a : Agree bytes vs x) 
     place-count = ap (count (logOf vs) (length vs)) (sym (h .leads)) ∙ sym (items-count bytes vs x a (h .path) is (h .found))
 
     item-found-is : (i : ℕ) → find (some x) (index i ∷ h .path) ≡ nth is i
-    item-found-is i = ap (seen (λ v. get v (index i))) (h .found)
+    item-found-is i = ap (readAs (λ v. get v (index i))) (h .found)
 
     module _ (from i : ℕ) (c : count (logOf vs) from p ≡ i) (low : from ≤ length vs) where
       length-is : from + (length vs - from) ≡ length vs

@@ -9,8 +9,8 @@ use Rattle.meaning.specs.declared.Limits.{Limits}
 use Rattle.meaning.specs.Base.{part, concat}
 use Rattle.meaning.specs.Refusal.{numbered, bad}
 use Rattle.meaning.specs.Reading.{Grown, grown, stuck, Got, growMap, storing, adding}
-use Rattle.meaning.specs.Tree.{Value, Table, table, down, enter, put as putIn, assign}
-use Rattle.meaning.specs.Document.{Doc, here}
+use Rattle.meaning.specs.Tree.{Value, Table, table, alongPath, tableOrNew, putValue, assign}
+use Rattle.meaning.specs.Document.{Doc, underHeader}
 use Rattle.tree.specs.declared.Slot.{Slot}
 use Rattle.tree.specs.Room.{hung}
 use Rattle.values.specs.Grow.{Seg, void, downS, toLastS, hangS, Grown as GrownS, grown as grownS, stuck as stuckS, onward as onwardS}
@@ -72,20 +72,20 @@ module _ (lim : Limits) (d : Doc) (r : DocS) (s : Same d r) (v : Value) (ws : Li
 
   abbrev line : Got Doc
   line =
-      adding bs (storing (concat (k ∷ ks)) (growMap (λ t. record { root = t; under = d .under }) (here (d .under) (assign (lim .values) (k ∷ ks) v) (d .root) (length all))))
+      adding bs (storing (concat (k ∷ ks)) (growMap (λ t. record { root = t; under = d .under }) (underHeader (d .under) (assign (lim .values) (k ∷ ks) v) (d .root) (length all))))
 
   -- where 01 goes
-  here-goes : graft x [] (here (d .under) (assign (lim .values) (k ∷ ks) v) (d .root) (length all))
-      ≡ graft x home (down (enter (lim .values)) (putIn v key) front (s .tab) (length all))
+  here-goes : graft x [] (underHeader (d .under) (assign (lim .values) (k ∷ ks) v) (d .root) (length all))
+      ≡ graft x home (alongPath (tableOrNew (lim .values)) (putValue v key) front (s .tab) (length all))
   unfolding key front
   here-goes =
       here-is (d .root) (d .under) home (s .tab) (s .held) (s .found) (assign (lim .values) (k ∷ ks) v) (length all)
-      ∙ ap (graft x home) (toLast-is (enter (lim .values)) (putIn v) k ks (s .tab) (length all))
+      ∙ ap (graft x home) (toLast-is (tableOrNew (lim .values)) (putValue v) k ks (s .tab) (length all))
 
-  set-stuck : (i : ℕ) → down (enter (lim .values)) (putIn v key) front (s .tab) (length all) ≡ stuck (numbered i) → Line-agrees (r .bytes) line (bad i)
+  set-stuck : (i : ℕ) → alongPath (tableOrNew (lim .values)) (putValue v key) front (s .tab) (length all) ≡ stuck (numbered i) → Line-agrees (r .bytes) line (bad i)
   set-stuck i e =
-      let z : here (d .under) (assign (lim .values) (k ∷ ks) v) (d .root) (length all) ≡ stuck (numbered i) =
-      unstuck x [] (here (d .under) (assign (lim .values) (k ∷ ks) v) (d .root) (length all)) (numbered i) (here-goes ∙ ap (graft x home) e) in
+      let z : underHeader (d .under) (assign (lim .values) (k ∷ ks) v) (d .root) (length all) ≡ stuck (numbered i) =
+      unstuck x [] (underHeader (d .under) (assign (lim .values) (k ∷ ks) v) (d .root) (length all)) (numbered i) (here-goes ∙ ap (graft x home) e) in
       rw z refl
 
   module _ (vs : List Slot) (p : ℕ) (c : Came (lim .values) b all x home (s .tab) front vs p) where
@@ -139,10 +139,10 @@ module _ (lim : Limits) (d : Doc) (r : DocS) (s : Same d r) (v : Value) (ws : Li
     final-agree =
         agree-hung b vs (c .tree) (onto home front) (c .tab) p (c .stand) (last g gs) key (spelt .0) (spelt .1) n e v laid long-all free calm shut
 
-    final-goes : graft x home (down (enter (lim .values)) (putIn v key) front (s .tab) (length all)) ≡ grown tree (length vs)
+    final-goes : graft x home (alongPath (tableOrNew (lim .values)) (putValue v key) front (s .tab) (length all)) ≡ grown tree (length vs)
     unfolding tree
     final-goes =
-        c .is (putIn v key) ∙ ap (λ (o : Option Value). grown (setAt (c .tree) (onto home front) (put o (name key) v)) (length vs)) (sym (c .stand .found))
+        c .is (putValue v key) ∙ ap (λ (o : Option Value). grown (setAt (c .tree) (onto home front) (put o (name key) v)) (length vs)) (sym (c .stand .found))
 
     final-leads : to b final home ≡ r .here
     unfolding tail-path
@@ -153,8 +153,8 @@ module _ (lim : Limits) (d : Doc) (r : DocS) (s : Same d r) (v : Value) (ws : Li
     set-hung : Line-agrees (r .bytes) line (settleS b (hangS n vs p (last g gs)) (λ _. r .here))
     unfolding key tail-path
     set-hung =
-        let step : Grown Table = down (enter (lim .values)) (putIn v key) front (s .tab) (length all) in
-        let whole : Grown Table = here (d .under) (assign (lim .values) (k ∷ ks) v) (d .root) (length all) in
+        let step : Grown Table = alongPath (tableOrNew (lim .values)) (putValue v key) front (s .tab) (length all) in
+        let whole : Grown Table = underHeader (d .under) (assign (lim .values) (k ∷ ks) v) (d .root) (length all) in
         let u : Ungrafted x home step tree (length vs) = ungraft x home step tree (length vs) final-goes in
         let w : Ungrafted x [] whole tree (length vs) = ungraft x [] whole tree (length vs) (here-goes ∙ final-goes) in
         let z : setAt x home (table (u .it)) ≡ table (w .it) = sym (u .tree) ∙ w .tree in
@@ -174,10 +174,10 @@ module _ (lim : Limits) (d : Doc) (r : DocS) (s : Same d r) (v : Value) (ws : Li
   set-from : (w : GrownS) → Comes (lim .values) b all x home (s .tab) front w
       → Line-agrees (r .bytes) line (settleS b (onwardS w (λ vs q. hangS n vs q (last g gs))) (λ _. r .here))
   set-from (grownS vs p) c = set-hung vs p c
-  set-from (stuckS i) c = set-stuck i (c .1 (putIn v key) ∙ ap (λ (j : ℕ). stuck (numbered j)) (sym (c .0)))
+  set-from (stuckS i) c = set-stuck i (c .1 (putValue v key) ∙ ap (λ (j : ℕ). stuck (numbered j)) (sym (c .0)))
 
   pub set-agrees : Line-agrees (r .bytes)
-      (adding bs (storing (concat (k ∷ ks)) (growMap (λ t. record { root = t; under = d .under }) (here (d .under) (assign (lim .values) (k ∷ ks) v) (d .root) (length (r .slots ++ ws))))))
+      (adding bs (storing (concat (k ∷ ks)) (growMap (λ t. record { root = t; under = d .under }) (underHeader (d .under) (assign (lim .values) (k ∷ ks) v) (d .root) (length (r .slots ++ ws))))))
       (settleS b (toLastS (lim .values) b (hangS (length (r .slots))) (g ∷ gs) (r .slots ++ ws) (r .here)) (λ _. r .here))
   unfolding front
   set-agrees =

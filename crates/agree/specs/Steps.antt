@@ -8,7 +8,7 @@ use native.Mathlib.Omega.{arith}
 use lib.Dec.{eqb, ltb}
 use lib.ListN.{length, getD}
 use borrow.Author.Tests.{eqb-true, eqb-false, eq-eqb, ltb-true, ltb-false}
-use Rattle.meaning.specs.Tree.{Value, Items, Table, array, table, none′, item, seen, count as many}
+use Rattle.meaning.specs.Tree.{Value, Items, Table, array, table, none′, item, readAs, count as many}
 use Rattle.laws.specs.Cases.{on}
 use Rattle.tree.specs.declared.Slot.{Slot}
 use Rattle.values.specs.Grow.{void}
@@ -159,7 +159,7 @@ module _ (bytes : List ℕ) (vs : List Slot) (x : Value) (a : Agree bytes vs x) 
   p = to bytes vs g
 
   found-item : (i : ℕ) → find (some x) (index i ∷ g) ≡ nth is i
-  found-item i = ap (seen (λ v. get v (index i))) e
+  found-item i = ap (readAs (λ v. get v (index i))) e
 
   not-more : many is < count (logOf vs) (length vs) p → ⊥
   unfolding p

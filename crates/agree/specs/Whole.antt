@@ -12,13 +12,13 @@ use Rattle.meaning.specs.declared.Limits.{Limits}
 use Rattle.meaning.specs.Base.{concat, nil?}
 use Rattle.meaning.specs.Refusal.{numbered, unmet, R, ok, bad, Answer, accepted, refused, acceptedThen}
 use Rattle.meaning.specs.Reading.{Got, got, failed, growMap, storing, adding, gotThen, okThenGot}
-use Rattle.meaning.specs.Tree.{Value, table, empty, assign, ensure, push}
+use Rattle.meaning.specs.Tree.{Value, table, empty, assign, openTables, push}
 use Rattle.meaning.specs.Keys.{keys}
 use Rattle.meaning.specs.Utf8.{valid}
 use Rattle.meaning.specs.Values.{value}
 use Rattle.meaning.specs.Space.{trim}
 use Rattle.meaning.specs.Lines.{Line, joined}
-use Rattle.meaning.specs.Document.{Doc, tables, arrays, here, Form, pushes, heads, sets, neither, form, act, setting, path, lines, document, Parsed, behind, reading}
+use Rattle.meaning.specs.Document.{Doc, tables, arrays, underHeader, Form, pushes, heads, sets, neither, form, readForm, assignment, path, readLines, document, Parsed, storedFirst, lineThen}
 use Rattle.laws.specs.Cases.{on}
 use Rattle.laws.specs.Never.{NonEmpty, Reads, keys-ok}
 use Rattle.scalar.specs.Splits.{flat, endsOf}
@@ -48,7 +48,7 @@ module _ (values : Values-agree) (lim : Limits) where
     m = length (r .slots)
 
     heads-by : (ks : R (List (List ℕ)))
-        → Line-agrees (r .bytes) (okThenGot ks (λ p. storing (concat p) (growMap (λ t. record { root = t; under = tables p }) (ensure (lim .values) p (d .root) m))))
+        → Line-agrees (r .bytes) (okThenGot ks (λ p. storing (concat p) (growMap (λ t. record { root = t; under = tables p }) (openTables (lim .values) p (d .root) m))))
         (pathBy (r .bytes) ks (λ bytes gs. settleS bytes (downS (lim .values) bytes gs (r .slots) 1) (λ p. p)))
     heads-by (ok ks) = head-agrees lim d r s ks
     heads-by (bad n) = refl
@@ -66,7 +66,7 @@ module _ (values : Values-agree) (lim : Limits) where
 
     -- the key behind a value that was read
     key-by : (v : Value) (bs : List ℕ) (n : ℕ) (o : Out) → Value-laid (length (r .bytes)) m v bs n o → (ks : R (List (List ℕ))) → Reads NonEmpty ks
-        → Line-agrees (r .bytes) (adding bs (okThenGot ks (λ p. storing (concat p) (growMap (λ t. record { root = t; under = d .under }) (here (d .under) (assign (lim .values) p v) (d .root) n)))))
+        → Line-agrees (r .bytes) (adding bs (okThenGot ks (λ p. storing (concat p) (growMap (λ t. record { root = t; under = d .under }) (underHeader (d .under) (assign (lim .values) p v) (d .root) n)))))
         (pathBy (r .bytes ++ o .bytes) ks (λ bytes gs. settleS bytes (toLastS (lim .values) bytes (hangS m) gs (r .slots ++ o .slots) (r .here)) (λ _. r .here)))
     key-by v bs n o a (ok []) h = absurd h
     key-by v bs n o a (ok (k ∷ ks)) h =
@@ -84,14 +84,14 @@ module _ (values : Values-agree) (lim : Limits) where
 
     value-by : (k : List ℕ) (g : Got Value) (o : Out) → Value-agrees (length (r .bytes)) m g o
         → Line-agrees (r .bytes)
-        (gotThen g (λ v n. path lim k (λ p. growMap (λ t. record { root = t; under = d .under }) (here (d .under) (assign (lim .values) p v) (d .root) n))))
+        (gotThen g (λ v n. path lim k (λ p. growMap (λ t. record { root = t; under = d .under }) (underHeader (d .under) (assign (lim .values) p v) (d .root) n))))
         (assignBy lim o k r)
     value-by k (got v bs n) o a = rw (eq-eqb (o .fault) 0 (a .fault)) (key-by v bs n o a (keys (lim .segments) k) (keys-ok (lim .segments) k))
     value-by k (failed (numbered n)) o a = rw (ne-eqb (o .fault) 0 (λ z. a .1 (sym (a .0) ∙ z))) (ap numbered (sym (a .0)))
     value-by k (failed (unmet u)) o a = absurd a
 
-    line-agrees : (f : Form) → Line-agrees (r .bytes) (act lim f d m) (lineS lim f r)
-    unfolding act lineS setting setS
+    line-agrees : (f : Form) → Line-agrees (r .bytes) (readForm lim f d m) (lineS lim f r)
+    unfolding readForm lineS assignment setS
     line-agrees (pushes k) = pushes-by (keys (lim .segments) k) (keys-ok (lim .segments) k)
     line-agrees (heads k) = heads-by (keys (lim .segments) k)
     line-agrees (sets k v) =
@@ -102,25 +102,25 @@ module _ (values : Values-agree) (lim : Limits) where
 
   -- ---- line by line
 
-  behind-agrees : (bytes bs : List ℕ) (a : Answer Parsed) (b : Answer DocS) → Doc-agrees (bytes ++ bs) a b → Doc-agrees bytes (behind bs a) b
+  behind-agrees : (bytes bs : List ℕ) (a : Answer Parsed) (b : Answer DocS) → Doc-agrees (bytes ++ bs) a b → Doc-agrees bytes (storedFirst bs a) b
   behind-agrees bytes bs (accepted p) (accepted r) h = (h .0 ∙ append-assoc bytes bs (p .bytes), h .1, h .2)
   behind-agrees bytes bs (accepted p) (refused f s q) h = h
   behind-agrees bytes bs (refused f s q) (accepted r) h = h
   behind-agrees bytes bs (refused f s q) (refused f' s' q') h = h
 
   told-agrees : (bytes : List ℕ) (at : ℕ) (g : Got Doc) (r : R DocS) (ls : List Line) → Line-agrees bytes g r
-      → ((d : Doc) (e : DocS) → Same d e → Doc-agrees (e .bytes) (lines lim d ls (length (e .slots))) (linesS lim ls e))
-      → Doc-agrees bytes (reading at g (λ e n. lines lim e ls n)) (toldAt lim at r (linesS lim ls))
+      → ((d : Doc) (e : DocS) → Same d e → Doc-agrees (e .bytes) (readLines lim d ls (length (e .slots))) (linesS lim ls e))
+      → Doc-agrees bytes (lineThen at g (λ e n. readLines lim e ls n)) (toldAt lim at r (linesS lim ls))
   told-agrees bytes at (got d bs n) (ok r) ls h k =
-      behind-agrees bytes bs (lines lim d ls n) (linesS lim ls r) (rw (h .1, ← (h .0)) (k d r (h .2)))
+      behind-agrees bytes bs (readLines lim d ls n) (linesS lim ls r) (rw (h .1, ← (h .0)) (k d r (h .2)))
   told-agrees bytes at (got d bs n) (bad i) ls h k = absurd h
   told-agrees bytes at (failed f) (ok r) ls h k = absurd h
   told-agrees bytes at (failed f) (bad i) ls h k = (h, refl, refl)
 
-  lines-agree : (ls : List Line) (d : Doc) (r : DocS) → Same d r → Doc-agrees (r .bytes) (lines lim d ls (length (r .slots))) (linesS lim ls r)
+  lines-agree : (ls : List Line) (d : Doc) (r : DocS) → Same d r → Doc-agrees (r .bytes) (readLines lim d ls (length (r .slots))) (linesS lim ls r)
   lines-agree [] d r s = (sym (append-nil (r .bytes)), refl, s .agree)
   lines-agree (l ∷ ls) d r s =
-      told-agrees (r .bytes) (l .at) (act lim (form (trim (l .text))) d (length (r .slots))) (lineS lim (form (trim (l .text))) r) ls
+      told-agrees (r .bytes) (l .at) (readForm lim (form (trim (l .text))) d (length (r .slots))) (lineS lim (form (trim (l .text))) r) ls
       (line-agrees d r s (form (trim (l .text)))) (λ e t h. lines-agree ls e t h)
 
   -- nothing yet
@@ -143,7 +143,7 @@ module _ (values : Values-agree) (lim : Limits) where
         leads = refl;
       }
 
-  whole-agrees : (a : Answer (List Line)) → Doc-agrees [] (acceptedThen a (λ ls. lines lim (record { root = empty; under = tables [] }) ls 0)) (acceptedThen a (λ ls. linesS lim ls (emptyS lim)))
+  whole-agrees : (a : Answer (List Line)) → Doc-agrees [] (acceptedThen a (λ ls. readLines lim (record { root = empty; under = tables [] }) ls 0)) (acceptedThen a (λ ls. linesS lim ls (emptyS lim)))
   whole-agrees (accepted ls) = lines-agree ls (record { root = empty; under = tables [] }) (emptyS lim) start
   whole-agrees (refused f s q) = (refl, refl, refl)
 

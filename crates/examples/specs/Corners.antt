@@ -46,12 +46,14 @@ unfolding computes
 whole-text-first = refl
 
 -- cutting a comment forgets an open string: `a = "x⏎y # z⏎"` keeps `y ` of its second line
-cut-in-string : says (ascii "a = \"x" ⏎ ascii "y # z" ⏎ ascii "\"") ≡ accepted (line 1 (ascii "a = \"x" ⏎ ascii "y " ⏎ ascii "\"") ∷ [])
+cut-in-string : says (ascii "a = \"x" ⏎ ascii "y # z" ⏎ ascii "\"")
+    ≡ accepted (line 1 (ascii "a = \"x" ⏎ ascii "y " ⏎ ascii "\"") ∷ [])
 unfolding computes
 cut-in-string = refl
 
--- seen from its own line a closing quote opens a string, so the comment behind it stays: `a = "x⏎y" # z`
-kept-behind-quote : says (ascii "a = \"x" ⏎ ascii "y\" # z") ≡ accepted (line 1 (ascii "a = \"x" ⏎ ascii "y\" # z") ∷ [])
+-- seen from its own line a closing quote opens a string, so the comment after it stays: `a = "x⏎y" # z`
+kept-behind-quote : says (ascii "a = \"x" ⏎ ascii "y\" # z")
+    ≡ accepted (line 1 (ascii "a = \"x" ⏎ ascii "y\" # z") ∷ [])
 unfolding computes
 kept-behind-quote = refl
 
@@ -71,12 +73,14 @@ unfolding computes
 hidden-lf = refl
 
 -- blank and comment lines inside an open line are joined, each adding an LF
-joined-blanks : says (ascii "a = [" ⏎ ascii " " ⏎ ascii "# c" ⏎ ascii "1]") ≡ accepted (line 1 (ascii "a = [" ⏎ ascii " " ⏎ [] ⏎ ascii "1]") ∷ [])
+joined-blanks : says (ascii "a = [" ⏎ ascii " " ⏎ ascii "# c" ⏎ ascii "1]")
+    ≡ accepted (line 1 (ascii "a = [" ⏎ ascii " " ⏎ [] ⏎ ascii "1]") ∷ [])
 unfolding computes
 joined-blanks = refl
 
 -- CRLF loses one CR of two, and only LF ends a line: VT and U+0085 do not
-one-cr : says (120 ∷ 13 ∷ 13 ∷ 10 ∷ 121 ∷ 11 ∷ 0xc2 ∷ 0x85 ∷ 122 ∷ []) ≡ accepted (line 1 (120 ∷ 13 ∷ []) ∷ line 2 (121 ∷ 11 ∷ 0xc2 ∷ 0x85 ∷ 122 ∷ []) ∷ [])
+one-cr : says (120 ∷ 13 ∷ 13 ∷ 10 ∷ 121 ∷ 11 ∷ 0xc2 ∷ 0x85 ∷ 122 ∷ [])
+    ≡ accepted (line 1 (120 ∷ 13 ∷ []) ∷ line 2 (121 ∷ 11 ∷ 0xc2 ∷ 0x85 ∷ 122 ∷ []) ∷ [])
 unfolding computes
 one-cr = refl
 
@@ -90,7 +94,8 @@ blank-wide : says (0xe3 ∷ 0x80 ∷ 0x80 ∷ 0xc2 ∷ 0xa0 ∷ []) ≡ accepted
 unfolding computes
 blank-wide = refl
 
-not-blank : says (0xef ∷ 0xbb ∷ 0xbf ∷ 10 ∷ 0xe2 ∷ 0x80 ∷ 0x8b ∷ []) ≡ accepted (line 1 (0xef ∷ 0xbb ∷ 0xbf ∷ []) ∷ line 2 (0xe2 ∷ 0x80 ∷ 0x8b ∷ []) ∷ [])
+not-blank : says (0xef ∷ 0xbb ∷ 0xbf ∷ 10 ∷ 0xe2 ∷ 0x80 ∷ 0x8b ∷ [])
+    ≡ accepted (line 1 (0xef ∷ 0xbb ∷ 0xbf ∷ []) ∷ line 2 (0xe2 ∷ 0x80 ∷ 0x8b ∷ []) ∷ [])
 unfolding computes
 not-blank = refl
 
@@ -100,7 +105,16 @@ unfolding computes
 not-utf8 = refl
 
 abbrev three-bytes : Limits
-three-bytes = record { text = 3; values = 0; arrays = 0; segments = 0; partitions = 0; components = 0; applications = 0; features = 0 }
+three-bytes = record {
+  text = 3;
+  values = 0;
+  arrays = 0;
+  segments = 0;
+  partitions = 0;
+  components = 0;
+  applications = 0;
+  features = 0;
+}
 
 too-long : lines three-bytes (93 ∷ 0xff ∷ 93 ∷ 93 ∷ []) ≡ atNoLine 1
 unfolding computes

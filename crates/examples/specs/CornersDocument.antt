@@ -1,4 +1,5 @@
--- Corners of headers, assignments, tree, store and count, by computation over whole documents. `⏎` stands for LF, `[×n` for n brackets; "corner" is the number in the list of observations.
+-- Corners of headers, assignments, tree, store and count, by computation over whole documents. `⏎` stands for LF, `[×n`
+-- for n brackets; "corner" is the number in the list of observations.
 use Prim.Native.Nat.{ℕ, zero, suc}
 use Prim.Native.String.{String}
 use mathlib.Core.Bool.{true}
@@ -8,10 +9,11 @@ use lib.ListN.{replicate}
 use Rattle.meaning.specs.Base.{ascii}
 use Rattle.meaning.specs.declared.Limits.{Limits}
 use Rattle.meaning.specs.Limits.{of01}
-use Rattle.meaning.specs.Refusal.{Answer, accepted, atLine, atNoLine, unmet, unknown, notTable, notArray, pathless, hollow, notLast}
+use Rattle.meaning.specs.Refusal.{Answer, accepted, atLine, atNoLine, unmet, unknown, notTable, notArray, pathless}
+use Rattle.meaning.specs.Refusal.{hollow, notLast}
 use Rattle.meaning.specs.Reading.{Grown, grown, stuck}
 use Rattle.meaning.specs.Tree.{Value, Table, boolean, array, table, none′, item, empty, entry}
-use Rattle.meaning.specs.Document.{Under, tables, arrays, here, Parsed, document, computes}
+use Rattle.meaning.specs.Document.{Under, tables, arrays, underHeader, Parsed, document, computes}
 use Rattle.examples.specs.Samples.{words, word, number, _≔_⨾_, _⊕_}
 
 -- a document by 01's limits
@@ -27,7 +29,16 @@ leaves t ws n = accepted (record { root = t; bytes = words ws; made = n })
 
 -- 01's limits but for the values made
 abbrev allowing : ℕ → Limits
-allowing n = record { text = 32768; values = n; arrays = 16; segments = 16; partitions = 32; components = 64; applications = 64; features = 32 }
+allowing n = record {
+  text = 32768;
+  values = n;
+  arrays = 16;
+  segments = 16;
+  partitions = 32;
+  components = 64;
+  applications = 64;
+  features = 32;
+}
 
 -- a document where n values may be made
 abbrev reads-with : ℕ → String → Answer Parsed
@@ -51,7 +62,16 @@ unfolding computes
 utf8-first = refl
 
 -- 1 before 2: the same text where two bytes are allowed
-pub length-first : document (record { text = 2; values = 9; arrays = 9; segments = 9; partitions = 9; components = 9; applications = 9; features = 9 }) (93 ∷ 10 ∷ 0xff ∷ []) ≡ atNoLine 1
+pub length-first : document (record {
+  text = 2;
+  values = 9;
+  arrays = 9;
+  segments = 9;
+  partitions = 9;
+  components = 9;
+  applications = 9;
+  features = 9;
+}) (93 ∷ 10 ∷ 0xff ∷ []) ≡ atNoLine 1
 unfolding computes
 length-first = refl
 
@@ -87,7 +107,7 @@ pub one-place : reads "\na = [1,\nx,\n2]" ≡ atLine 12 2
 unfolding computes
 one-place = refl
 
--- and the line behind it is told by its own number: `a = [1,⏎2]⏎x` is 5 at 3
+-- and the line after it is told by its own number: `a = [1,⏎2]⏎x` is 5 at 3
 pub place-behind : reads "a = [1,\n2]\nx" ≡ atLine 5 3
 unfolding computes
 place-behind = refl
@@ -112,7 +132,7 @@ pub simplest-11 : reads "a] = [1" ≡ atLine 11 1
 unfolding computes
 simplest-11 = refl
 
--- corner 5: `a = "x⏎y # z⏎"`: what is behind `#` is cut, the space before it stays
+-- corner 5: `a = "x⏎y # z⏎"`: what is after `#` is cut, the space before it stays
 pub cut-in-string : reads "a = \"x\ny # z\n\"" ≡ leaves ("a" ≔ word "x\ny \n" ⨾ empty) ("x\ny \n" ∷ "a" ∷ []) 1
 unfolding computes
 cut-in-string = refl
@@ -164,23 +184,25 @@ pub last-cr : reads "a = 1\r" ≡ leaves ("a" ≔ number 1 ⨾ empty) ("a" ∷ [
 unfolding computes
 last-cr = refl
 
--- s behind a byte order mark
+-- s after a byte order mark
 abbrev marked : List ℕ → List ℕ
 marked s = 0xef ∷ 0xbb ∷ 0xbf ∷ s
 
--- corner 9: a byte order mark is no white space: `[board]` behind one is no header
+-- corner 9: a byte order mark is no white space: `[board]` after one is no header
 pub marked-header : says (marked (ascii "[board]")) ≡ atLine 5 1
 unfolding computes
 marked-header = refl
 
--- corner 9: `a = 1` behind one has it in the key
-pub marked-key : says (marked (ascii "a = 1")) ≡ accepted (record { root = entry (marked (ascii "a")) (number 1) empty; bytes = marked (ascii "a"); made = 1 })
+-- corner 9: `a = 1` after one has it in the key
+pub marked-key : says (marked (ascii "a = 1"))
+    ≡ accepted (record { root = entry (marked (ascii "a")) (number 1) empty; bytes = marked (ascii "a"); made = 1 })
 unfolding computes
 marked-key = refl
 
 -- wide white space is trimmed around a line, its key and its value: U+3000 `a` U+00A0 `=` U+2003 `1` U+0085
 pub wide-space :
-    says ((0xe3 ∷ 0x80 ∷ 0x80 ∷ ascii "a") ++ (0xc2 ∷ 0xa0 ∷ ascii "=") ++ (0xe2 ∷ 0x80 ∷ 0x83 ∷ ascii "1") ++ (0xc2 ∷ 0x85 ∷ []))
+    says ((0xe3 ∷ 0x80 ∷ 0x80 ∷ ascii "a") ++ (0xc2 ∷ 0xa0 ∷ ascii "=") ++ (0xe2 ∷ 0x80 ∷ 0x83 ∷ ascii "1")
+    ++ (0xc2 ∷ 0x85 ∷ []))
     ≡ leaves ("a" ≔ number 1 ⨾ empty) ("a" ∷ []) 1
 unfolding computes
 wide-space = refl
@@ -330,7 +352,8 @@ unfolding computes
 quotes-in-key = refl
 
 -- corners 15 and 16 over a line: `"a" ".b" = 1` has the keys `a` and `b"`
-pub stray-quote : reads "\"a\" \".b\" = 1" ≡ leaves ("a" ≔ table ("b\"" ≔ number 1 ⨾ empty) ⨾ empty) ("a" ∷ "b\"" ∷ []) 2
+pub stray-quote : reads "\"a\" \".b\" = 1" ≡ leaves ("a" ≔ table ("b\"" ≔ number 1 ⨾ empty) ⨾ empty)
+    ("a" ∷ "b\"" ∷ []) 2
 unfolding computes
 stray-quote = refl
 
@@ -342,7 +365,8 @@ nest zero = table empty
 nest (suc n) = table ("a" ≔ nest n ⨾ empty)
 
 -- a header of 16 segments makes 16 tables
-pub segments-16 : reads "[a.a.a.a.a.a.a.a.a.a.a.a.a.a.a.a]" ≡ leaves ("a" ≔ nest 15 ⨾ empty) ("aaaaaaaaaaaaaaaa" ∷ []) 16
+pub segments-16 : reads "[a.a.a.a.a.a.a.a.a.a.a.a.a.a.a.a]"
+    ≡ leaves ("a" ≔ nest 15 ⨾ empty) ("aaaaaaaaaaaaaaaa" ∷ []) 16
 unfolding computes
 segments-16 = refl
 
@@ -366,7 +390,8 @@ within zero = array none′
 within (suc n) = array (item (within n) none′)
 
 -- corner 23: the array of `[[..]]` around it does not count: `[[a]]⏎b = [×16`
-pub arrays-16 : reads "[[a]]\nb = [[[[[[[[[[[[[[[[]]]]]]]]]]]]]]]]" ≡ leaves ("a" ≔ array (("b" ≔ within 15 ⨾ empty) ⊕ none′) ⨾ empty) ("a" ∷ "b" ∷ []) 18
+pub arrays-16 : reads "[[a]]\nb = [[[[[[[[[[[[[[[[]]]]]]]]]]]]]]]]"
+    ≡ leaves ("a" ≔ array (("b" ≔ within 15 ⨾ empty) ⊕ none′) ⨾ empty) ("a" ∷ "b" ∷ []) 18
 unfolding computes
 arrays-16 = refl
 
@@ -463,7 +488,7 @@ pub segments-17-first : reads-with 0 "[a.a.a.a.a.a.a.a.a.a.a.a.a.a.a.a.a]" ≡ a
 unfolding computes
 segments-17-first = refl
 
--- corner 17: of a key behind its value: `a.b..c = 1` where only the value fits
+-- corner 17: of a key after its value: `a.b..c = 1` where only the value fits
 pub segments-second : reads-with 1 "a.b..c = 1" ≡ atLine 7 1
 unfolding computes
 segments-second = refl
@@ -473,7 +498,8 @@ abbrev ones : ℕ → List ℕ
 ones zero = []
 ones (suc n) = 49 ∷ 44 ∷ ones n
 
--- "Values made: 2,048", and the 2,049th is 16: an array of 2,047 items is read, and the line behind it is not: `a=[1,×2047]⏎b=1`
+-- "Values made: 2,048", and the 2,049th is 16: an array of 2,047 items is read, and the line after it is not:
+-- `a=[1,×2047]⏎b=1`
 pub values-2049 : says (ascii "a=[" ++ ones 2047 ++ ascii "]\nb=1") ≡ atLine 16 2
 unfolding computes
 values-2049 = refl
@@ -483,7 +509,8 @@ values-2049 = refl
 -- under the root, under a table and under the last table of an array: `a = 1⏎[t]⏎b = 2⏎[[u]]⏎c = 3⏎[[u]]⏎d = 4`
 pub under-headers :
     reads "a = 1\n[t]\nb = 2\n[[u]]\nc = 3\n[[u]]\nd = 4"
-    ≡ leaves ("a" ≔ number 1 ⨾ "t" ≔ table ("b" ≔ number 2 ⨾ empty) ⨾ "u" ≔ array (("c" ≔ number 3 ⨾ empty) ⊕ ("d" ≔ number 4 ⨾ empty) ⊕ none′) ⨾ empty)
+    ≡ leaves ("a" ≔ number 1 ⨾ "t" ≔ table ("b" ≔ number 2 ⨾ empty) ⨾ "u" ≔ array
+    (("c" ≔ number 3 ⨾ empty) ⊕ ("d" ≔ number 4 ⨾ empty) ⊕ none′) ⨾ empty)
     ("a" ∷ "t" ∷ "b" ∷ "u" ∷ "c" ∷ "u" ∷ "d" ∷ []) 8
 unfolding computes
 under-headers = refl
@@ -491,7 +518,8 @@ under-headers = refl
 -- a dotted key makes its parents under the header: `[t]⏎a.b = 1⏎a.c = true`
 pub dotted-under :
     reads "[t]\na.b = 1\na.c = true"
-    ≡ leaves ("t" ≔ table ("a" ≔ table ("b" ≔ number 1 ⨾ "c" ≔ boolean true ⨾ empty) ⨾ empty) ⨾ empty) ("t" ∷ "a" ∷ "b" ∷ "a" ∷ "c" ∷ []) 4
+    ≡ leaves ("t" ≔ table ("a" ≔ table ("b" ≔ number 1 ⨾ "c" ≔ boolean true ⨾ empty) ⨾ empty) ⨾ empty)
+    ("t" ∷ "a" ∷ "b" ∷ "a" ∷ "c" ∷ []) 4
 unfolding computes
 dotted-under = refl
 
@@ -506,12 +534,14 @@ under-inner = refl
 -- a header again goes on with its table: `[t]⏎a = 1⏎[u]⏎[t]⏎b = 2`
 pub header-goes-on :
     reads "[t]\na = 1\n[u]\n[t]\nb = 2"
-    ≡ leaves ("t" ≔ table ("a" ≔ number 1 ⨾ "b" ≔ number 2 ⨾ empty) ⨾ "u" ≔ table empty ⨾ empty) ("t" ∷ "a" ∷ "u" ∷ "t" ∷ "b" ∷ []) 4
+    ≡ leaves ("t" ≔ table ("a" ≔ number 1 ⨾ "b" ≔ number 2 ⨾ empty) ⨾ "u" ≔ table empty ⨾ empty)
+    ("t" ∷ "a" ∷ "u" ∷ "t" ∷ "b" ∷ []) 4
 unfolding computes
 header-goes-on = refl
 
 -- corner 29: a key under a header never touches the header's path: `[a]⏎a = 1⏎b = 2`
-pub own-path : reads "[a]\na = 1\nb = 2" ≡ leaves ("a" ≔ table ("a" ≔ number 1 ⨾ "b" ≔ number 2 ⨾ empty) ⨾ empty) ("a" ∷ "a" ∷ "b" ∷ []) 3
+pub own-path : reads "[a]\na = 1\nb = 2" ≡ leaves ("a" ≔ table ("a" ≔ number 1 ⨾ "b" ≔ number 2 ⨾ empty) ⨾ empty)
+    ("a" ∷ "a" ∷ "b" ∷ []) 3
 unfolding computes
 own-path = refl
 
@@ -523,17 +553,20 @@ header-repeated = refl
 -- ---- replacing
 
 -- corner 26: the replacing table counts: `a = 1⏎a.b = 2`
-pub parent-replaces : reads "a = 1\na.b = 2" ≡ leaves ("a" ≔ table ("b" ≔ number 2 ⨾ empty) ⨾ empty) ("a" ∷ "a" ∷ "b" ∷ []) 3
+pub parent-replaces : reads "a = 1\na.b = 2" ≡ leaves ("a" ≔ table ("b" ≔ number 2 ⨾ empty) ⨾ empty)
+    ("a" ∷ "a" ∷ "b" ∷ []) 3
 unfolding computes
 parent-replaces = refl
 
 -- corners 26 and 28: `[[a]]⏎[[a.b]]` replaces the array by a table: 2, 1 and 2 values
-pub push-replaces : reads "[[a]]\n[[a.b]]" ≡ leaves ("a" ≔ table ("b" ≔ array (empty ⊕ none′) ⨾ empty) ⨾ empty) ("a" ∷ "a" ∷ "b" ∷ []) 5
+pub push-replaces : reads "[[a]]\n[[a.b]]" ≡ leaves ("a" ≔ table ("b" ≔ array (empty ⊕ none′) ⨾ empty) ⨾ empty)
+    ("a" ∷ "a" ∷ "b" ∷ []) 5
 unfolding computes
 push-replaces = refl
 
 -- corner 28: `[[a]]⏎x = 1⏎[a.b]` too, and what was in it is gone
-pub header-replaces : reads "[[a]]\nx = 1\n[a.b]" ≡ leaves ("a" ≔ table ("b" ≔ table empty ⨾ empty) ⨾ empty) ("a" ∷ "x" ∷ "a" ∷ "b" ∷ []) 5
+pub header-replaces : reads "[[a]]\nx = 1\n[a.b]"
+    ≡ leaves ("a" ≔ table ("b" ≔ table empty ⨾ empty) ⨾ empty) ("a" ∷ "x" ∷ "a" ∷ "b" ∷ []) 5
 unfolding computes
 header-replaces = refl
 
@@ -542,7 +575,8 @@ pub over-string : reads "a = \"s\"\n[a]" ≡ leaves ("a" ≔ table empty ⨾ emp
 unfolding computes
 over-string = refl
 
-pub over-integer : reads "a = 1\n[a.b]" ≡ leaves ("a" ≔ table ("b" ≔ table empty ⨾ empty) ⨾ empty) ("a" ∷ "a" ∷ "b" ∷ []) 3
+pub over-integer : reads "a = 1\n[a.b]" ≡ leaves ("a" ≔ table ("b" ≔ table empty ⨾ empty) ⨾ empty)
+    ("a" ∷ "a" ∷ "b" ∷ []) 3
 unfolding computes
 over-integer = refl
 
@@ -555,12 +589,14 @@ unfolding computes
 over-array = refl
 
 -- a replaced entry keeps its turn: `a = 1⏎b = 2⏎[a]`
-pub replaced-in-turn : reads "a = 1\nb = 2\n[a]" ≡ leaves ("a" ≔ table empty ⨾ "b" ≔ number 2 ⨾ empty) ("a" ∷ "b" ∷ "a" ∷ []) 3
+pub replaced-in-turn : reads "a = 1\nb = 2\n[a]"
+    ≡ leaves ("a" ≔ table empty ⨾ "b" ≔ number 2 ⨾ empty) ("a" ∷ "b" ∷ "a" ∷ []) 3
 unfolding computes
 replaced-in-turn = refl
 
 -- a repeated key overwrites, and the count grows: `a = 1⏎b = 2⏎a = 3`
-pub repeated-key : reads "a = 1\nb = 2\na = 3" ≡ leaves ("a" ≔ number 3 ⨾ "b" ≔ number 2 ⨾ empty) ("a" ∷ "b" ∷ "a" ∷ []) 3
+pub repeated-key : reads "a = 1\nb = 2\na = 3"
+    ≡ leaves ("a" ≔ number 3 ⨾ "b" ≔ number 2 ⨾ empty) ("a" ∷ "b" ∷ "a" ∷ []) 3
 unfolding computes
 repeated-key = refl
 
@@ -570,14 +606,16 @@ unfolding computes
 repeated-kind = refl
 
 -- also a table: `[t]⏎a.b = 1⏎a = 2`
-pub table-overwritten : reads "[t]\na.b = 1\na = 2" ≡ leaves ("t" ≔ table ("a" ≔ number 2 ⨾ empty) ⨾ empty) ("t" ∷ "a" ∷ "b" ∷ "a" ∷ []) 4
+pub table-overwritten : reads "[t]\na.b = 1\na = 2"
+    ≡ leaves ("t" ≔ table ("a" ≔ number 2 ⨾ empty) ⨾ empty) ("t" ∷ "a" ∷ "b" ∷ "a" ∷ []) 4
 unfolding computes
 table-overwritten = refl
 
 -- ---- `[[..]]`
 
 -- corner 27: onto `a = [1]` it adds a table, one value, and assignments go there: `a = [1]⏎[[a]]⏎b = 2`
-pub push-inline : reads "a = [1]\n[[a]]\nb = 2" ≡ leaves ("a" ≔ array (item (number 1) (("b" ≔ number 2 ⨾ empty) ⊕ none′)) ⨾ empty) ("a" ∷ "a" ∷ "b" ∷ []) 4
+pub push-inline : reads "a = [1]\n[[a]]\nb = 2"
+    ≡ leaves ("a" ≔ array (item (number 1) (("b" ≔ number 2 ⨾ empty) ⊕ none′)) ⨾ empty) ("a" ∷ "a" ∷ "b" ∷ []) 4
 unfolding computes
 push-inline = refl
 
@@ -603,13 +641,14 @@ pub push-over-table : reads "[a]\n[[a]]" ≡ atLine 13 2
 unfolding computes
 push-over-table = refl
 
--- behind P8's table as well: `[[a]]⏎[a]⏎[[a]]`
+-- after P8's table as well: `[[a]]⏎[a]⏎[[a]]`
 pub push-over-replaced : reads "[[a]]\n[a]\n[[a]]" ≡ atLine 13 3
 unfolding computes
 push-over-replaced = refl
 
 -- its parents replace: `a = 1⏎[[a.b]]`
-pub push-parents : reads "a = 1\n[[a.b]]" ≡ leaves ("a" ≔ table ("b" ≔ array (empty ⊕ none′) ⨾ empty) ⨾ empty) ("a" ∷ "a" ∷ "b" ∷ []) 4
+pub push-parents : reads "a = 1\n[[a.b]]" ≡ leaves ("a" ≔ table ("b" ≔ array (empty ⊕ none′) ⨾ empty) ⨾ empty)
+    ("a" ∷ "a" ∷ "b" ∷ []) 4
 unfolding computes
 push-parents = refl
 
@@ -621,24 +660,28 @@ push-segments-first = refl
 -- ---- the store
 
 -- corner 31: the value's string, then the key's segments: `"a"."b" = "x"`
-pub store-value-first : reads "\"a\".\"b\" = \"x\"" ≡ leaves ("a" ≔ table ("b" ≔ word "x" ⨾ empty) ⨾ empty) ("x" ∷ "a" ∷ "b" ∷ []) 2
+pub store-value-first : reads "\"a\".\"b\" = \"x\""
+    ≡ leaves ("a" ≔ table ("b" ≔ word "x" ⨾ empty) ⨾ empty) ("x" ∷ "a" ∷ "b" ∷ []) 2
 unfolding computes
 store-value-first = refl
 
 -- corner 31: strings in reading order: `a = ["x", ["y"], "z"]`
 pub store-in-order :
     reads "a = [\"x\", [\"y\"], \"z\"]"
-    ≡ leaves ("a" ≔ array (item (word "x") (item (array (item (word "y") none′)) (item (word "z") none′))) ⨾ empty) ("x" ∷ "y" ∷ "z" ∷ "a" ∷ []) 5
+    ≡ leaves ("a" ≔ array (item (word "x") (item (array (item (word "y") none′)) (item (word "z") none′))) ⨾ empty)
+    ("x" ∷ "y" ∷ "z" ∷ "a" ∷ []) 5
 unfolding computes
 store-in-order = refl
 
 -- corner 31: headers add their segments each time, and what is replaced stays: `[a.b]⏎[a]⏎b = "x"`
-pub store-each-time : reads "[a.b]\n[a]\nb = \"x\"" ≡ leaves ("a" ≔ table ("b" ≔ word "x" ⨾ empty) ⨾ empty) ("a" ∷ "b" ∷ "a" ∷ "x" ∷ "b" ∷ []) 3
+pub store-each-time : reads "[a.b]\n[a]\nb = \"x\""
+    ≡ leaves ("a" ≔ table ("b" ≔ word "x" ⨾ empty) ⨾ empty) ("a" ∷ "b" ∷ "a" ∷ "x" ∷ "b" ∷ []) 3
 unfolding computes
 store-each-time = refl
 
 -- escapes are decoded in values and keys: `"k\t" = "a\"b\\\n"`
-pub store-decoded : reads "\"k\\t\" = \"a\\\"b\\\\\\n\"" ≡ leaves ("k\t" ≔ word "a\"b\\\n" ⨾ empty) ("a\"b\\\n" ∷ "k\t" ∷ []) 1
+pub store-decoded : reads "\"k\\t\" = \"a\\\"b\\\\\\n\""
+    ≡ leaves ("k\t" ≔ word "a\"b\\\n" ⨾ empty) ("a\"b\\\n" ∷ "k\t" ∷ []) 1
 unfolding computes
 store-decoded = refl
 
@@ -651,7 +694,7 @@ store-empty = refl
 
 -- where assignments go
 abbrev sought : Under → Table → Grown Table
-sought u t = here u grown t 0
+sought u t = underHeader u grown t 0
 
 abbrev a-only : List (List ℕ)
 a-only = ascii "a" ∷ []
@@ -687,6 +730,7 @@ unfolding computes
 no-elements = refl
 
 -- its last element is no table
-pub last-not-a-table : sought (arrays a-only) ("a" ≔ array (empty ⊕ item (number 1) none′) ⨾ empty) ≡ stuck (unmet notLast)
+pub last-not-a-table : sought (arrays a-only) ("a" ≔ array (empty ⊕ item (number 1) none′) ⨾ empty)
+    ≡ stuck (unmet notLast)
 unfolding computes
 last-not-a-table = refl

@@ -12,7 +12,8 @@ use Rattle.examples.specs.Samples.{lined}
 use Rattle.meaning.specs.Preset.{Read}
 use Rattle.examples.specs.Example as given
 use Rattle.examples.specs.CornersRules.{Says, at}
-use Rattle.meaning.specs.Plan.{Selection, bootChain, app, Build, built, Source, fromPackage, fromFile, PlannedComponent, Plan, Planned, componentOf, partitionFor, plan, computes}
+use Rattle.meaning.specs.Plan.{Selection, bootChain, app, Build, built, Source, fromPackage, fromFile, PlannedComponent}
+use Rattle.meaning.specs.Plan.{Plan, Planned, componentOf, partitionFor, plan, computes}
 
 abbrev pub planning : Selection → List ℕ → Answer Planned
 planning selection text = plan of01 32 32768 65536 (ascii "board") selection text
@@ -36,7 +37,14 @@ plannedDesk = record { spec = componentOf given.desk; source = fromPackage desk;
 
 abbrev examplePlan : List PlannedComponent → List Build → List ℕ → Plan
 examplePlan cs bs stem =
-    record { board = given.preset .board; image = given.preset .image; partitions = given.preset .partitions; components = cs; builds = bs; stem = stem }
+    record {
+      board = given.preset .board;
+      image = given.preset .image;
+      partitions = given.preset .partitions;
+      components = cs;
+      builds = bs;
+      stem = stem;
+    }
 
 -- "build loader 0", "stem loader"
 pub example-boot : planning bootChain given.example
@@ -46,7 +54,10 @@ example-boot = refl
 
 -- with its application: directly before `first` among the components, last among the builds
 pub example-desk : planning (app (ascii "desk")) given.example
-    ≡ accepted (record { read = exampleRead; plan = examplePlan (plannedDesk ∷ plannedFirst ∷ []) (loader ∷ desk ∷ []) (ascii "desk") })
+    ≡ accepted (record {
+      read = exampleRead;
+      plan = examplePlan (plannedDesk ∷ plannedFirst ∷ []) (loader ∷ desk ∷ []) (ascii "desk");
+    })
 unfolding computes
 example-desk = refl
 
@@ -62,7 +73,8 @@ says selection text = said (planning selection text)
 
 -- partitions `a` and `a;b`
 abbrev flash : List String
-flash = "[[partition]]" ∷ "name = \"a\"" ∷ "offset = 0" ∷ "size = 4096" ∷ "[[partition]]" ∷ "name = \"a;b\"" ∷ "offset = 4096" ∷ "size = 4096" ∷ []
+flash = "[[partition]]" ∷ "name = \"a\"" ∷ "offset = 0" ∷ "size = 4096" ∷ "[[partition]]" ∷ "name = \"a;b\""
+    ∷ "offset = 4096" ∷ "size = 4096" ∷ []
 
 -- and one component `x` of a package `p`
 abbrev base : List String
@@ -96,7 +108,8 @@ unfolding says computes
 other-fine = (refl, refl)
 
 -- validation's refusals come before 80: here 70
-pub order-70-80 : says (app []) (lined (flash ++ ("[[component]]" ∷ "name = \"x\"" ∷ "updater = true" ∷ "ram = 0" ∷ "file = \"f\"" ∷ []))) ≡ at 70 4 0
+pub order-70-80 : says (app []) (lined (flash ++
+    ("[[component]]" ∷ "name = \"x\"" ∷ "updater = true" ∷ "ram = 0" ∷ "file = \"f\"" ∷ []))) ≡ at 70 4 0
 unfolding says computes
 order-70-80 = refl
 
@@ -113,21 +126,27 @@ has f selection text = seen f (planning selection (lined text))
 abbrev plain : String → List String → Build
 plain p fs = built (ascii p) none (map ascii fs)
 
--- a build's features are the first use's too, and 60 has not compared these: `x` asks for `f` and `g`, its PBP and `y` for `h`
+-- a build's features are the first use's too, and 60 has not compared these: `x` asks for `f` and `g`, its PBP and `y`
+-- for `h`
 pub first-features : has (λ p. p .builds) bootChain
-    (base ++ ("pbp_package = \"p\"" ∷ "features = \"g f\"" ∷ "pbp_features = \"h\"" ∷ "[[component]]" ∷ "name = \"y\"" ∷ "package = \"p\"" ∷ "features = \"h\"" ∷ "partition = \"a\"" ∷ []))
+    (base ++ ("pbp_package = \"p\"" ∷ "features = \"g f\"" ∷ "pbp_features = \"h\"" ∷ "[[component]]" ∷ "name = \"y\""
+    ∷ "package = \"p\"" ∷ "features = \"h\"" ∷ "partition = \"a\"" ∷ []))
     ≡ some (plain "p" ("f" ∷ "g" ∷ []) ∷ [])
 unfolding has computes
 first-features = refl
 
--- a PBP's bin is its package, not the component's bin; it comes directly behind the component's package
-pub bins : has (λ p. p .builds) bootChain (base ++ ("bin = \"b\"" ∷ "pbp_package = \"q\"" ∷ "[[component]]" ∷ "name = \"y\"" ∷ "package = \"r\"" ∷ "partition = \"a\"" ∷ []))
+-- a PBP's bin is its package, not the component's bin; it comes directly after the component's package
+pub bins : has (λ p. p .builds) bootChain (base
+    ++ ("bin = \"b\"" ∷ "pbp_package = \"q\"" ∷ "[[component]]" ∷ "name = \"y\"" ∷ "package = \"r\""
+    ∷ "partition = \"a\"" ∷ []))
     ≡ some (built (ascii "p") (some (ascii "b")) [] ∷ plain "q" [] ∷ plain "r" [] ∷ [])
 unfolding has computes
 bins = refl
 
 -- a package that is built already keeps its place and its first bin
-pub once : has (λ p. p .builds) (app (ascii "p")) (base ++ ("bin = \"b\"" ∷ "[[component]]" ∷ "name = \"y\"" ∷ "package = \"r\"" ∷ "partition = \"a\"" ∷ "[apps.p]" ∷ "partition = \"a\"" ∷ []))
+pub once : has (λ p. p .builds) (app (ascii "p"))
+    (base ++ ("bin = \"b\"" ∷ "[[component]]" ∷ "name = \"y\"" ∷ "package = \"r\"" ∷ "partition = \"a\"" ∷ "[apps.p]"
+    ∷ "partition = \"a\"" ∷ []))
     ≡ some (built (ascii "p") (some (ascii "b")) [] ∷ plain "r" [] ∷ [])
 unfolding has computes
 once = refl
@@ -143,7 +162,8 @@ abbrev shared : List String
 shared = base ++ ("bin = \"b\"" ∷ "features = \"f\"" ∷ "[apps.p]" ∷ "partition = \"a\"" ∷ "features = \"f\"" ∷ [])
 
 pub own-bin : has sources (app (ascii "p")) shared
-    ≡ some (fromPackage (plain "p" ("f" ∷ [])) ∷ fromPackage (built (ascii "p") (some (ascii "b")) (ascii "f" ∷ [])) ∷ [])
+    ≡ some (fromPackage (plain "p" ("f" ∷ [])) ∷ fromPackage (built (ascii "p") (some (ascii "b")) (ascii "f" ∷ []))
+    ∷ [])
 unfolding has computes
 own-bin = refl
 
@@ -158,13 +178,16 @@ left c = c .spec .head .file ∷ c .spec .boot .pbp ∷ c .spec .boot .private �
 
 -- files that are sources go out of the record, and stand in the sources as written; `private` stays as written
 abbrev filed : List String
-filed = flash ++ ("[[component]]" ∷ "name = \"x\"" ∷ "file = \"d/../f\"" ∷ "pbp = \"e/\"" ∷ "private = \"./k\"" ∷ "partition = \"a\"" ∷ [])
+filed = flash ++ ("[[component]]" ∷ "name = \"x\"" ∷ "file = \"d/../f\"" ∷ "pbp = \"e/\"" ∷ "private = \"./k\""
+    ∷ "partition = \"a\"" ∷ [])
 
-pub records-left : has (λ p. map left (p .components)) bootChain filed ≡ some ((none ∷ none ∷ some (ascii "./k") ∷ []) ∷ [])
+pub records-left : has (λ p. map left (p .components)) bootChain filed
+    ≡ some ((none ∷ none ∷ some (ascii "./k") ∷ []) ∷ [])
 unfolding has computes
 records-left = refl
 
-pub files-written : has (λ p. map (λ (c : PlannedComponent). some (c .source) ∷ c .pbpSource ∷ []) (p .components)) bootChain filed
+pub files-written : has (λ p. map (λ (c : PlannedComponent). some (c .source) ∷ c .pbpSource ∷ []) (p .components))
+    bootChain filed
     ≡ some ((some (fromFile (ascii "d/../f")) ∷ some (fromFile (ascii "e/")) ∷ []) ∷ [])
 unfolding has computes
 files-written = refl
@@ -179,7 +202,8 @@ updater name = "[[component]]" ∷ name ∷ "file = \"u\"" ∷ "updater = true" 
 
 -- updaters without a partition stay in front of the application
 pub behind-updaters : has names (app (ascii "k"))
-    (flash ++ updater "name = \"u\"" ++ ("[[component]]" ∷ "name = \"x\"" ∷ "package = \"p\"" ∷ "partition = \"a\"" ∷ []) ++ updater "name = \"v\"" ++ ("[apps.k]" ∷ "partition = \"a\"" ∷ []))
+    (flash ++ updater "name = \"u\"" ++ ("[[component]]" ∷ "name = \"x\"" ∷ "package = \"p\"" ∷ "partition = \"a\""
+    ∷ []) ++ updater "name = \"v\"" ++ ("[apps.k]" ∷ "partition = \"a\"" ∷ []))
     ≡ some (ascii "u" ∷ ascii "k" ∷ ascii "x" ∷ ascii "v" ∷ [])
 unfolding has computes
 behind-updaters = refl
@@ -192,7 +216,8 @@ stem p = p .stem
 -- a component of kind app with this, in front of one of package `p`
 abbrev stemmed : List String → List String
 stemmed fields =
-    flash ++ ("[[component]]" ∷ "name = \"w\"" ∷ "kind = \"app\"" ∷ "partition = \"a\"" ∷ fields) ++ ("[[component]]" ∷ "name = \"x\"" ∷ "kind = \"app\"" ∷ "package = \"p\"" ∷ "partition = \"a\"" ∷ [])
+    flash ++ ("[[component]]" ∷ "name = \"w\"" ∷ "kind = \"app\"" ∷ "partition = \"a\"" ∷ fields)
+    ++ ("[[component]]" ∷ "name = \"x\"" ∷ "kind = \"app\"" ∷ "package = \"p\"" ∷ "partition = \"a\"" ∷ [])
 
 -- package before bin before file stem
 pub stem-package : has stem bootChain (stemmed ("package = \"\"" ∷ "bin = \"b\"" ∷ [])) ≡ some []
@@ -214,7 +239,8 @@ stem-first = refl
 
 -- one without a partition is passed over, and so is one of another kind
 pub stem-next : has stem bootChain
-    (flash ++ updater "name = \"u\"" ++ ("kind = \"app\"" ∷ "[[component]]" ∷ "name = \"x\"" ∷ "kind = \"raw\"" ∷ "package = \"p\"" ∷ "partition = \"a\"" ∷ [])) ≡ some (ascii "board")
+    (flash ++ updater "name = \"u\"" ++ ("kind = \"app\"" ∷ "[[component]]" ∷ "name = \"x\"" ∷ "kind = \"raw\""
+    ∷ "package = \"p\"" ∷ "partition = \"a\"" ∷ [])) ≡ some (ascii "board")
 unfolding has computes
 stem-next = refl
 
@@ -241,8 +267,10 @@ unfolding has computes
 reference-unknown = refl
 
 -- an application may go to a partition with white space in front of its name, which no reference finds
-pub reference-lost : has (λ p. map (λ (c : PlannedComponent). start (partitionFor (p .partitions) (c .spec .role .partition))) (p .components)) (app (ascii "k"))
-    (base ++ ("[[partition]]" ∷ "name = \" c\"" ∷ "offset = 8192" ∷ "size = 4096" ∷ "[apps.k]" ∷ "partition = \" c\"" ∷ []))
+pub reference-lost : has (λ p. map (λ (c : PlannedComponent). start
+    (partitionFor (p .partitions) (c .spec .role .partition))) (p .components)) (app (ascii "k"))
+    (base ++ ("[[partition]]" ∷ "name = \" c\"" ∷ "offset = 8192" ∷ "size = 4096" ∷ "[apps.k]" ∷ "partition = \" c\""
+    ∷ []))
     ≡ some (none ∷ some 0 ∷ [])
 unfolding has computes
 reference-lost = refl

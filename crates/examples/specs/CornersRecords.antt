@@ -1,4 +1,5 @@
--- Corners of records, by computation over whole texts. `⏎` stands for LF, `×n` for n times; "corner" is the number in the list of observations.
+-- Corners of records, by computation over whole texts. `⏎` stands for LF, `×n` for n times; "corner" is the number in
+-- the list of observations.
 use Prim.Native.Nat.{ℕ, zero, suc}
 use Prim.Native.String.{String}
 use mathlib.Core.Bool.{true, false}
@@ -8,10 +9,12 @@ use mathlib.Core.Path.{_≡_, refl}
 use lib.ListN.{replicate}
 use Rattle.meaning.specs.Base.{ascii}
 use Rattle.meaning.specs.Limits.{of01}
-use Rattle.meaning.specs.Refusal.{Answer, accepted, refused, acceptedThen, numbered, numberOf, atNoLine, inBoard, inImage, inPartition, inComponent, inApplication}
+use Rattle.meaning.specs.Refusal.{Answer, accepted, refused, acceptedThen, numbered, numberOf, atNoLine, inBoard}
+use Rattle.meaning.specs.Refusal.{inImage, inPartition, inComponent, inApplication}
 use Rattle.meaning.specs.Tree.{Table, table, empty, entry}
 use Rattle.meaning.specs.Document.{document}
-use Rattle.meaning.specs.Schema.{Board, Image, Component, Application, Preset, d13x, d21x, spiNor, spiNand, kindRaw, kindPbp, chips, eraseFor}
+use Rattle.meaning.specs.Schema.{Board, Image, Component, Application, Preset, d13x, d21x, spiNor, spiNand, kindRaw}
+use Rattle.meaning.specs.Schema.{kindPbp, chips, eraseFor}
 use Rattle.meaning.specs.Files.{fileName, fileStem}
 use Rattle.meaning.specs.Records.{presetOf}
 use Rattle.meaning.specs.Preset as whole
@@ -61,8 +64,21 @@ texts ws = over ascii ws
 pub all-defaults :
     reads ""
     ≡ accepted (record {
-      board = record { name = ascii "lent"; chip = d13x; target = ascii "riscv32imafc-unknown-none-elf"; profile = ascii "release" };
-      image = record { platform = ascii "d13x"; product = ascii "unknown"; version = ascii "0.0.0"; media = spiNor; mediaDevId = 0; mediaId = []; bootApp = [] };
+      board = record {
+        name = ascii "lent";
+        chip = d13x;
+        target = ascii "riscv32imafc-unknown-none-elf";
+        profile = ascii "release";
+      };
+      image = record {
+        platform = ascii "d13x";
+        product = ascii "unknown";
+        version = ascii "0.0.0";
+        media = spiNor;
+        mediaDevId = 0;
+        mediaId = [];
+        bootApp = [];
+      };
       partitions = [];
       components = [];
       applications = [];
@@ -79,8 +95,21 @@ blank-defaults = refl
 pub other-chip :
     reads "[board]\nchip = \"d21x\""
     ≡ accepted (record {
-      board = record { name = ascii "lent"; chip = d21x; target = ascii "riscv64gc-unknown-none-elf"; profile = ascii "release" };
-      image = record { platform = ascii "d21x"; product = ascii "unknown"; version = ascii "0.0.0"; media = spiNand; mediaDevId = 0; mediaId = []; bootApp = [] };
+      board = record {
+        name = ascii "lent";
+        chip = d21x;
+        target = ascii "riscv64gc-unknown-none-elf";
+        profile = ascii "release";
+      };
+      image = record {
+        platform = ascii "d21x";
+        product = ascii "unknown";
+        version = ascii "0.0.0";
+        media = spiNand;
+        mediaDevId = 0;
+        mediaId = [];
+        bootApp = [];
+      };
       partitions = [];
       components = [];
       applications = [];
@@ -93,10 +122,31 @@ pub component-defaults :
     components (λ c. c) (reads "[[component]]\nname = \"c\"")
     ≡ accepted (
     record {
-      head = record { kind = kindRaw; name = ascii "c"; pack = none; bin = none; file = none; filename = ascii "component.bin" };
-      role = record { features = []; pbpFeatures = []; partition = []; attr = ascii "mtd;required"; targetAttr = none; targetFilename = none };
+      head = record {
+        kind = kindRaw;
+        name = ascii "c";
+        pack = none;
+        bin = none;
+        file = none;
+        filename = ascii "component.bin";
+      };
+      role = record {
+        features = [];
+        pbpFeatures = [];
+        partition = [];
+        attr = ascii "mtd;required";
+        targetAttr = none;
+        targetFilename = none;
+      };
       boot = record { updater = false; ram = none; pbp = none; pbpPack = none; private = none };
-      load = record { loadAddress = none; entryPoint = none; entryOffset = none; headerVersion = none; withExt = false; extReserve = 0 };
+      load = record {
+        loadAddress = none;
+        entryPoint = none;
+        entryOffset = none;
+        headerVersion = none;
+        withExt = false;
+        extReserve = 0;
+      };
     }
     ∷ [])
 unfolding computes
@@ -121,7 +171,8 @@ unfolding computes
 application-defaults = refl
 
 -- an application's filename follows its name, which need not be its key: `[apps.x]⏎name = "y"`
-pub filename-of-name : applications (λ a. a .filename) (reads "[apps.x]\nname = \"y\"") ≡ accepted (texts ("y.aic" ∷ []))
+pub filename-of-name : applications (λ a. a .filename) (reads "[apps.x]\nname = \"y\"")
+    ≡ accepted (texts ("y.aic" ∷ []))
 unfolding computes
 filename-of-name = refl
 
@@ -130,15 +181,29 @@ abbrev front : Answer Preset
 front =
     says (lined (
     "[board]" ∷ "name = \"n\"" ∷ "chip = \"d21x\"" ∷ "target = \"t\"" ∷ "profile = \"p\""
-    ∷ "[image]" ∷ "platform = \"a\"" ∷ "product = \"b\"" ∷ "version = \"c\"" ∷ "media = \"spi-nor\"" ∷ "media_dev_id = 1" ∷ "media_id = \"d\"" ∷ "app = \"e\""
+    ∷ "[image]" ∷ "platform = \"a\"" ∷ "product = \"b\"" ∷ "version = \"c\"" ∷ "media = \"spi-nor\""
+    ∷ "media_dev_id = 1" ∷ "media_id = \"d\"" ∷ "app = \"e\""
     ∷ []
     ))
 
-pub board-full : boards front ≡ accepted (record { name = ascii "n"; chip = d21x; target = ascii "t"; profile = ascii "p" })
+pub board-full : boards front ≡ accepted (record {
+  name = ascii "n";
+  chip = d21x;
+  target = ascii "t";
+  profile = ascii "p";
+})
 unfolding computes
 board-full = refl
 
-pub image-full : images front ≡ accepted (record { platform = ascii "a"; product = ascii "b"; version = ascii "c"; media = spiNor; mediaDevId = 1; mediaId = ascii "d"; bootApp = ascii "e" })
+pub image-full : images front ≡ accepted (record {
+  platform = ascii "a";
+  product = ascii "b";
+  version = ascii "c";
+  media = spiNor;
+  mediaDevId = 1;
+  mediaId = ascii "d";
+  bootApp = ascii "e";
+})
 unfolding computes
 image-full = refl
 
@@ -148,9 +213,11 @@ full =
     lined (
     "[[component]]"
     ∷ "kind = \"pbp\"" ∷ "name = \"n\"" ∷ "package = \"p\"" ∷ "bin = \"b\"" ∷ "file = \"d/f\"" ∷ "filename = \"g\""
-    ∷ "features = \"h\"" ∷ "pbp_features = \"i\"" ∷ "partition = \"j\"" ∷ "attr = \"k\"" ∷ "target_attr = \"l\"" ∷ "target_filename = \"m\""
+    ∷ "features = \"h\"" ∷ "pbp_features = \"i\"" ∷ "partition = \"j\"" ∷ "attr = \"k\"" ∷ "target_attr = \"l\""
+    ∷ "target_filename = \"m\""
     ∷ "updater = true" ∷ "ram = 1" ∷ "pbp = \"d/o\"" ∷ "pbp_package = \"q\"" ∷ "private = \"d/r\""
-    ∷ "load_address = 2" ∷ "entry_point = 3" ∷ "entry_offset = 4" ∷ "header_version = 5" ∷ "with_ext = true" ∷ "ext_reserve = 6"
+    ∷ "load_address = 2" ∷ "entry_point = 3" ∷ "entry_offset = 4" ∷ "header_version = 5" ∷ "with_ext = true"
+    ∷ "ext_reserve = 6"
     ∷ []
     )
 
@@ -158,10 +225,37 @@ pub component-full :
     components (λ c. c) (says full)
     ≡ accepted (
     record {
-      head = record { kind = kindPbp; name = ascii "n"; pack = some (ascii "p"); bin = some (ascii "b"); file = some (ascii "d/f"); filename = ascii "g" };
-      role = record { features = texts ("h" ∷ []); pbpFeatures = texts ("i" ∷ []); partition = ascii "j"; attr = ascii "k"; targetAttr = some (ascii "l"); targetFilename = some (ascii "m") };
-      boot = record { updater = true; ram = some 1; pbp = some (ascii "d/o"); pbpPack = some (ascii "q"); private = some (ascii "d/r") };
-      load = record { loadAddress = some 2; entryPoint = some 3; entryOffset = some 4; headerVersion = some 5; withExt = true; extReserve = 6 };
+      head = record {
+        kind = kindPbp;
+        name = ascii "n";
+        pack = some (ascii "p");
+        bin = some (ascii "b");
+        file = some (ascii "d/f");
+        filename = ascii "g";
+      };
+      role = record {
+        features = texts ("h" ∷ []);
+        pbpFeatures = texts ("i" ∷ []);
+        partition = ascii "j";
+        attr = ascii "k";
+        targetAttr = some (ascii "l");
+        targetFilename = some (ascii "m");
+      };
+      boot = record {
+        updater = true;
+        ram = some 1;
+        pbp = some (ascii "d/o");
+        pbpPack = some (ascii "q");
+        private = some (ascii "d/r");
+      };
+      load = record {
+        loadAddress = some 2;
+        entryPoint = some 3;
+        entryOffset = some 4;
+        headerVersion = some 5;
+        withExt = true;
+        extReserve = 6;
+      };
     }
     ∷ [])
 unfolding computes
@@ -169,7 +263,8 @@ component-full = refl
 
 -- and of an application
 pub application-full :
-    applications (λ a. a) (says (lined ("[apps.x]" ∷ "name = \"n\"" ∷ "partition = \"p\"" ∷ "filename = \"f\"" ∷ "attr = \"a\"" ∷ "features = \"h\"" ∷ "load_address = 1" ∷ "entry_offset = 2" ∷ [])))
+    applications (λ a. a) (says (lined ("[apps.x]" ∷ "name = \"n\"" ∷ "partition = \"p\"" ∷ "filename = \"f\""
+    ∷ "attr = \"a\"" ∷ "features = \"h\"" ∷ "load_address = 1" ∷ "entry_offset = 2" ∷ [])))
     ≡ accepted (
     record {
       pack = ascii "x";
@@ -192,7 +287,8 @@ abbrev in-rooms : ℕ → ℕ → List ℕ → Answer whole.Read
 in-rooms store tree s = whole.read of01 32 store tree (ascii "board") s
 
 -- corner 33: `x.aic` is not in the store, which has the segments alone: `[apps.x]`
-pub not-stored : acceptedThen (in-rooms 32768 65536 (ascii "[apps.x]")) (λ r. accepted (r .parsed .bytes)) ≡ accepted (words ("apps" ∷ "x" ∷ []))
+pub not-stored : acceptedThen (in-rooms 32768 65536 (ascii "[apps.x]")) (λ r. accepted (r .parsed .bytes))
+    ≡ accepted (words ("apps" ∷ "x" ∷ []))
 unfolding computes
 not-stored = refl
 
@@ -305,13 +401,26 @@ word-before-name = refl
 
 -- where the board has a chip, the platform is any text: `[board]⏎chip = "d21x"⏎[image]⏎platform = "z"`
 pub platform-any : images (reads "[board]\nchip = \"d21x\"\n[image]\nplatform = \"z\"")
-    ≡ accepted (record { platform = ascii "z"; product = ascii "unknown"; version = ascii "0.0.0"; media = spiNand; mediaDevId = 0; mediaId = []; bootApp = [] })
+    ≡ accepted (record {
+      platform = ascii "z";
+      product = ascii "unknown";
+      version = ascii "0.0.0";
+      media = spiNand;
+      mediaDevId = 0;
+      mediaId = [];
+      bootApp = [];
+    })
 unfolding computes
 platform-any = refl
 
 -- the platform's word is the chip's where the board has none: `[image]⏎platform = "d21x"`
 pub platform-chip : boards (reads "[image]\nplatform = \"d21x\"")
-    ≡ accepted (record { name = ascii "lent"; chip = d21x; target = ascii "riscv64gc-unknown-none-elf"; profile = ascii "release" })
+    ≡ accepted (record {
+      name = ascii "lent";
+      chip = d21x;
+      target = ascii "riscv64gc-unknown-none-elf";
+      profile = ascii "release";
+    })
 unfolding computes
 platform-chip = refl
 
@@ -331,12 +440,14 @@ word-empty = refl
 -- ---- corner 37: singular and plural
 
 -- the plural alone: `[[partitions]]`
-pub plural : seen (λ p. p .partitions) (reads "[[partitions]]\nname = \"a\"\noffset = 2\nsize = 1") ≡ accepted (record { name = ascii "a"; offset = 2; size = 1 } ∷ [])
+pub plural : seen (λ p. p .partitions) (reads "[[partitions]]\nname = \"a\"\noffset = 2\nsize = 1")
+    ≡ accepted (record { name = ascii "a"; offset = 2; size = 1 } ∷ [])
 unfolding computes
 plural = refl
 
 -- `partition = []` beside it leaves no partitions: 40 is told later
-pub singular-empty : seen (λ p. p .partitions) (reads "partition = []\n[[partitions]]\nname = \"a\"\noffset = 2\nsize = 1") ≡ accepted []
+pub singular-empty : seen (λ p. p .partitions)
+    (reads "partition = []\n[[partitions]]\nname = \"a\"\noffset = 2\nsize = 1") ≡ accepted []
 unfolding computes
 singular-empty = refl
 
@@ -346,7 +457,8 @@ unfolding computes
 singular-kind = refl
 
 -- `[partitions]` beside `[[partition]]` is not looked at
-pub plural-unseen : seen (λ p. p .partitions) (reads "[partitions]\n[[partition]]\nname = \"a\"\noffset = 2\nsize = 1") ≡ accepted (record { name = ascii "a"; offset = 2; size = 1 } ∷ [])
+pub plural-unseen : seen (λ p. p .partitions) (reads "[partitions]\n[[partition]]\nname = \"a\"\noffset = 2\nsize = 1")
+    ≡ accepted (record { name = ascii "a"; offset = 2; size = 1 } ∷ [])
 unfolding computes
 plural-unseen = refl
 
@@ -355,7 +467,8 @@ pub components-empty : components (λ c. c .head .name) (reads "component = []\n
 unfolding computes
 components-empty = refl
 
-pub components-plural : components (λ c. c .head .name) (reads "[[components]]\nname = \"c\"") ≡ accepted (texts ("c" ∷ []))
+pub components-plural : components (λ c. c .head .name) (reads "[[components]]\nname = \"c\"")
+    ≡ accepted (texts ("c" ∷ []))
 unfolding computes
 components-plural = refl
 
@@ -410,7 +523,8 @@ pub applications-64 : applications (λ a. a .pack) (of-apps 64) ≡ accepted (up
 unfolding computes
 applications-64 = refl
 
--- each list's length is judged at its own turn: a partition's 24 before the components' 25: `component = [1×65]⏎[[partition]]`
+-- each list's length is judged at its own turn: a partition's 24 before the components' 25: `component =
+-- [1×65]⏎[[partition]]`
 pub length-at-turn : says (of-ones "component" 65 ++ ascii "[[partition]]") ≡ refuses 24 inPartition 0
 unfolding computes
 length-at-turn = refl
@@ -477,7 +591,8 @@ unfolding computes
 empties-33 = refl
 
 -- corner 41: only space and comma split; a tab, an LF and U+00A0 stay inside an item
-pub other-blanks : features-of (quoted (ascii "b\\ta\\nc " ++ 97 ∷ 0xc2 ∷ 0xa0 ∷ 98 ∷ [])) ≡ accepted (((97 ∷ 0xc2 ∷ 0xa0 ∷ 98 ∷ []) ∷ ascii "b\ta\nc" ∷ []) ∷ [])
+pub other-blanks : features-of (quoted (ascii "b\\ta\\nc " ++ 97 ∷ 0xc2 ∷ 0xa0 ∷ 98 ∷ []))
+    ≡ accepted (((97 ∷ 0xc2 ∷ 0xa0 ∷ 98 ∷ []) ∷ ascii "b\ta\nc" ∷ []) ∷ [])
 unfolding computes
 other-blanks = refl
 
@@ -491,7 +606,8 @@ pub sorted-words : features-of (ascii "\"b,a B ab  b\"") ≡ accepted (texts ("B
 unfolding computes
 sorted-words = refl
 
-pub sorted-array : features-of (ascii "[\"b\", \"a\", \"\", \"B\", \"ab\", \"b\"]") ≡ accepted (texts ("" ∷ "B" ∷ "a" ∷ "ab" ∷ "b" ∷ []) ∷ [])
+pub sorted-array : features-of (ascii "[\"b\", \"a\", \"\", \"B\", \"ab\", \"b\"]")
+    ≡ accepted (texts ("" ∷ "B" ∷ "a" ∷ "ab" ∷ "b" ∷ []) ∷ [])
 unfolding computes
 sorted-array = refl
 
@@ -506,7 +622,8 @@ item-kind = refl
 
 -- the pbp_features of one component with `features = "f"`
 abbrev pbp-of : String → Answer (List (List (List ℕ)))
-pbp-of s = components (λ c. c .role .pbpFeatures) (says (ascii "[[component]]\nname = \"c\"\nfeatures = \"f\"\npbp_features = " ++ ascii s))
+pbp-of s = components (λ c. c .role .pbpFeatures)
+    (says (ascii "[[component]]\nname = \"c\"\nfeatures = \"f\"\npbp_features = " ++ ascii s))
 
 -- corner 41: "Empty `pbp_features` takes `features`": `""`, `" , "` and `[]` are empty, `[""]` is not
 pub pbp-empty : pbp-of "\"\"" ≡ accepted (texts ("f" ∷ []) ∷ [])
@@ -618,11 +735,13 @@ empty-bin = refl
 abbrev sparse : Answer Preset
 sparse = reads "[[component]]\nname = \"\"\npackage = \"\"\nfile = \"\"\nram = 0\npbp = \"\"\npbp_package = \"\""
 
-pub present-head : components (λ c. c .head) sparse ≡ accepted (record { kind = kindRaw; name = []; pack = some []; bin = none; file = some []; filename = [] } ∷ [])
+pub present-head : components (λ c. c .head) sparse
+    ≡ accepted (record { kind = kindRaw; name = []; pack = some []; bin = none; file = some []; filename = [] } ∷ [])
 unfolding computes
 present-head = refl
 
-pub present-boot : components (λ c. c .boot) sparse ≡ accepted (record { updater = false; ram = some 0; pbp = some []; pbpPack = some []; private = none } ∷ [])
+pub present-boot : components (λ c. c .boot) sparse
+    ≡ accepted (record { updater = false; ram = some 0; pbp = some []; pbpPack = some []; private = none } ∷ [])
 unfolding computes
 present-boot = refl
 
@@ -635,7 +754,8 @@ abbrev stems : List String → List (Option (List ℕ))
 stems fs = over (λ f. fileStem (ascii f)) fs
 
 -- "its last `/` piece that is neither empty nor `.`"
-pub last-piece : names ("a" ∷ "a/b" ∷ "a/." ∷ "a//" ∷ "./a" ∷ "/a/./" ∷ "../a" ∷ "..." ∷ []) ≡ over (λ f. some (ascii f)) ("a" ∷ "b" ∷ "a" ∷ "a" ∷ "a" ∷ "a" ∷ "a" ∷ "..." ∷ [])
+pub last-piece : names ("a" ∷ "a/b" ∷ "a/." ∷ "a//" ∷ "./a" ∷ "/a/./" ∷ "../a" ∷ "..." ∷ [])
+    ≡ over (λ f. some (ascii f)) ("a" ∷ "b" ∷ "a" ∷ "a" ∷ "a" ∷ "a" ∷ "a" ∷ "..." ∷ [])
 unfolding computes
 last-piece = refl
 
@@ -645,7 +765,8 @@ unfolding computes
 no-piece = refl
 
 -- "Its stem stops before the last dot, unless that dot is first."
-pub stops-at-dot : stems ("a.b" ∷ "a.b.c" ∷ "a." ∷ "..." ∷ "..a" ∷ "d.e/f" ∷ []) ≡ over (λ f. some (ascii f)) ("a" ∷ "a.b" ∷ "a" ∷ ".." ∷ "." ∷ "f" ∷ [])
+pub stops-at-dot : stems ("a.b" ∷ "a.b.c" ∷ "a." ∷ "..." ∷ "..a" ∷ "d.e/f" ∷ [])
+    ≡ over (λ f. some (ascii f)) ("a" ∷ "a.b" ∷ "a" ∷ ".." ∷ "." ∷ "f" ∷ [])
 unfolding computes
 stops-at-dot = refl
 
@@ -708,7 +829,8 @@ unfolding computes
 app-second = refl
 
 -- corner 32: a key that comes again is one application: `[apps]⏎a = 1⏎b.name = "y"⏎a.name = "x"`
-pub app-again : applications (λ a. a .name) (reads "[apps]\na = 1\nb.name = \"y\"\na.name = \"x\"") ≡ accepted (texts ("x" ∷ "y" ∷ []))
+pub app-again : applications (λ a. a .name) (reads "[apps]\na = 1\nb.name = \"y\"\na.name = \"x\"")
+    ≡ accepted (texts ("x" ∷ "y" ∷ []))
 unfolding computes
 app-again = refl
 
@@ -719,7 +841,8 @@ pub image-before-partitions : reads "partition = 1\n[image]\napp = 1" ≡ refuse
 unfolding computes
 image-before-partitions = refl
 
--- partitions before components, and those before applications: `apps = 1⏎component = 1⏎partition = [1]` and `apps = 1⏎component = [1]`
+-- partitions before components, and those before applications: `apps = 1⏎component = 1⏎partition = [1]` and `apps =
+-- 1⏎component = [1]`
 pub partitions-before-components : reads "apps = 1\ncomponent = 1\npartition = [1]" ≡ refuses 23 inPartition 0
 unfolding computes
 partitions-before-components = refl
@@ -728,8 +851,10 @@ pub components-before-applications : reads "apps = 1\ncomponent = [1]" ≡ refus
 unfolding computes
 components-before-applications = refl
 
--- one entry through all its fields before the next: `[[component]]⏎name = "a"⏎ext_reserve = true⏎[[component]]⏎kind = "z"`
-pub entry-before-next : reads "[[component]]\nname = \"a\"\next_reserve = true\n[[component]]\nkind = \"z\"" ≡ refuses 20 inComponent 0
+-- one entry through all its fields before the next: `[[component]]⏎name = "a"⏎ext_reserve = true⏎[[component]]⏎kind =
+-- "z"`
+pub entry-before-next : reads "[[component]]\nname = \"a\"\next_reserve = true\n[[component]]\nkind = \"z\""
+    ≡ refuses 20 inComponent 0
 unfolding computes
 entry-before-next = refl
 
@@ -743,12 +868,14 @@ abbrev refusals : String → List String → List ℕ
 refusals header fields = over (λ s. refusal (says (ascii header ++ 10 ∷ ascii s))) fields
 
 -- fields in 01's order, as far as numbers show it: of two faults, the earlier field's
-pub image-order : refusals "[image]" ("version = 1\nmedia = \"z\"" ∷ "media = \"z\"\nmedia_dev_id = \"\"" ∷ "media_dev_id = -1\nmedia_id = 1" ∷ []) ≡ 20 ∷ 22 ∷ 21 ∷ []
+pub image-order : refusals "[image]" ("version = 1\nmedia = \"z\"" ∷ "media = \"z\"\nmedia_dev_id = \"\""
+    ∷ "media_dev_id = -1\nmedia_id = 1" ∷ []) ≡ 20 ∷ 22 ∷ 21 ∷ []
 unfolding computes
 image-order = refl
 
 pub boot-order :
-    refusals "[[component]]\nname = \"c\"" ("updater = 1\nram = -1" ∷ "ram = -1\npbp = 1" ∷ "private = 1\nload_address = -1" ∷ [])
+    refusals "[[component]]\nname = \"c\"" ("updater = 1\nram = -1" ∷ "ram = -1\npbp = 1"
+    ∷ "private = 1\nload_address = -1" ∷ [])
     ≡ 20 ∷ 21 ∷ 20 ∷ []
 unfolding computes
 boot-order = refl
@@ -766,7 +893,8 @@ pub load-order :
 unfolding computes
 load-order = refl
 
-pub application-order : refusals "[apps.x]" ("features = 1\nload_address = -1" ∷ "load_address = -1\nentry_offset = \"\"" ∷ []) ≡ 20 ∷ 21 ∷ []
+pub application-order : refusals "[apps.x]" ("features = 1\nload_address = -1"
+    ∷ "load_address = -1\nentry_offset = \"\"" ∷ []) ≡ 20 ∷ 21 ∷ []
 unfolding computes
 application-order = refl
 
@@ -775,7 +903,8 @@ pub unknown-keys : reads "x = 1\n[board]\nx = 1\n[image]\nx = 1\n[y.board]\nchip
 unfolding computes
 unknown-keys = refl
 
-pub unknown-in-entries : components (λ c. c .head .name) (reads "[[component]]\nname = \"c\"\nx = 1\n[apps.a]\nx.y = 1") ≡ accepted (texts ("c" ∷ []))
+pub unknown-in-entries : components (λ c. c .head .name) (reads "[[component]]\nname = \"c\"\nx = 1\n[apps.a]\nx.y = 1")
+    ≡ accepted (texts ("c" ∷ []))
 unfolding computes
 unknown-in-entries = refl
 

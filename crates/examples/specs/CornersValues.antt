@@ -14,7 +14,7 @@ use Rattle.meaning.specs.Values as valued
 
 -- ---- 22, integers
 
--- `0x-5`: the sign stands behind `0x`
+-- `0x-5`: the sign stands after `0x`
 pub int-hex-minus : integer (ascii "0x-5") ≡ ok (negsuc 4)
 unfolding computes
 int-hex-minus = refl
@@ -39,7 +39,7 @@ pub int-loose : integer (ascii "0__x1_0") ≡ ok (pos 16)
 unfolding computes
 int-loose = refl
 
--- `_-_5`: underscores go before and behind the sign
+-- `_-_5`: underscores go before and after the sign
 pub int-before-sign : integer (ascii "_-_5") ≡ ok (negsuc 4)
 unfolding computes
 int-before-sign = refl
@@ -89,17 +89,17 @@ pub int-underscore : integer (ascii "_") ≡ bad 12
 unfolding computes
 int-underscore = refl
 
--- `0x`: no digit behind `0x`
+-- `0x`: no digit after `0x`
 pub int-hex-alone : integer (ascii "0x") ≡ bad 12
 unfolding computes
 int-hex-alone = refl
 
--- `-`: no digit behind a sign
+-- `-`: no digit after a sign
 pub int-minus-alone : integer (ascii "-") ≡ bad 12
 unfolding computes
 int-minus-alone = refl
 
--- `0x-`: nor behind both
+-- `0x-`: nor after both
 pub int-hex-minus-alone : integer (ascii "0x-") ≡ bad 12
 unfolding computes
 int-hex-minus-alone = refl
@@ -195,7 +195,7 @@ inner-bracket = refl
 
 -- ---- 21, what is no value
 
--- three quotes: the empty string, and text behind it
+-- three quotes: the empty string, and text after it
 pub three-quotes : reads (ascii "\"\"\"x\"\"\"") ≡ refuses 10
 unfolding valued.computes
 three-quotes = refl
@@ -257,7 +257,7 @@ pub full-word : full (ascii "x") ≡ refuses 12
 unfolding valued.computes
 full-word = refl
 
--- `"x" y`: text behind a string, before 16
+-- `"x" y`: text after a string, before 16
 pub full-behind : full (ascii "\"x\" y") ≡ refuses 10
 unfolding valued.computes
 full-behind = refl

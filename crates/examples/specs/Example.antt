@@ -47,7 +47,9 @@ partitions =
     ⊕ none′
 
 abbrev components : Items
-components = ("name" ≔ word "first" ⨾ "package" ≔ word "loader" ⨾ "kind" ≔ word "app" ⨾ "partition" ≔ word "boot;mtd" ⨾ empty) ⊕ none′
+components =
+    ("name" ≔ word "first" ⨾ "package" ≔ word "loader" ⨾ "kind" ≔ word "app" ⨾ "partition" ≔ word "boot;mtd" ⨾ empty)
+    ⊕ none′
 
 abbrev pub tree : Table
 tree =
@@ -77,10 +79,23 @@ example-read = refl
 -- ---- the records
 
 abbrev board : Board
-board = record { name = ascii "board"; chip = d13x; target = ascii "riscv32imafc-unknown-none-elf"; profile = ascii "release" }
+board = record {
+  name = ascii "board";
+  chip = d13x;
+  target = ascii "riscv32imafc-unknown-none-elf";
+  profile = ascii "release";
+}
 
 abbrev image : Image
-image = record { platform = ascii "d13x"; product = ascii "unknown"; version = ascii "0.0.0"; media = spiNor; mediaDevId = 0; mediaId = []; bootApp = [] }
+image = record {
+  platform = ascii "d13x";
+  product = ascii "unknown";
+  version = ascii "0.0.0";
+  media = spiNor;
+  mediaDevId = 0;
+  mediaId = [];
+  bootApp = [];
+}
 
 abbrev boot : Partition
 boot = record { name = ascii "boot"; offset = 0; size = 262144 }
@@ -91,10 +106,31 @@ profiles = record { name = ascii "profiles"; offset = 262144; size = 1048576 }
 abbrev pub first : Component
 first =
     record {
-      head = record { kind = kindApp; name = ascii "first"; pack = some (ascii "loader"); bin = none; file = none; filename = ascii "loader" };
-      role = record { features = []; pbpFeatures = []; partition = ascii "boot;mtd"; attr = ascii "mtd;required"; targetAttr = none; targetFilename = none };
+      head = record {
+        kind = kindApp;
+        name = ascii "first";
+        pack = some (ascii "loader");
+        bin = none;
+        file = none;
+        filename = ascii "loader";
+      };
+      role = record {
+        features = [];
+        pbpFeatures = [];
+        partition = ascii "boot;mtd";
+        attr = ascii "mtd;required";
+        targetAttr = none;
+        targetFilename = none;
+      };
       boot = record { updater = false; ram = none; pbp = none; pbpPack = none; private = none };
-      load = record { loadAddress = none; entryPoint = none; entryOffset = none; headerVersion = none; withExt = false; extReserve = 0 };
+      load = record {
+        loadAddress = none;
+        entryPoint = none;
+        entryOffset = none;
+        headerVersion = none;
+        withExt = false;
+        extReserve = 0;
+      };
     }
 
 abbrev pub desk : Application
@@ -111,10 +147,17 @@ desk =
     }
 
 abbrev pub preset : Preset
-preset = record { board = board; image = image; partitions = boot ∷ profiles ∷ []; components = first ∷ []; applications = desk ∷ [] }
+preset = record {
+  board = board;
+  image = image;
+  partitions = boot ∷ profiles ∷ [];
+  components = first ∷ [];
+  applications = desk ∷ [];
+}
 
 -- "lends `board`"
-pub example-preset : whole.read of01 32 32768 65536 (ascii "board") example ≡ accepted (record { parsed = record { root = tree; bytes = store; made = 21 }; preset = preset })
+pub example-preset : whole.read of01 32 32768 65536 (ascii "board") example
+    ≡ accepted (record { parsed = record { root = tree; bytes = store; made = 21 }; preset = preset })
 unfolding whole.computes
 example-preset = refl
 
@@ -134,6 +177,7 @@ unfolding listings.computes
 example-listing = refl
 
 -- "A refusal prints `refused`, number, section, place.": of P12's empty text
-pub empty-listing : printed (listing of01 32 32768 65536 (outSize (ascii "board")) (ascii "board") []) ≡ lined ("refused 40 3 0" ∷ [])
+pub empty-listing : printed (listing of01 32 32768 65536 (outSize (ascii "board")) (ascii "board") [])
+    ≡ lined ("refused 40 3 0" ∷ [])
 unfolding listings.computes
 empty-listing = refl

@@ -11,7 +11,7 @@ abbrev pub lined : List String → List ℕ
 lined [] = []
 lined (l ∷ ls) = ascii l ++ (10 ∷ lined ls)
 
--- words, one behind the other
+-- words, one after the other
 abbrev pub words : List String → List ℕ
 words [] = []
 words (w ∷ ws) = ascii w ++ words ws

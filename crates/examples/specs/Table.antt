@@ -21,7 +21,8 @@ use Rattle.meaning.specs.Preset.{validate}
 
 -- two partitions on NOR, the first of 0x1000 bytes at 0, the second as long
 abbrev twoAt : ℕ → List Partition
-twoAt offset = record { name = ascii "a"; offset = 0; size = 4096 } ∷ record { name = ascii "b"; offset = offset; size = 4096 } ∷ []
+twoAt offset = record { name = ascii "a"; offset = 0; size = 4096 }
+    ∷ record { name = ascii "b"; offset = offset; size = 4096 } ∷ []
 
 pub record P : Type 0 where
   -- P1 "`0x-5` is -5"
@@ -35,11 +36,13 @@ pub record P : Type 0 where
   -- P5 "`0x8000000000000000` is 12"
   pub p5 : integer (ascii "0x8000000000000000") ≡ bad 12
   -- P6 "`[1,,2]` has two items"
-  pub p6 : valued.value (of01 .values) (of01 .arrays) (ascii "[1,,2]") 0 ≡ got (array (item (int (pos 1)) (item (int (pos 2)) none′))) [] 3
+  pub p6 : valued.value (of01 .values) (of01 .arrays) (ascii "[1,,2]") 0
+      ≡ got (array (item (int (pos 1)) (item (int (pos 2)) none′))) [] 3
   -- P7 "key `"a.b"` is 9"
   pub p7 : keyed.keys (of01 .segments) (ascii "\"a.b\"") ≡ bad 9
   -- P8 "`[[a]]` then `[a]` leaves an empty table"; the array, its table and this one are made
-  pub p8 : document of01 (ascii "[[a]]\n[a]") ≡ accepted (record { root = "a" ≔ table empty ⨾ empty; bytes = ascii "aa"; made = 3 })
+  pub p8 : document of01 (ascii "[[a]]\n[a]") ≡ accepted
+      (record { root = "a" ≔ table empty ⨾ empty; bytes = ascii "aa"; made = 3 })
   -- P9 "on NOR, a second partition at 0xFFFFE000, size 0x1000, after one at 0 of that size, passes"
   pub p9 : layout d13x (twoAt 4294959104) ≡ fine
   -- P10 "at 0xFFFFF000 it is 48"
@@ -50,6 +53,21 @@ pub record P : Type 0 where
   pub p12 : validate of01 32 32768 65536 (ascii "board") [] ≡ refused (numbered 40) inPartition 0
 
 pub held : P
-unfolding Rattle.meaning.specs.Integers.computes valued.computes keyed.computes computes laid.computes Rattle.meaning.specs.Preset.computes
+unfolding
+    Rattle.meaning.specs.Integers.computes valued.computes keyed.computes computes laid.computes
+    Rattle.meaning.specs.Preset.computes
 held =
-    record { p1 = refl; p2 = refl; p3 = refl; p4 = refl; p5 = refl; p6 = refl; p7 = refl; p8 = refl; p9 = refl; p10 = refl; p11 = refl; p12 = refl }
+    record {
+      p1 = refl;
+      p2 = refl;
+      p3 = refl;
+      p4 = refl;
+      p5 = refl;
+      p6 = refl;
+      p7 = refl;
+      p8 = refl;
+      p9 = refl;
+      p10 = refl;
+      p11 = refl;
+      p12 = refl;
+    }

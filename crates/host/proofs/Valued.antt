@@ -10,6 +10,7 @@ use lib.ListN.{length, drop}
 use Rattle.meaning.specs.Base.{pick, zeros}
 use Rattle.meaning.specs.declared.Signed.{Signed}
 use Rattle.meaning.specs.Integers.{signed}
+use Rattle.meaning.specs.declared.StringByte.the-variants.{Plain}
 use Rattle.meaning.specs.Strings.{Ending, closed, escape, unended, Said, decode}
 use Rattle.scalar.specs.declared.integer.Int.{Int}
 use Rattle.scalar.specs.declared.integer.Int.the-variants as ints
@@ -46,45 +47,45 @@ module _ (s room z : List ℕ) (ez : z ≡ zeros (length room)) where
     wide = le-ltb (length room) (length s) (omega (arith, long))
 
     -- by how the string ends
-    spelt : (v : Ending) (r : Spelling) (y : List ℕ) → decode 0 s .how ≡ v
-        → r ≡ spellingBy v (decode 0 s .bytes) (decode 0 s .span) → y ≡ spellBy v (decode 0 s .bytes) (zeros (length room)) → Spelled s room y r
+    spelt : (v : Ending) (r : Spelling) (y : List ℕ) → decode Plain s .how ≡ v
+        → r ≡ spellingBy v (decode Plain s .bytes) (decode Plain s .span) → y ≡ spellBy v (decode Plain s .bytes) (zeros (length room)) → Spelled s room y r
     spelt v r y e f g = record { says = f ∙ rw (wide, e); left = g ∙ rw (wide, e) }
 
     pub string-out : (u w : ℕ) → d ≡ Done u w → Spelled s room out (record { number = 0; used = u; written = w; at = 0 })
-    string-out u w e = go (decode 0 s .how) refl (sym e ∙ k .says)
+    string-out u w e = go (decode Plain s .how) refl (sym e ∙ k .says)
       where
-        go : (v : Ending) → decode 0 s .how ≡ v → Done u w ≡ answer (decode 0 s .how) (decode 0 s .span) (length (decode 0 s .bytes))
+        go : (v : Ending) → decode Plain s .how ≡ v → Done u w ≡ answer (decode Plain s .how) (decode Plain s .span) (length (decode Plain s .bytes))
             → Spelled s room out (record { number = 0; used = u; written = w; at = 0 })
         go closed q f =
-            let g : Done u w ≡ Done (decode 0 s .span) (length (decode 0 s .bytes)) = rw q at f in
-            let a : u ≡ decode 0 s .span = cc in
-            let b : w ≡ length (decode 0 s .bytes) = cc in
+            let g : Done u w ≡ Done (decode Plain s .span) (length (decode Plain s .bytes)) = rw q at f in
+            let a : u ≡ decode Plain s .span = cc in
+            let b : w ≡ length (decode Plain s .bytes) = cc in
             spelt closed _ out q (rw (a, b)) (rw ez at (k .left))
-        go escape q f = let g : Done u w ≡ Escape (decode 0 s .span) (length (decode 0 s .bytes)) = rw q at f in let z : _≡_ {A = ℕ} 0 1 = cc in absurd (omega arith)
-        go unended q f = let g : Done u w ≡ Unended (length (decode 0 s .bytes)) = rw q at f in let z : _≡_ {A = ℕ} 0 1 = cc in absurd (omega arith)
+        go escape q f = let g : Done u w ≡ Escape (decode Plain s .span) (length (decode Plain s .bytes)) = rw q at f in let z : _≡_ {A = ℕ} 0 1 = cc in absurd (omega arith)
+        go unended q f = let g : Done u w ≡ Unended (length (decode Plain s .bytes)) = rw q at f in let z : _≡_ {A = ℕ} 0 1 = cc in absurd (omega arith)
 
     module _ (y : List ℕ) (ey : y ≡ zeros (length out)) (le : length out ≡ length z) (r : Spelling) where
       empty : y ≡ zeros (length room)
       empty = ey ∙ ap zeros (le ∙ long)
 
       pub escape-out : (a w : ℕ) → d ≡ Escape a w → r ≡ record { number = 8; used = 0; written = 0; at = a } → Spelled s room y r
-      escape-out a w e f = go (decode 0 s .how) refl (sym e ∙ k .says)
+      escape-out a w e f = go (decode Plain s .how) refl (sym e ∙ k .says)
         where
-          go : (v : Ending) → decode 0 s .how ≡ v → Escape a w ≡ answer (decode 0 s .how) (decode 0 s .span) (length (decode 0 s .bytes)) → Spelled s room y r
+          go : (v : Ending) → decode Plain s .how ≡ v → Escape a w ≡ answer (decode Plain s .how) (decode Plain s .span) (length (decode Plain s .bytes)) → Spelled s room y r
           go escape q g =
-              let i : Escape a w ≡ Escape (decode 0 s .span) (length (decode 0 s .bytes)) = rw q at g in
-              let b : a ≡ decode 0 s .span = cc in
+              let i : Escape a w ≡ Escape (decode Plain s .span) (length (decode Plain s .bytes)) = rw q at g in
+              let b : a ≡ decode Plain s .span = cc in
               spelt escape r y q (f ∙ rw b) empty
-          go closed q g = let i : Escape a w ≡ Done (decode 0 s .span) (length (decode 0 s .bytes)) = rw q at g in let z : _≡_ {A = ℕ} 0 1 = cc in absurd (omega arith)
-          go unended q g = let i : Escape a w ≡ Unended (length (decode 0 s .bytes)) = rw q at g in let z : _≡_ {A = ℕ} 0 1 = cc in absurd (omega arith)
+          go closed q g = let i : Escape a w ≡ Done (decode Plain s .span) (length (decode Plain s .bytes)) = rw q at g in let z : _≡_ {A = ℕ} 0 1 = cc in absurd (omega arith)
+          go unended q g = let i : Escape a w ≡ Unended (length (decode Plain s .bytes)) = rw q at g in let z : _≡_ {A = ℕ} 0 1 = cc in absurd (omega arith)
 
       pub unended-out : (w : ℕ) → d ≡ Unended w → r ≡ record { number = 9; used = 0; written = 0; at = 0 } → Spelled s room y r
-      unended-out w e f = go (decode 0 s .how) refl (sym e ∙ k .says)
+      unended-out w e f = go (decode Plain s .how) refl (sym e ∙ k .says)
         where
-          go : (v : Ending) → decode 0 s .how ≡ v → Unended w ≡ answer (decode 0 s .how) (decode 0 s .span) (length (decode 0 s .bytes)) → Spelled s room y r
+          go : (v : Ending) → decode Plain s .how ≡ v → Unended w ≡ answer (decode Plain s .how) (decode Plain s .span) (length (decode Plain s .bytes)) → Spelled s room y r
           go unended q g = spelt unended r y q f empty
-          go closed q g = let i : Unended w ≡ Done (decode 0 s .span) (length (decode 0 s .bytes)) = rw q at g in let z : _≡_ {A = ℕ} 0 1 = cc in absurd (omega arith)
-          go escape q g = let i : Unended w ≡ Escape (decode 0 s .span) (length (decode 0 s .bytes)) = rw q at g in let z : _≡_ {A = ℕ} 0 1 = cc in absurd (omega arith)
+          go closed q g = let i : Unended w ≡ Done (decode Plain s .span) (length (decode Plain s .bytes)) = rw q at g in let z : _≡_ {A = ℕ} 0 1 = cc in absurd (omega arith)
+          go escape q g = let i : Unended w ≡ Escape (decode Plain s .span) (length (decode Plain s .bytes)) = rw q at g in let z : _≡_ {A = ℕ} 0 1 = cc in absurd (omega arith)
 
 -- ---- tree_slot
 module _ (room : List ℕ) (n takes : ℕ) (q : takes ≡ length room / 32) where

@@ -8,6 +8,7 @@ use lib.ListN.{length, getD, drop}
 use Rattle.meaning.specs.Base.{pick, zeros}
 use Rattle.meaning.specs.Refusal.{R, ok, bad}
 use Rattle.meaning.specs.declared.Signed.{Signed}
+use Rattle.meaning.specs.declared.StringByte.the-variants.{Plain}
 use Rattle.meaning.specs.Strings.{Ending, closed, escape, unended, Said, decode}
 use Rattle.meaning.specs.Keys.{keys}
 use Rattle.scalar.specs.declared.key.Verdict.{Verdict}
@@ -44,8 +45,8 @@ spellBy unended bs room = room
 
 -- 17 where the room is shorter than the text
 pub record Spelled (s room room' : List ℕ) (r : Spelling) : Type 0 where
-  pub says : r ≡ pick (ltb (length room) (length s)) (record { number = 17; used = 0; written = 0; at = 0 }) (spellingBy (decode 0 s .how) (decode 0 s .bytes) (decode 0 s .span))
-  pub left : room' ≡ pick (ltb (length room) (length s)) (zeros (length room)) (spellBy (decode 0 s .how) (decode 0 s .bytes) (zeros (length room)))
+  pub says : r ≡ pick (ltb (length room) (length s)) (record { number = 17; used = 0; written = 0; at = 0 }) (spellingBy (decode Plain s .how) (decode Plain s .bytes) (decode Plain s .span))
+  pub left : room' ≡ pick (ltb (length room) (length s)) (zeros (length room)) (spellBy (decode Plain s .how) (decode Plain s .bytes) (zeros (length room)))
 
 abbrev pub valueOf : Slot → Value
 valueOf v = record { kind = v .kind; parent = v .parent; key = v .key; len = v .len; «data» = v .«data» }

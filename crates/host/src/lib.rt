@@ -75,7 +75,7 @@ pub extern "C" fn text_valid(s: &[u8]) -> bool
 // How many bytes of one physical line stand before its comment.
 #[no_mangle]
 pub extern "C" fn text_kept(line: &[u8]) -> usize
-    ensures { λ r. ⌜ r ≡ quotes.upTo 35 0 (now (line .entry)) ⌝ }
+    ensures { λ r. ⌜ r ≡ quotes.upTo 35 StringState.Outside (now (line .entry)) ⌝ }
 {
     text::outside(line, b'#')
 }

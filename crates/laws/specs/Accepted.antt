@@ -10,7 +10,7 @@ use lib.ListN.{length, getD, length-map, List·getD-map}
 use Rattle.meaning.specs.Base.{pick, nil?, same}
 use Rattle.meaning.specs.Refusal.{accepted, refused, Fault}
 use Rattle.meaning.specs.Schema.{Chip, Partition, Component, Preset, eraseFor}
-use Rattle.meaning.specs.Verdict.{Verdict, fine, firstRefusal, judged, orElse, long, among, inTurn, behind}
+use Rattle.meaning.specs.Verdict.{Verdict, fine, firstRefusal, judged, orElse, long, among, inTurn, withLast}
 use Rattle.meaning.specs.Layout.{Before, nothingBefore, endOf, passed, nameFault, blockFault, spanFault, partitionFault, startFault, layout}
 use Rattle.meaning.specs.Rules.{partitionNames, given, nameOf, componentName, sourceFault, bootFault, targetFault, reserveFault, componentFault, componentRules, frontRules, featureRules, applicationRules, bootRule, rules}
 use Rattle.laws.specs.Cases.{on, never}
@@ -105,7 +105,7 @@ passes-all P rule next k s (x ∷ xs) h = (k s x (h .0), passes-all P rule next 
 
 -- ---- names, each once
 
--- no name is one of those behind it
+-- no name is one of those after it
 abbrev pub Apart : List (List ℕ) → Type 0
 Apart [] = Unit {0}
 Apart (x ∷ xs) = (among x xs ≡ false) × Apart xs
@@ -113,13 +113,13 @@ Apart (x ∷ xs) = (among x xs ≡ false) × Apart xs
 -- no name is one of those before it, the first of which are given
 abbrev pub Fresh : List (List ℕ) → List (List ℕ) → Type 0
 Fresh earlier [] = Unit {0}
-Fresh earlier (x ∷ xs) = (among x earlier ≡ false) × Fresh (behind earlier x) xs
+Fresh earlier (x ∷ xs) = (among x earlier ≡ false) × Fresh (withLast earlier x) xs
 
 among-more : (x : List ℕ) (ys zs : List (List ℕ)) → among x ys ≡ true → among x (ys ++ zs) ≡ true
 among-more x [] zs e = never e refl
 among-more x (y ∷ ys) zs e = on (same x y) (λ t. rw t) (λ t. rw t (among-more x ys zs (rw t at e)))
 
-among-last : (x : List ℕ) (ys : List (List ℕ)) → among x (behind ys x) ≡ true
+among-last : (x : List ℕ) (ys : List (List ℕ)) → among x (withLast ys x) ≡ true
 among-last x [] = rw (eq-same x x refl)
 among-last x (y ∷ ys) = on (same x y) (λ t. rw t) (λ t. rw t (among-last x ys))
 
@@ -128,15 +128,15 @@ fresh-other earlier [] y h m = refl
 fresh-other earlier (x ∷ xs) y h m =
     on (same y x)
     (λ t. let g : y ≡ x = same-eq y x t in never (rw g at m) (h .0))
-    (λ t. rw t (fresh-other (behind earlier x) xs y (h .1) (among-more y earlier (x ∷ []) m)))
+    (λ t. rw t (fresh-other (withLast earlier x) xs y (h .1) (among-more y earlier (x ∷ []) m)))
 
 pub fresh-apart : (earlier xs : List (List ℕ)) → Fresh earlier xs → Apart xs
 fresh-apart earlier [] h = tt
-fresh-apart earlier (x ∷ xs) h = (fresh-other (behind earlier x) xs x (h .1) (among-last x earlier), fresh-apart (behind earlier x) xs (h .1))
+fresh-apart earlier (x ∷ xs) h = (fresh-other (withLast earlier x) xs x (h .1) (among-last x earlier), fresh-apart (withLast earlier x) xs (h .1))
 
 -- a rule that asks each name to be new leaves names that are each there once
 module _ {X S : Type 0} (rule : S → X → ℕ) (next : S → X → S) (names : S → List (List ℕ)) (name : X → List ℕ)
-    (grows : (s : S) (x : X) → names (next s x) ≡ behind (names s) (name x)) (new : (s : S) (x : X) → rule s x ≡ 0 → among (name x) (names s) ≡ false) where
+    (grows : (s : S) (x : X) → names (next s x) ≡ withLast (names s) (name x)) (new : (s : S) (x : X) → rule s x ≡ 0 → among (name x) (names s) ≡ false) where
   pub passes-fresh : (s : S) (xs : List X) → Passes rule next s xs → Fresh (names s) (map name xs)
   passes-fresh s [] h = tt
   passes-fresh s (x ∷ xs) h = (new s x (h .0), rw (grows s x) at (passes-fresh (next s x) xs (h .1)))
@@ -175,7 +175,7 @@ pub record Sound (block : ℕ) (p : Partition) : Type 0 where
   pub size-block : p .size % block ≡ 0
   pub fits : endOf p < 4294967296
 
--- 47: each starts at or behind the end of the one before it, the first of which is given
+-- 47: each starts at or after the end of the one before it, the first of which is given
 abbrev pub Rising : ℕ → List Partition → Type 0
 Rising end [] = Unit {0}
 Rising end (p ∷ ps) = (end ≤ p .offset) × Rising (endOf p) ps
@@ -430,11 +430,11 @@ module _ (parts earlier : List (List ℕ)) (c : Component) (e : componentFault p
       }
 
 module _ (parts : List (List ℕ)) (cs : List Component) (e : componentRules parts cs ≡ fine) where
-  components-passes : Passes (componentFault parts) (λ earlier d. behind earlier (d .head .name)) [] cs
+  components-passes : Passes (componentFault parts) (λ earlier d. withLast earlier (d .head .name)) [] cs
   unfolding componentRules
   components-passes = go cs e
     where
-      go : (ds : List Component) → componentRules parts ds ≡ fine → Passes (componentFault parts) (λ earlier d. behind earlier (d .head .name)) [] ds
+      go : (ds : List Component) → componentRules parts ds ≡ fine → Passes (componentFault parts) (λ earlier d. withLast earlier (d .head .name)) [] ds
       go [] g = refusal-never _ _ _ g
       go (d ∷ ds) g = fine-passes (componentFault parts) _ _ 0 [] (d ∷ ds) g
 

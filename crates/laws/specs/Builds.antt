@@ -9,23 +9,23 @@ use native.Mathlib.Omega.{arith}
 use lib.ListN.{length, length-append}
 use Rattle.meaning.specs.Base.{pick, nil?, same}
 use Rattle.meaning.specs.Schema.{Component, Application}
-use Rattle.meaning.specs.Verdict.{among, behind}
+use Rattle.meaning.specs.Verdict.{among, withLast}
 use Rattle.meaning.specs.Rules.{Use, use?, twice, usesOf, allUses}
 use Rattle.meaning.specs.Plan.{Build, built?, wanted, wantedBy, firstUses, ahead, composition, inOrder, buildsOf, componentOf}
 use Rattle.laws.specs.Cases.{on, never}
 use Rattle.laws.specs.Order.{same-eq, eq-same}
 use Rattle.laws.specs.Places.{At, In, in-more, in-left, in-right, in-split, map-at, none-some, some-one}
 
--- ---- names behind others
+-- ---- names after others
 
-among-behind : (x y : List ℕ) (ys : List (List ℕ)) → among x (behind ys y) ≡ false → (among x ys ≡ false) × (same x y ≡ false)
+among-behind : (x y : List ℕ) (ys : List (List ℕ)) → among x (withLast ys y) ≡ false → (among x ys ≡ false) × (same x y ≡ false)
 among-behind x y [] e = (refl, on (same x y) (λ t. never {b = true} refl (rw t at e)) (λ t. t))
 among-behind x y (z ∷ ys) e =
     on (same x z)
     (λ t. never {b = true} refl (rw t at e))
     (λ t. let r = among-behind x y ys (rw t at e) in (rw t (r .0), r .1))
 
-behind-among : (x y : List ℕ) (ys : List (List ℕ)) → among x ys ≡ false → same x y ≡ false → among x (behind ys y) ≡ false
+behind-among : (x y : List ℕ) (ys : List (List ℕ)) → among x ys ≡ false → same x y ≡ false → among x (withLast ys y) ≡ false
 behind-among x y [] e g = rw g
 behind-among x y (z ∷ ys) e g = on (same x z) (λ t. never {b = true} refl (rw t at e)) (λ t. rw t (behind-among x y ys (rw t at e) g))
 
@@ -39,7 +39,7 @@ pub record First (bs : List Build) (d : Build) : Type 0 where
 
 module _ (earlier : List (List ℕ)) (b : Build) (bs : List Build) where
   -- the first of these is passed over
-  later : (d : Build) → First bs d × (among (d .pack) (behind earlier (b .pack)) ≡ false) → First (b ∷ bs) d × (among (d .pack) earlier ≡ false)
+  later : (d : Build) → First bs d × (among (d .pack) (withLast earlier (b .pack)) ≡ false) → First (b ∷ bs) d × (among (d .pack) earlier ≡ false)
   later d h =
       let r = among-behind (d .pack) (b .pack) earlier (h .1) in
       (record { place = suc (h .0 .place); here = h .0 .here; first = go (r .1) }, r .0)
@@ -49,8 +49,8 @@ module _ (earlier : List (List ℕ)) (b : Build) (bs : List Build) where
       go n (suc k) e l g p = h .0 .first k e (omega arith) g p
 
   -- or it stands in front
-  front : (d : Build) → ((k : ℕ) → At (firstUses (behind earlier (b .pack)) bs) k d → First bs d × (among (d .pack) (behind earlier (b .pack)) ≡ false))
-      → among (b .pack) earlier ≡ false → (j : ℕ) → At (b ∷ firstUses (behind earlier (b .pack)) bs) j d → First (b ∷ bs) d × (among (d .pack) earlier ≡ false)
+  front : (d : Build) → ((k : ℕ) → At (firstUses (withLast earlier (b .pack)) bs) k d → First bs d × (among (d .pack) (withLast earlier (b .pack)) ≡ false))
+      → among (b .pack) earlier ≡ false → (j : ℕ) → At (b ∷ firstUses (withLast earlier (b .pack)) bs) j d → First (b ∷ bs) d × (among (d .pack) earlier ≡ false)
   front d rest t zero g = (record { place = 0; here = g; first = λ k e l. absurd (omega arith) }, subst (λ (z : Build). among (z .pack) earlier ≡ false) g t)
   front d rest t (suc j) g = later d (rest j g)
 
@@ -58,8 +58,8 @@ pub firsts-first : (earlier : List (List ℕ)) (bs : List Build) (j : ℕ) (d : 
 firsts-first earlier [] j d h = absurd h
 firsts-first earlier (b ∷ bs) j d h =
     on (among (b .pack) earlier)
-    (λ t. later earlier b bs d (firsts-first (behind earlier (b .pack)) bs j d (rw t at h)))
-    (λ t. front earlier b bs d (λ k g. firsts-first (behind earlier (b .pack)) bs k d g) t j (rw t at h))
+    (λ t. later earlier b bs d (firsts-first (withLast earlier (b .pack)) bs j d (rw t at h)))
+    (λ t. front earlier b bs d (λ k g. firsts-first (withLast earlier (b .pack)) bs k d g) t j (rw t at h))
 
 -- each package that is none of the earlier ones' is there
 pub firsts-has : (earlier : List (List ℕ)) (bs : List Build) (i : ℕ) (b : Build) → At bs i b → among (b .pack) earlier ≡ false
@@ -71,7 +71,7 @@ firsts-has earlier (x ∷ bs) zero b h n =
 firsts-has earlier (x ∷ bs) (suc i) b h n =
     on (same (b .pack) (x .pack))
     (λ t. let e : b .pack ≡ x .pack = same-eq (b .pack) (x .pack) t in rw (subst (λ (z : List ℕ). among z earlier ≡ false) e n) (0, x, refl, sym e))
-    (λ t. let r = firsts-has (behind earlier (x .pack)) bs i b h (behind-among (b .pack) (x .pack) earlier n t) in
+    (λ t. let r = firsts-has (withLast earlier (x .pack)) bs i b h (behind-among (b .pack) (x .pack) earlier n t) in
     on (among (x .pack) earlier) (λ u. rw u r) (λ u. rw u (suc (r .0), r .1, r .2, r .3)))
 
 -- and once
@@ -79,15 +79,15 @@ pub firsts-one : (earlier : List (List ℕ)) (bs : List Build) (i j : ℕ) (d e 
 firsts-one earlier [] i j d e h g p = absurd h
 firsts-one earlier (b ∷ bs) i j d e h g p =
     on (among (b .pack) earlier)
-    (λ t. firsts-one (behind earlier (b .pack)) bs i j d e (rw t at h) (rw t at g) p)
-    (λ t. go (λ k l a c. firsts-one (behind earlier (b .pack)) bs k l d e a c p) i j (rw t at h) (rw t at g))
+    (λ t. firsts-one (withLast earlier (b .pack)) bs i j d e (rw t at h) (rw t at g) p)
+    (λ t. go (λ k l a c. firsts-one (withLast earlier (b .pack)) bs k l d e a c p) i j (rw t at h) (rw t at g))
   where
-    other : (x y : Build) (k : ℕ) → b ≡ x → At (firstUses (behind earlier (b .pack)) bs) k y → x .pack ≡ y .pack → ⊥
+    other : (x y : Build) (k : ℕ) → b ≡ x → At (firstUses (withLast earlier (b .pack)) bs) k y → x .pack ≡ y .pack → ⊥
     other x y k a c q =
-        never (eq-same (y .pack) (b .pack) (sym q ∙ ap (λ (z : Build). z .pack) (sym a))) (among-behind (y .pack) (b .pack) earlier (firsts-first (behind earlier (b .pack)) bs k y c .1) .1)
+        never (eq-same (y .pack) (b .pack) (sym q ∙ ap (λ (z : Build). z .pack) (sym a))) (among-behind (y .pack) (b .pack) earlier (firsts-first (withLast earlier (b .pack)) bs k y c .1) .1)
 
-    go : ((k l : ℕ) → At (firstUses (behind earlier (b .pack)) bs) k d → At (firstUses (behind earlier (b .pack)) bs) l e → k ≡ l)
-        → (k l : ℕ) → At (b ∷ firstUses (behind earlier (b .pack)) bs) k d → At (b ∷ firstUses (behind earlier (b .pack)) bs) l e → k ≡ l
+    go : ((k l : ℕ) → At (firstUses (withLast earlier (b .pack)) bs) k d → At (firstUses (withLast earlier (b .pack)) bs) l e → k ≡ l)
+        → (k l : ℕ) → At (b ∷ firstUses (withLast earlier (b .pack)) bs) k d → At (b ∷ firstUses (withLast earlier (b .pack)) bs) l e → k ≡ l
     go rest zero zero a c = refl
     go rest zero (suc l) a c = absurd (other d e l a c p)
     go rest (suc k) zero a c = absurd (other e d k c a (sym p))
@@ -96,7 +96,7 @@ firsts-one earlier (b ∷ bs) i j d e h g p =
 pub firsts-length : (earlier : List (List ℕ)) (bs : List Build) → length (firstUses earlier bs) ≤ length bs
 firsts-length earlier [] = omega arith
 firsts-length earlier (b ∷ bs) =
-    let h = firsts-length (behind earlier (b .pack)) bs in
+    let h = firsts-length (withLast earlier (b .pack)) bs in
     on (among (b .pack) earlier) (λ t. rw t (omega (arith, h))) (λ t. rw t (omega (arith, h)))
 
 -- ---- what components want
@@ -254,9 +254,9 @@ all-length : (cs : List Component) → length (wantedBy cs) ≤ 2 * length cs
 all-length [] = omega arith
 all-length (c ∷ cs) = omega (arith, length-append (wanted c) (wantedBy cs), wanted-length c, all-length cs)
 
-last-length : (cs : List Component) (c : Component) → length (wantedBy (behind cs c)) ≡ length (wantedBy cs) + length (wanted c)
+last-length : (cs : List Component) (c : Component) → length (wantedBy (withLast cs c)) ≡ length (wantedBy cs) + length (wanted c)
 last-length [] c = omega (arith, length-append (wanted c) [])
-last-length (d ∷ cs) c = omega (arith, length-append (wanted d) (wantedBy cs), length-append (wanted d) (wantedBy (behind cs c)), last-length cs c)
+last-length (d ∷ cs) c = omega (arith, length-append (wanted d) (wantedBy cs), length-append (wanted d) (wantedBy (withLast cs c)), last-length cs c)
 
 application-length : (x : Application) → length (wanted (componentOf x)) ≤ 1
 unfolding wanted componentOf
@@ -266,4 +266,4 @@ application-length x = omega arith
 pub builds-length : (a : Option Application) (cs : List Component) → length (buildsOf a cs) ≤ 2 * length cs + 1
 unfolding buildsOf inOrder
 builds-length none cs = omega (arith, firsts-length [] (wantedBy cs), all-length cs)
-builds-length (some x) cs = omega (arith, firsts-length [] (wantedBy (behind cs (componentOf x))), last-length cs (componentOf x), all-length cs, application-length x)
+builds-length (some x) cs = omega (arith, firsts-length [] (wantedBy (withLast cs (componentOf x))), last-length cs (componentOf x), all-length cs, application-length x)

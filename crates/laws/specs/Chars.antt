@@ -12,7 +12,7 @@ use Rattle.laws.specs.Cases.{on, picked, never, between-no, between-low,
 
 -- ---- rows of the ABNF
 
--- every byte behind the first is a tail
+-- every byte after the first is a tail
 abbrev Tails : List Range → Type 0
 Tails [] = Unit
 Tails (r ∷ rs) = (0x80 ≤ r .low) × (r .high ≤ 0xbf) × Tails rs

@@ -10,13 +10,13 @@ use Rattle.meaning.specs.declared.Limits.{Limits}
 use Rattle.meaning.specs.Base.{nil?, final, concat}
 use Rattle.meaning.specs.Refusal.{R, ok, bad, Answer, accepted, refused, acceptedThen}
 use Rattle.meaning.specs.Reading.{Grown, grown, stuck, Got, got, failed, growThen, growMap, storing, adding, gotThen, gotMap, okThenGot, growThenGot, make}
-use Rattle.meaning.specs.Tree.{Value, Items, Table, str, array, table, none′, item, empty, Grow, lookup, insert, snoc, hang, down, toLast, known, stands, within, inLast, atArray, atKey, underLast, put, enter, orMake, ensure, pushTo, addTo, pushOne, push, assign, asTable, asArray, seen}
+use Rattle.meaning.specs.Tree.{Value, Items, Table, str, array, table, none′, item, empty, Grow, lookup, insert, snoc, withTable, alongPath, toLastSegment, mustExist, mustBeTable, inTable, inLastItem, atArray, atExisting, atLastItem, putValue, tableOrNew, orMake, openTables, pushTo, addTo, pushOne, push, assign, asTable, asArray, readAs}
 use Rattle.meaning.specs.Keys.{keys}
 use Rattle.meaning.specs.Space.{trim}
 use Rattle.meaning.specs.Values.{Reader, each, aString, aPlain, one, anArray, brackets, value, stringOf, plain, itemsOf}
 use Rattle.meaning.specs.Lines.{Line, joined}
 use Rattle.meaning.specs.Utf8.{valid}
-use Rattle.meaning.specs.Document.{Doc, Under, tables, arrays, Form, pushes, heads, sets, neither, form, here, setting, act, lines, document, Parsed, reading, behind}
+use Rattle.meaning.specs.Document.{Doc, Under, tables, arrays, Form, pushes, heads, sets, neither, form, underHeader, assignment, readForm, readLines, document, Parsed, lineThen, storedFirst}
 use Rattle.laws.specs.Cases.{on}
 use Rattle.laws.specs.Fits.{Within}
 
@@ -69,12 +69,12 @@ module _ (limit : ℕ) where
   abbrev Keeps : {X : Type 0} → Grow X → Type 0
   Keeps g = (m : ℕ) → m ≤ limit → Grows (g m)
 
-  stands-to : (o : Option Table) → Keeps (stands o)
+  stands-to : (o : Option Table) → Keeps (mustBeTable o)
   stands-to none m h = tt
   stands-to (some u) m h = h
 
-  known-to : (o : Option Value) → Keeps (known o)
-  unfolding known
+  known-to : (o : Option Value) → Keeps (mustExist o)
+  unfolding mustExist
   known-to none m h = tt
   known-to (some v) m h = stands-to (asTable v) m h
 
@@ -82,9 +82,9 @@ module _ (limit : ℕ) where
   orMake-to none m h = make-to empty m
   orMake-to (some u) m h = h
 
-  enter-to : (o : Option Value) → Keeps (enter limit o)
-  unfolding enter
-  enter-to o m h = orMake-to (seen asTable o) m h
+  enter-to : (o : Option Value) → Keeps (tableOrNew limit o)
+  unfolding tableOrNew
+  enter-to o m h = orMake-to (readAs asTable o) m h
 
   addTo-to : (o : Option Items) → Keeps (addTo limit o)
   addTo-to none m h = tt
@@ -96,48 +96,48 @@ module _ (limit : ℕ) where
   pushTo-to (some v) m h = addTo-to (asArray v) m h
 
   module _ (step : Option Value → Grow Table) (keeps : (o : Option Value) → Keeps (step o)) where
-    down-to : (f : Table → Grow Table) → ((t : Table) → Keeps (f t)) → (p : List (List ℕ)) (t : Table) → Keeps (down step f p t)
+    down-to : (f : Table → Grow Table) → ((t : Table) → Keeps (f t)) → (p : List (List ℕ)) (t : Table) → Keeps (alongPath step f p t)
     down-to f h [] t m l = h t m l
     down-to f h (k ∷ ks) t m l =
-        then-to (step (lookup t k) m) _ (keeps (lookup t k) m l) (λ u n j. turn-to (hang t k) (down step f ks u n) (down-to f h ks u n j))
+        then-to (step (lookup t k) m) _ (keeps (lookup t k) m l) (λ u n j. turn-to (withTable t k) (alongPath step f ks u n) (down-to f h ks u n j))
 
-    toLast-to : (f : List ℕ → Table → Grow Table) → ((k : List ℕ) (t : Table) → Keeps (f k t)) → (p : List (List ℕ)) (t : Table) → Keeps (toLast step f p t)
+    toLast-to : (f : List ℕ → Table → Grow Table) → ((k : List ℕ) (t : Table) → Keeps (f k t)) → (p : List (List ℕ)) (t : Table) → Keeps (toLastSegment step f p t)
     toLast-to f h [] t m l = tt
     toLast-to f h (k ∷ []) t m l = h k t m l
     toLast-to f h (k ∷ j ∷ ks) t m l =
-        then-to (step (lookup t k) m) _ (keeps (lookup t k) m l) (λ u n i. turn-to (hang t k) (toLast step f (j ∷ ks) u n) (toLast-to f h (j ∷ ks) u n i))
+        then-to (step (lookup t k) m) _ (keeps (lookup t k) m l) (λ u n i. turn-to (withTable t k) (toLastSegment step f (j ∷ ks) u n) (toLast-to f h (j ∷ ks) u n i))
 
   module _ (f : Table → Grow Table) (keeps : (t : Table) → Keeps (f t)) where
-    within-to : (o : Option Table) → Keeps (within f o)
+    within-to : (o : Option Table) → Keeps (inTable f o)
     within-to none m h = tt
     within-to (some t) m h = turn-to table (f t m) (keeps t m h)
 
-    inLast-to : (a : Items) → Keeps (inLast f a)
+    inLast-to : (a : Items) → Keeps (inLastItem f a)
     inLast-to none′ m h = tt
-    inLast-to (item v none′) m h = turn-to (λ w. item w none′) (within f (asTable v) m) (within-to (asTable v) m h)
-    inLast-to (item v (item w is)) m h = turn-to (item v) (inLast f (item w is) m) (inLast-to (item w is) m h)
+    inLast-to (item v none′) m h = turn-to (λ w. item w none′) (inTable f (asTable v) m) (within-to (asTable v) m h)
+    inLast-to (item v (item w is)) m h = turn-to (item v) (inLastItem f (item w is) m) (inLast-to (item w is) m h)
 
     atArray-to : (k : List ℕ) (t : Table) (o : Option Items) → Keeps (atArray f k t o)
     atArray-to k t none m h = tt
-    atArray-to k t (some a) m h = turn-to (λ b. insert t k (array b)) (inLast f a m) (inLast-to a m h)
+    atArray-to k t (some a) m h = turn-to (λ b. insert t k (array b)) (inLastItem f a m) (inLast-to a m h)
 
-    atKey-to : (k : List ℕ) (t : Table) (o : Option Value) → Keeps (atKey f k t o)
+    atKey-to : (k : List ℕ) (t : Table) (o : Option Value) → Keeps (atExisting f k t o)
     atKey-to k t none m h = tt
     atKey-to k t (some v) m h = atArray-to k t (asArray v) m h
 
-    here-to : (u : Under) (t : Table) → Keeps (here u f t)
-    here-to (tables p) t m h = down-to known known-to f keeps p t m h
-    here-to (arrays p) t m h = toLast-to known known-to (underLast f) (λ k u n l. atKey-to k u (lookup u k) n l) p t m h
+    here-to : (u : Under) (t : Table) → Keeps (underHeader u f t)
+    here-to (tables p) t m h = down-to mustExist known-to f keeps p t m h
+    here-to (arrays p) t m h = toLast-to mustExist known-to (atLastItem f) (λ k u n l. atKey-to k u (lookup u k) n l) p t m h
 
   assign-to : (p : List (List ℕ)) (v : Value) (t : Table) → Keeps (assign limit p v t)
-  assign-to p v t m h = toLast-to (enter limit) enter-to (put v) (λ k u n l. l) p t m h
+  assign-to p v t m h = toLast-to (tableOrNew limit) enter-to (putValue v) (λ k u n l. l) p t m h
 
   push-to : (p : List (List ℕ)) (t : Table) → Keeps (push limit p t)
   push-to p t m h =
-      toLast-to (enter limit) enter-to (pushOne limit) (λ k u n l. turn-to (λ a. insert u k (array a)) (pushTo limit (lookup u k) n) (pushTo-to (lookup u k) n l)) p t m h
+      toLast-to (tableOrNew limit) enter-to (pushOne limit) (λ k u n l. turn-to (λ a. insert u k (array a)) (pushTo limit (lookup u k) n) (pushTo-to (lookup u k) n l)) p t m h
 
-  ensure-to : (p : List (List ℕ)) (t : Table) → Keeps (ensure limit p t)
-  ensure-to p t m h = down-to (enter limit) enter-to grown (λ u n l. l) p t m h
+  ensure-to : (p : List (List ℕ)) (t : Table) → Keeps (openTables limit p t)
+  ensure-to p t m h = down-to (tableOrNew limit) enter-to grown (λ u n l. l) p t m h
 
   -- ---- values
 
@@ -174,40 +174,40 @@ abbrev pub counted : Parsed → ℕ
 counted r = r .made
 
 module _ (lim : Limits) where
-  act-to : (f : Form) (d : Doc) (m : ℕ) → m ≤ lim .values → Gets (lim .values) (act lim f d m)
-  unfolding act setting
+  act-to : (f : Form) (d : Doc) (m : ℕ) → m ≤ lim .values → Gets (lim .values) (readForm lim f d m)
+  unfolding readForm assignment
   act-to (pushes k) d m h =
       having-to (lim .values) (keys (lim .segments) k) _
       (λ p. storing-to (lim .values) (concat p) (growMap (λ t. record { root = t; under = arrays p }) (push (lim .values) p (d .root) m))
       (turn-to (lim .values) (λ t. record { root = t; under = arrays p }) (push (lim .values) p (d .root) m) (push-to (lim .values) p (d .root) m h)))
   act-to (heads k) d m h =
       having-to (lim .values) (keys (lim .segments) k) _
-      (λ p. storing-to (lim .values) (concat p) (growMap (λ t. record { root = t; under = tables p }) (ensure (lim .values) p (d .root) m))
-      (turn-to (lim .values) (λ t. record { root = t; under = tables p }) (ensure (lim .values) p (d .root) m) (ensure-to (lim .values) p (d .root) m h)))
+      (λ p. storing-to (lim .values) (concat p) (growMap (λ t. record { root = t; under = tables p }) (openTables (lim .values) p (d .root) m))
+      (turn-to (lim .values) (λ t. record { root = t; under = tables p }) (openTables (lim .values) p (d .root) m) (ensure-to (lim .values) p (d .root) m h)))
   act-to (sets k v) d m h =
       on (nil? (trim k)) (λ e. rw e tt)
       (λ e. rw e (onward-to (lim .values) (value (lim .values) (lim .arrays) v m) _ (value-to (lim .values) (lim .arrays) v m h)
       (λ x n j. having-to (lim .values) (keys (lim .segments) (trim k)) _
-      (λ p. storing-to (lim .values) (concat p) (growMap (λ t. record { root = t; under = d .under }) (here (d .under) (assign (lim .values) p x) (d .root) n))
-      (turn-to (lim .values) (λ t. record { root = t; under = d .under }) (here (d .under) (assign (lim .values) p x) (d .root) n)
+      (λ p. storing-to (lim .values) (concat p) (growMap (λ t. record { root = t; under = d .under }) (underHeader (d .under) (assign (lim .values) p x) (d .root) n))
+      (turn-to (lim .values) (λ t. record { root = t; under = d .under }) (underHeader (d .under) (assign (lim .values) p x) (d .root) n)
       (here-to (lim .values) (assign (lim .values) p x) (λ t. assign-to (lim .values) p x t) (d .under) (d .root) n j))))))
   act-to neither d m h = tt
 
-  behind-to : (bs : List ℕ) (a : Answer Parsed) → Within counted (lim .values) a → Within counted (lim .values) (behind bs a)
+  behind-to : (bs : List ℕ) (a : Answer Parsed) → Within counted (lim .values) a → Within counted (lim .values) (storedFirst bs a)
   behind-to bs (accepted r) h = h
   behind-to bs (refused e s p) h = tt
 
   reading-to : (at : ℕ) (g : Got Doc) (f : Doc → ℕ → Answer Parsed) → Gets (lim .values) g → ((e : Doc) (m : ℕ) → m ≤ lim .values → Within counted (lim .values) (f e m))
-      → Within counted (lim .values) (reading at g f)
+      → Within counted (lim .values) (lineThen at g f)
   reading-to at (got e bs m) f h s = behind-to bs (f e m) (s e m h)
   reading-to at (failed e) f h s = tt
 
-  lines-to : (d : Doc) (ls : List Line) (m : ℕ) → m ≤ lim .values → Within counted (lim .values) (lines lim d ls m)
+  lines-to : (d : Doc) (ls : List Line) (m : ℕ) → m ≤ lim .values → Within counted (lim .values) (readLines lim d ls m)
   lines-to d [] m h = h
   lines-to d (l ∷ ls) m h =
-      reading-to (l .at) (act lim (form (trim (l .text))) d m) _ (act-to (form (trim (l .text))) d m h) (λ e n j. lines-to e ls n j)
+      reading-to (l .at) (readForm lim (form (trim (l .text))) d m) _ (act-to (form (trim (l .text))) d m h) (λ e n j. lines-to e ls n j)
 
-  lines-of : (a : Answer (List Line)) → Within counted (lim .values) (acceptedThen a (λ ls. lines lim (record { root = empty; under = tables [] }) ls 0))
+  lines-of : (a : Answer (List Line)) → Within counted (lim .values) (acceptedThen a (λ ls. readLines lim (record { root = empty; under = tables [] }) ls 0))
   lines-of (accepted ls) = lines-to (record { root = empty; under = tables [] }) ls 0 (omega arith)
   lines-of (refused e s p) = tt
 

@@ -14,27 +14,30 @@ use Rattle.meaning.specs.declared.Act.the-variants.{End, Fault, Hold, Put}
 use Rattle.meaning.specs.Base.{cut, split, onFirst, nil?, final, concat}
 use Rattle.meaning.specs.Refusal.{R, ok, bad, okThen, Answer, accepted, refused, acceptedThen}
 use Rattle.meaning.specs.Reading.{Grown, grown, stuck, Got, got, failed, growMap, storing, adding, gotThen, gotMap, okThenGot, growThenGot, make}
-use Rattle.meaning.specs.Tree.{Value, str, array, none′, item, empty, assign, push, ensure}
+use Rattle.meaning.specs.Tree.{Value, str, array, none′, item, empty, assign, push, openTables}
 use Rattle.meaning.specs.Keys.{keys, segments, segment, quoted, nonempty}
 use Rattle.meaning.specs.Space.{trim, blank}
 use Rattle.meaning.specs.Values.{Reader, each, aString, aPlain, one, anArray, brackets, value, stringOf, plain, itemsOf, nonblank, parts?}
+use Rattle.meaning.specs.declared.StringState.the-variants.{Outside}
 use Rattle.meaning.specs.Quote.{fresh, scan, step, upTo}
-use Rattle.meaning.specs.Strings.{Said, Ending, closed as shut, escape, unended, decode, go, byEnd, act as actOf}
+use Rattle.meaning.specs.declared.StringByte.{StringByte}
+use Rattle.meaning.specs.declared.StringByte.the-variants.{Plain, AfterBackslash}
+use Rattle.meaning.specs.Strings.{Said, Ending, closed as shut, escape, unended, decode, byAct, ifEnded, actOf}
 use Rattle.meaning.specs.Lines.{Line, Pending, closed, open′, Step, settle, fate, joinOne, join, joined, kept, keptLines, physical, ended, dropCr, atClose}
 use Rattle.meaning.specs.Utf8.{valid}
-use Rattle.meaning.specs.Document.{Doc, tables, arrays, Form, pushes, heads, sets, neither, form, here, setting, act, lines, document, Parsed, reading}
+use Rattle.meaning.specs.Document.{Doc, tables, arrays, Form, pushes, heads, sets, neither, form, underHeader, assignment, readForm, readLines, document, Parsed, lineThen}
 use Rattle.laws.specs.Cases.{on}
 use Rattle.laws.specs.Trim.{whiteAt, whiteEnd, forwards, backwards, on-bytes}
 
 -- ---- strings
 
-go-fits : (n st : ℕ) (a : Act) (f : ℕ → Said) → ((t : ℕ) → length (f t .bytes) ≤ n) → length (go st a f .bytes) ≤ suc n
+go-fits : (n : ℕ) (st : StringByte) (a : Act) (f : StringByte → Said) → ((t : StringByte) → length (f t .bytes) ≤ n) → length (byAct st a f .bytes) ≤ suc n
 go-fits n st End f h = omega arith
 go-fits n st Fault f h = omega arith
-go-fits n st (Put c) f h = omega (arith, h 0)
-go-fits n st Hold f h = omega (arith, h 1)
+go-fits n st (Put c) f h = omega (arith, h Plain)
+go-fits n st Hold f h = omega (arith, h AfterBackslash)
 
-decode-fits : (st : ℕ) (s : List ℕ) → length (decode st s .bytes) ≤ length s
+decode-fits : (st : StringByte) (s : List ℕ) → length (decode st s .bytes) ≤ length s
 decode-fits st [] = omega arith
 decode-fits st (b ∷ s) = go-fits (length s) st (actOf st b) (λ t. decode t s) (λ t. decode-fits t s)
 
@@ -110,7 +113,7 @@ weaker : (a : R (List ℕ)) (n m : ℕ) → n ≤ m → FitsR length n a → Fit
 weaker (ok x) n m h g = omega arith
 weaker (bad e) n m h g = tt
 
-by-end-fits : (e : Ending) (r : R (List ℕ)) (n : ℕ) → FitsR length n r → FitsR length n (byEnd e r)
+by-end-fits : (e : Ending) (r : R (List ℕ)) (n : ℕ) → FitsR length n r → FitsR length n (ifEnded e r)
 by-end-fits shut r n h = h
 by-end-fits escape r n h = tt
 by-end-fits unended r n h = tt
@@ -118,9 +121,9 @@ by-end-fits unended r n h = tt
 quoted-fits : (r : List ℕ) → FitsR length (length r) (quoted r)
 unfolding quoted
 quoted-fits r =
-    by-end-fits (decode 0 r .how) _ (length r)
+    by-end-fits (decode Plain r .how) _ (length r)
     (on (eqb (final r) 34)
-    (λ e. rw e (weaker (nonempty (decode 0 r .bytes)) (length (decode 0 r .bytes)) (length r) (decode-fits 0 r) (nonempty-fits (decode 0 r .bytes))))
+    (λ e. rw e (weaker (nonempty (decode Plain r .bytes)) (length (decode Plain r .bytes)) (length r) (decode-fits Plain r) (nonempty-fits (decode Plain r .bytes))))
     (λ e. rw e tt))
 
 segment-fits : (s : List ℕ) → FitsR length (length s) (segment s)
@@ -192,7 +195,7 @@ module _ (limit : ℕ) where
   stringOf-fits : (s : List ℕ) → FitsR length (length s) (stringOf s)
   unfolding stringOf
   stringOf-fits s =
-      by-end-fits (decode 0 s .how) _ (length s) (on (blank (drop (decode 0 s .span) s)) (λ e. rw e (decode-fits 0 s)) (λ e. rw e tt))
+      by-end-fits (decode Plain s .how) _ (length s) (on (blank (drop (decode Plain s .span) s)) (λ e. rw e (decode-fits Plain s)) (λ e. rw e tt))
 
   string-fits : (s : List ℕ) (m : ℕ) → Fits (length s) (aString limit s m)
   unfolding aString
@@ -254,35 +257,35 @@ halves-fit i l = simp (length-take, length-drop) (omega arith)
 form-fits : (l : List ℕ) → read (form l) ≤ length l
 unfolding form
 form-fits l =
-    on (Rattle.meaning.specs.Document.double l) (λ e. rw e (inner-fits (length l - 4) 2 l))
-    (λ e. rw e (on (Rattle.meaning.specs.Document.single l) (λ f. rw f (inner-fits (length l - 2) 1 l))
-    (λ f. rw f (on (ltb (upTo 61 0 l) (length l)) (λ g. rw g (halves-fit (upTo 61 0 l) l)) (λ g. rw g (omega arith))))))
+    on (Rattle.meaning.specs.Document.arrayHeader l) (λ e. rw e (inner-fits (length l - 4) 2 l))
+    (λ e. rw e (on (Rattle.meaning.specs.Document.tableHeader l) (λ f. rw f (inner-fits (length l - 2) 1 l))
+    (λ f. rw f (on (ltb (upTo 61 Outside l) (length l)) (λ g. rw g (halves-fit (upTo 61 Outside l) l)) (λ g. rw g (omega arith))))))
 
 module _ (lim : Limits) where
   path-fits : (s : List ℕ) (a : R (List (List ℕ))) (f : List (List ℕ) → Grown Doc) → FitsR bytesIn (length s) a → Fits (length s) (okThenGot a (λ p. storing (concat p) (f p)))
   path-fits s (ok p) f h = stored-fits (length s) (concat p) (f p) h
   path-fits s (bad e) f h = tt
 
-  setting-fits : (k v : List ℕ) (d : Doc) (m : ℕ) → Fits (length v + length k) (setting lim k v d m)
-  unfolding setting
+  setting-fits : (k v : List ℕ) (d : Doc) (m : ℕ) → Fits (length v + length k) (assignment lim k v d m)
+  unfolding assignment
   setting-fits k v d m =
       on (nil? k) (λ e. rw e tt)
       (λ e. rw e (onward-fits (length v) (length k) (value (lim .values) (lim .arrays) v m) _ (value-fits (lim .values) (lim .arrays) v m)
-      (λ x n. path-fits k (keys (lim .segments) k) (λ p. growMap (λ t. record { root = t; under = d .under }) (here (d .under) (assign (lim .values) p x) (d .root) n))
+      (λ x n. path-fits k (keys (lim .segments) k) (λ p. growMap (λ t. record { root = t; under = d .under }) (underHeader (d .under) (assign (lim .values) p x) (d .root) n))
       (keys-fit (lim .segments) k))))
 
-  act-fits : (f : Form) (d : Doc) (m : ℕ) → Fits (read f) (act lim f d m)
-  unfolding act
+  act-fits : (f : Form) (d : Doc) (m : ℕ) → Fits (read f) (readForm lim f d m)
+  unfolding readForm
   act-fits (pushes k) d m =
       path-fits k (keys (lim .segments) k) (λ p. growMap (λ t. record { root = t; under = arrays p }) (push (lim .values) p (d .root) m)) (keys-fit (lim .segments) k)
   act-fits (heads k) d m =
-      path-fits k (keys (lim .segments) k) (λ p. growMap (λ t. record { root = t; under = tables p }) (ensure (lim .values) p (d .root) m)) (keys-fit (lim .segments) k)
+      path-fits k (keys (lim .segments) k) (λ p. growMap (λ t. record { root = t; under = tables p }) (openTables (lim .values) p (d .root) m)) (keys-fit (lim .segments) k)
   act-fits (sets k v) d m =
-      grow (setting lim (trim k) v d m) (length v + length (trim k)) (length k + length v) (omega (arith, trim-fits k)) (setting-fits (trim k) v d m)
+      grow (assignment lim (trim k) v d m) (length v + length (trim k)) (length k + length v) (omega (arith, trim-fits k)) (setting-fits (trim k) v d m)
   act-fits neither d m = tt
 
-  line-fits : (l : List ℕ) (d : Doc) (m : ℕ) → Fits (length l) (act lim (form (trim l)) d m)
-  line-fits l d m = grow (act lim (form (trim l)) d m) (read (form (trim l))) (length l) (omega (arith, form-fits (trim l), trim-fits l)) (act-fits (form (trim l)) d m)
+  line-fits : (l : List ℕ) (d : Doc) (m : ℕ) → Fits (length l) (readForm lim (form (trim l)) d m)
+  line-fits l d m = grow (readForm lim (form (trim l)) d m) (read (form (trim l))) (length l) (omega (arith, form-fits (trim l), trim-fits l)) (act-fits (form (trim l)) d m)
 
 -- an accepted answer whose measure f is at most n
 abbrev pub Within : {X : Type 0} → (X → ℕ) → ℕ → Answer X → Type 0
@@ -296,20 +299,20 @@ abbrev texts : List Line → ℕ
 texts [] = 0
 texts (l ∷ ls) = length (l .text) + texts ls
 
-behind-fits : (n k : ℕ) (bs : List ℕ) (a : Answer Parsed) → length bs ≤ n → Within stored k a → Within stored (n + k) (Rattle.meaning.specs.Document.behind bs a)
+behind-fits : (n k : ℕ) (bs : List ℕ) (a : Answer Parsed) → length bs ≤ n → Within stored k a → Within stored (n + k) (Rattle.meaning.specs.Document.storedFirst bs a)
 behind-fits n k bs (accepted r) h g = simp length-append (omega arith)
 behind-fits n k bs (refused e s p) h g = tt
 
-reading-fits : (at n k : ℕ) (g : Got Doc) (f : Doc → ℕ → Answer Parsed) → Fits n g → ((e : Doc) (m : ℕ) → Within stored k (f e m)) → Within stored (n + k) (reading at g f)
+reading-fits : (at n k : ℕ) (g : Got Doc) (f : Doc → ℕ → Answer Parsed) → Fits n g → ((e : Doc) (m : ℕ) → Within stored k (f e m)) → Within stored (n + k) (lineThen at g f)
 reading-fits at n k (got e bs m) f h s = behind-fits n k bs (f e m) h (s e m)
 reading-fits at n k (failed e) f h s = tt
 
-lines-fit : (lim : Limits) (d : Doc) (ls : List Line) (m : ℕ) → Within stored (texts ls) (lines lim d ls m)
+lines-fit : (lim : Limits) (d : Doc) (ls : List Line) (m : ℕ) → Within stored (texts ls) (readLines lim d ls m)
 lines-fit lim d [] m = omega arith
 lines-fit lim d (l ∷ ls) m =
-    reading-fits (l .at) (length (l .text)) (texts ls) (act lim (form (trim (l .text))) d m) _ (line-fits lim (l .text) d m) (λ e n. lines-fit lim e ls n)
+    reading-fits (l .at) (length (l .text)) (texts ls) (readForm lim (form (trim (l .text))) d m) _ (line-fits lim (l .text) d m) (λ e n. lines-fit lim e ls n)
 
--- each line with the LF behind it
+-- each line with the LF after it
 abbrev ends-in : List Line → ℕ
 ends-in [] = 0
 ends-in (l ∷ ls) = length (l .text) + 1 + ends-in ls
@@ -357,7 +360,7 @@ step-fits k w (refused e x y) f h g = tt
 
 kept-fits : (l : List ℕ) → length (kept l) ≤ length l
 unfolding kept
-kept-fits l = take-fits (upTo 35 0 l) l
+kept-fits l = take-fits (upTo 35 Outside l) l
 
 close-fits : (p : Pending) → Within ends-in (held p + 0) (atClose p)
 close-fits closed = omega arith
@@ -409,9 +412,9 @@ texts-fit (l ∷ ls) n h = omega (arith, less ls)
     less [] = omega arith
     less (k ∷ ks) = omega (arith, less ks)
 
-lines-in : (lim : Limits) (n : ℕ) (a : Answer (List Line)) → Within ends-in (n + 1) a → Within stored n (acceptedThen a (λ ls. lines lim (record { root = empty; under = tables [] }) ls 0))
+lines-in : (lim : Limits) (n : ℕ) (a : Answer (List Line)) → Within ends-in (n + 1) a → Within stored n (acceptedThen a (λ ls. readLines lim (record { root = empty; under = tables [] }) ls 0))
 lines-in lim n (accepted ls) h =
-    within-more stored (texts ls) n (lines lim (record { root = empty; under = tables [] }) ls 0) (texts-fit ls n h) (lines-fit lim (record { root = empty; under = tables [] }) ls 0)
+    within-more stored (texts ls) n (readLines lim (record { root = empty; under = tables [] }) ls 0) (texts-fit ls n h) (lines-fit lim (record { root = empty; under = tables [] }) ls 0)
 lines-in lim n (refused e s p) h = tt
 
 -- what a text adds to the store is no longer than the text

@@ -15,7 +15,7 @@ use Rattle.meaning.specs.Refusal.{accepted, acceptedThen}
 use Rattle.meaning.specs.Tree.{Table}
 use Rattle.meaning.specs.Utf8.{valid}
 use Rattle.meaning.specs.Schema.{Chip, Media, Kind, d13x, d21x, spiNor, spiNand, kindApp, kindPbp, kindRaw, chipWord, mediaWord, kindWord, Partition, Component, Application, Preset}
-use Rattle.meaning.specs.Verdict.{fine, among, long, behind}
+use Rattle.meaning.specs.Verdict.{fine, among, long, withLast}
 use Rattle.meaning.specs.Rules.{applicationFault, applicationRules, partitionNames, rules}
 use Rattle.meaning.specs.Document.{Parsed, document, inRooms}
 use Rattle.meaning.specs.Records.{lentName, presetOf}
@@ -38,15 +38,15 @@ abbrev tens : ℕ → ℕ
 tens zero = 1
 tens (suc k) = 10 * tens k
 
-digits-most : (left n : ℕ) (behind : List ℕ) → length (digits left n behind) ≤ suc left + length behind
-digits-most zero n behind = omega arith
-digits-most (suc left) n behind = on (ltb n 10) (λ e. rw e (omega arith)) (λ e. rw e (omega (arith, digits-most left (n / 10) ((48 + n % 10) ∷ behind))))
+digits-most : (left n : ℕ) (withLast : List ℕ) → length (digits left n withLast) ≤ suc left + length withLast
+digits-most zero n withLast = omega arith
+digits-most (suc left) n withLast = on (ltb n 10) (λ e. rw e (omega arith)) (λ e. rw e (omega (arith, digits-most left (n / 10) ((48 + n % 10) ∷ withLast))))
 
-digits-short : (left k n : ℕ) (behind : List ℕ) → n < tens (suc k) → length (digits left n behind) ≤ suc k + length behind
-digits-short zero k n behind h = omega arith
-digits-short (suc left) zero n behind h = on (ltb n 10) (λ e. rw e (omega arith)) (λ e. absurd (omega (arith, ltb-false n 10 e)))
-digits-short (suc left) (suc k) n behind h =
-    on (ltb n 10) (λ e. rw e (omega arith)) (λ e. rw e (omega (arith, digits-short left k (n / 10) ((48 + n % 10) ∷ behind) (omega arith))))
+digits-short : (left k n : ℕ) (withLast : List ℕ) → n < tens (suc k) → length (digits left n withLast) ≤ suc k + length withLast
+digits-short zero k n withLast h = omega arith
+digits-short (suc left) zero n withLast h = on (ltb n 10) (λ e. rw e (omega arith)) (λ e. absurd (omega (arith, ltb-false n 10 e)))
+digits-short (suc left) (suc k) n withLast h =
+    on (ltb n 10) (λ e. rw e (omega arith)) (λ e. rw e (omega (arith, digits-short left k (n / 10) ((48 + n % 10) ∷ withLast) (omega arith))))
 
 decimal-most : (n : ℕ) → length (decimal n) ≤ 20
 unfolding decimal
@@ -157,7 +157,7 @@ buildCost b = 28 + length (b .pack)
 firsts-sum : (earlier : List (List ℕ)) (bs : List Build) → sum buildCost (firstUses earlier bs) ≤ sum buildCost bs
 firsts-sum earlier [] = omega arith
 firsts-sum earlier (b ∷ bs) =
-    let h = firsts-sum (behind earlier (b .pack)) bs in
+    let h = firsts-sum (withLast earlier (b .pack)) bs in
     on (among (b .pack) earlier) (λ t. rw t (omega (arith, h))) (λ t. rw t (omega (arith, h)))
 
 sum-append : (bs ds : List Build) → sum buildCost (bs ++ ds) ≡ sum buildCost bs + sum buildCost ds

@@ -13,14 +13,14 @@ use Rattle.meaning.specs.declared.Fate.the-variants.{Over, Unended, Whole}
 use Rattle.meaning.specs.Base.{same, cut, onFirst, nil?, final, concat}
 use Rattle.meaning.specs.Refusal.{R, ok, bad, okThen, Answer, accepted, refused, acceptedThen, Fault, numbered, unmet}
 use Rattle.meaning.specs.Reading.{Grown, grown, stuck, Got, got, failed, growThen, growMap, storing, adding, gotThen, gotMap, okThenGot, growThenGot, make}
-use Rattle.meaning.specs.Tree.{Value, Items, Table, str, int, boolean, array, table, none′, item, empty, entry, Grow, lookup, insert, snoc, hang, down, toLast, known, inLast, underLast, enter, ensure, pushTo, push, assign, asTable}
+use Rattle.meaning.specs.Tree.{Value, Items, Table, str, int, boolean, array, table, none′, item, empty, entry, Grow, lookup, insert, snoc, withTable, alongPath, toLastSegment, mustExist, inLastItem, atLastItem, tableOrNew, openTables, pushTo, push, assign, asTable}
 use Rattle.meaning.specs.Keys.{keys, segments, segment}
 use Rattle.meaning.specs.Space.{trim, blank}
 use Rattle.meaning.specs.Values.{Reader, each, aString, aPlain, one, anArray, brackets, value, stringOf, plain, itemsOf}
 use Rattle.meaning.specs.Lines.{Line, Pending, closed, open′, settle, fate, joinOne, join, joined, keptLines, physical, atClose}
 use Rattle.meaning.specs.Quote.{fresh, scan}
 use Rattle.meaning.specs.Utf8.{valid}
-use Rattle.meaning.specs.Document.{Doc, Under, tables, arrays, Form, pushes, heads, sets, neither, form, here, setting, act, lines, document, Parsed, reading}
+use Rattle.meaning.specs.Document.{Doc, Under, tables, arrays, Form, pushes, heads, sets, neither, form, underHeader, assignment, readForm, readLines, document, Parsed, lineThen}
 use Rattle.laws.specs.Cases.{on}
 
 abbrev pub Any : {X : Type 0} → X → Type 0
@@ -129,8 +129,8 @@ abbrev pub NonEmpty : List (List ℕ) → Type 0
 NonEmpty [] = ⊥
 NonEmpty (k ∷ ks) = Unit {0}
 
-enter-ok : (limit m : ℕ) (o : Option Value) → Grows Any (enter limit o m)
-unfolding enter
+enter-ok : (limit m : ℕ) (o : Option Value) → Grows Any (tableOrNew limit o m)
+unfolding tableOrNew
 enter-ok limit m none = make-ok Any limit m empty tt
 enter-ok limit m (some (str s)) = make-ok Any limit m empty tt
 enter-ok limit m (some (int i)) = make-ok Any limit m empty tt
@@ -138,11 +138,11 @@ enter-ok limit m (some (boolean b)) = make-ok Any limit m empty tt
 enter-ok limit m (some (array a)) = make-ok Any limit m empty tt
 enter-ok limit m (some (table u)) = tt
 
-ensure-ok : (limit m : ℕ) (p : List (List ℕ)) (t : Table) → Grows (Down p) (ensure limit p t m)
+ensure-ok : (limit m : ℕ) (p : List (List ℕ)) (t : Table) → Grows (Down p) (openTables limit p t m)
 ensure-ok limit m [] t = tt
 ensure-ok limit m (k ∷ ks) t =
-    then-ok Any (Down (k ∷ ks)) (enter limit (lookup t k) m) _ (enter-ok limit m (lookup t k))
-    (λ u n _. turn-ok (Down ks) (Down (k ∷ ks)) (hang t k) (ensure limit ks u n) (ensure-ok limit n ks u) (λ w h. (w, lookup-insert t k (table w), h)))
+    then-ok Any (Down (k ∷ ks)) (tableOrNew limit (lookup t k) m) _ (enter-ok limit m (lookup t k))
+    (λ u n _. turn-ok (Down ks) (Down (k ∷ ks)) (withTable t k) (openTables limit ks u n) (ensure-ok limit n ks u) (λ w h. (w, lookup-insert t k (table w), h)))
 
 snoc-last : (a : Items) → HasLast (snoc a (table empty))
 snoc-last none′ = (empty, refl)
@@ -164,32 +164,32 @@ push-ok limit m k [] t =
     turn-ok HasLast (Last (k ∷ [])) (λ a. insert t k (array a)) (pushTo limit (lookup t k) m) (pushTo-ok limit m (lookup t k))
     (λ a h. (a, lookup-insert t k (array a), h))
 push-ok limit m k (j ∷ ks) t =
-    then-ok Any (Last (k ∷ j ∷ ks)) (enter limit (lookup t k) m) _ (enter-ok limit m (lookup t k))
-    (λ u n _. turn-ok (Last (j ∷ ks)) (Last (k ∷ j ∷ ks)) (hang t k) (push limit (j ∷ ks) u n) (push-ok limit n j ks u)
+    then-ok Any (Last (k ∷ j ∷ ks)) (tableOrNew limit (lookup t k) m) _ (enter-ok limit m (lookup t k))
+    (λ u n _. turn-ok (Last (j ∷ ks)) (Last (k ∷ j ∷ ks)) (withTable t k) (push limit (j ∷ ks) u n) (push-ok limit n j ks u)
     (λ w h. (w, lookup-insert t k (table w), h)))
 
 assign-ok : (limit m : ℕ) (k : List ℕ) (ks : List (List ℕ)) (v : Value) (t : Table) → Grows Any (assign limit (k ∷ ks) v t m)
 assign-ok limit m k [] v t = tt
 assign-ok limit m k (j ∷ ks) v t =
-    then-ok Any Any (enter limit (lookup t k) m) _ (enter-ok limit m (lookup t k))
-    (λ u n _. turn-ok Any Any (hang t k) (assign limit (j ∷ ks) v u n) (assign-ok limit n j ks v u) (λ w h. tt))
+    then-ok Any Any (tableOrNew limit (lookup t k) m) _ (enter-ok limit m (lookup t k))
+    (λ u n _. turn-ok Any Any (withTable t k) (assign limit (j ∷ ks) v u n) (assign-ok limit n j ks v u) (λ w h. tt))
 
-known-is : (o : Option Value) (u : Table) (m : ℕ) → o ≡ some (table u) → known o m ≡ grown u m
-unfolding known
+known-is : (o : Option Value) (u : Table) (m : ℕ) → o ≡ some (table u) → mustExist o m ≡ grown u m
+unfolding mustExist
 known-is o u m e = rw e
 
 module _ (f : Table → Grow Table) (fine : (t : Table) (m : ℕ) → Grows Any (f t m)) where
-  down-ok : (p : List (List ℕ)) (t : Table) (m : ℕ) → Down p t → Grows (Down p) (down known f p t m)
+  down-ok : (p : List (List ℕ)) (t : Table) (m : ℕ) → Down p t → Grows (Down p) (alongPath mustExist f p t m)
   down-ok [] t m h = fine t m
   down-ok (k ∷ ks) t m h =
       rw (known-is (lookup t k) (h .0) m (h .1))
-      (turn-ok (Down ks) (Down (k ∷ ks)) (hang t k) (down known f ks (h .0) m) (down-ok ks (h .0) m (h .2)) (λ w d. (w, lookup-insert t k (table w), d)))
+      (turn-ok (Down ks) (Down (k ∷ ks)) (withTable t k) (alongPath mustExist f ks (h .0) m) (down-ok ks (h .0) m (h .2)) (λ w d. (w, lookup-insert t k (table w), d)))
 
   cons-last : (v : Value) (is : Items) → HasLast is → HasLast (item v is)
   cons-last v none′ h = absurd h
   cons-last v (item w is) h = h
 
-  inLast-ok : (a : Items) (m : ℕ) → HasLast a → Grows HasLast (inLast f a m)
+  inLast-ok : (a : Items) (m : ℕ) → HasLast a → Grows HasLast (inLastItem f a m)
   inLast-ok none′ m h = absurd h
   inLast-ok (item v none′) m h =
       rw (h .1)
@@ -197,18 +197,18 @@ module _ (f : Table → Grow Table) (fine : (t : Table) (m : ℕ) → Grows Any 
       (turn-ok Any (λ w. HasLast (item w none′)) table (f (h .0) m) (fine (h .0) m) (λ u _. (u, refl)))
       (λ w g. g))
   inLast-ok (item v (item w is)) m h =
-      turn-ok HasLast HasLast (item v) (inLast f (item w is) m) (inLast-ok (item w is) m h) (λ js g. cons-last v js g)
+      turn-ok HasLast HasLast (item v) (inLastItem f (item w is) m) (inLast-ok (item w is) m h) (λ js g. cons-last v js g)
 
-  underLast-ok : (k : List ℕ) (t : Table) (m : ℕ) → Last (k ∷ []) t → Grows (Last (k ∷ [])) (underLast f k t m)
+  underLast-ok : (k : List ℕ) (t : Table) (m : ℕ) → Last (k ∷ []) t → Grows (Last (k ∷ [])) (atLastItem f k t m)
   underLast-ok k t m h =
       rw (h .1)
-      (turn-ok HasLast (Last (k ∷ [])) (λ b. insert t k (array b)) (inLast f (h .0) m) (inLast-ok (h .0) m (h .2)) (λ b g. (b, lookup-insert t k (array b), g)))
+      (turn-ok HasLast (Last (k ∷ [])) (λ b. insert t k (array b)) (inLastItem f (h .0) m) (inLast-ok (h .0) m (h .2)) (λ b g. (b, lookup-insert t k (array b), g)))
 
-  last-ok : (k : List ℕ) (ks : List (List ℕ)) (t : Table) (m : ℕ) → Last (k ∷ ks) t → Grows (Last (k ∷ ks)) (toLast known (underLast f) (k ∷ ks) t m)
+  last-ok : (k : List ℕ) (ks : List (List ℕ)) (t : Table) (m : ℕ) → Last (k ∷ ks) t → Grows (Last (k ∷ ks)) (toLastSegment mustExist (atLastItem f) (k ∷ ks) t m)
   last-ok k [] t m h = underLast-ok k t m h
   last-ok k (j ∷ ks) t m h =
       rw (known-is (lookup t k) (h .0) m (h .1))
-      (turn-ok (Last (j ∷ ks)) (Last (k ∷ j ∷ ks)) (hang t k) (toLast known (underLast f) (j ∷ ks) (h .0) m) (last-ok j ks (h .0) m (h .2))
+      (turn-ok (Last (j ∷ ks)) (Last (k ∷ j ∷ ks)) (withTable t k) (toLastSegment mustExist (atLastItem f) (j ∷ ks) (h .0) m) (last-ok j ks (h .0) m (h .2))
       (λ w d. (w, lookup-insert t k (table w), d)))
 
 -- ---- keys and values
@@ -285,7 +285,7 @@ Stands (arrays p) t = Last p t
 abbrev pub Sound : Doc → Type 0
 Sound d = Stands (d .under) (d .root)
 
-here-ok : (f : Table → Grow Table) → ((t : Table) (m : ℕ) → Grows Any (f t m)) → (u : Under) (t : Table) (m : ℕ) → Stands u t → Grows (Stands u) (here u f t m)
+here-ok : (f : Table → Grow Table) → ((t : Table) (m : ℕ) → Grows Any (f t m)) → (u : Under) (t : Table) (m : ℕ) → Stands u t → Grows (Stands u) (underHeader u f t m)
 here-ok f h (tables p) t m s = down-ok f h p t m s
 here-ok f h (arrays []) t m s = absurd s
 here-ok f h (arrays (k ∷ ks)) t m s = last-ok f h k ks t m s
@@ -299,37 +299,37 @@ pushed limit m [] t h = absurd h
 pushed limit m (k ∷ ks) t h = push-ok limit m k ks t
 
 module _ (lim : Limits) where
-  setting-ok : (k v : List ℕ) (d : Doc) (m : ℕ) → Sound d → Gets Sound (setting lim k v d m)
-  unfolding setting
+  setting-ok : (k v : List ℕ) (d : Doc) (m : ℕ) → Sound d → Gets Sound (assignment lim k v d m)
+  unfolding assignment
   setting-ok k v d m h =
       on (nil? k) (λ e. rw e tt)
       (λ e. rw e (onward-ok Any Sound (value (lim .values) (lim .arrays) v m) _ (value-ok (lim .values) (lim .arrays) v m)
       (λ x n _. having-ok NonEmpty Sound (keys (lim .segments) k) _ (keys-ok (lim .segments) k)
       (λ p q. kept-ok (Stands (d .under)) Sound (λ t. record { root = t; under = d .under }) (concat p)
-      (here (d .under) (assign (lim .values) p x) (d .root) n)
+      (underHeader (d .under) (assign (lim .values) p x) (d .root) n)
       (here-ok (assign (lim .values) p x) (λ t i. assigned (lim .values) i p x t q) (d .under) (d .root) n h) (λ t g. g)))))
 
-  act-ok : (f : Form) (d : Doc) (m : ℕ) → Sound d → Gets Sound (act lim f d m)
-  unfolding act
+  act-ok : (f : Form) (d : Doc) (m : ℕ) → Sound d → Gets Sound (readForm lim f d m)
+  unfolding readForm
   act-ok (pushes k) d m h =
       having-ok NonEmpty Sound (keys (lim .segments) k) _ (keys-ok (lim .segments) k)
       (λ p q. kept-ok (Last p) Sound (λ t. record { root = t; under = arrays p }) (concat p) (push (lim .values) p (d .root) m)
       (pushed (lim .values) m p (d .root) q) (λ t g. g))
   act-ok (heads k) d m h =
       having-ok NonEmpty Sound (keys (lim .segments) k) _ (keys-ok (lim .segments) k)
-      (λ p q. kept-ok (Down p) Sound (λ t. record { root = t; under = tables p }) (concat p) (ensure (lim .values) p (d .root) m)
+      (λ p q. kept-ok (Down p) Sound (λ t. record { root = t; under = tables p }) (concat p) (openTables (lim .values) p (d .root) m)
       (ensure-ok (lim .values) m p (d .root)) (λ t g. g))
   act-ok (sets k v) d m h = setting-ok (trim k) v d m h
   act-ok neither d m h = tt
 
-  reading-ok : (at : ℕ) (g : Got Doc) (k : Doc → ℕ → Answer Parsed) → Gets Sound g → ((e : Doc) (n : ℕ) → Sound e → Answers (k e n)) → Answers (reading at g k)
+  reading-ok : (at : ℕ) (g : Got Doc) (k : Doc → ℕ → Answer Parsed) → Gets Sound g → ((e : Doc) (n : ℕ) → Sound e → Answers (k e n)) → Answers (lineThen at g k)
   reading-ok at (got e bs n) k s h = after-ok Any Any (k e n) _ (h e n s) (λ r. tt)
   reading-ok at (failed f) k s h = s
 
-  lines-ok : (d : Doc) (ls : List Line) (m : ℕ) → Sound d → Answers (lines lim d ls m)
+  lines-ok : (d : Doc) (ls : List Line) (m : ℕ) → Sound d → Answers (readLines lim d ls m)
   lines-ok d [] m h = tt
   lines-ok d (l ∷ ls) m h =
-      reading-ok (l .at) (act lim (form (trim (l .text))) d m) _ (act-ok (form (trim (l .text))) d m h) (λ e n s. lines-ok e ls n s)
+      reading-ok (l .at) (readForm lim (form (trim (l .text))) d m) _ (act-ok (form (trim (l .text))) d m h) (λ e n s. lines-ok e ls n s)
 
 settle-ok : (at : ℕ) (t : List ℕ) (f : Fate) → Answers (settle at t f)
 settle-ok at t Over = tt

@@ -10,14 +10,14 @@ use Rattle.meaning.specs.declared.Limits.{Limits}
 use Rattle.meaning.specs.Base.{same, ascii, nil?, final, concat}
 use Rattle.meaning.specs.Refusal.{R, ok, bad, okThen, Answer, accepted, refused, acceptedThen}
 use Rattle.meaning.specs.Reading.{Grown, grown, stuck, Got, got, failed, growThen, growMap, storing, adding, gotThen, gotMap, okThenGot, growThenGot, make}
-use Rattle.meaning.specs.Tree.{Value, Items, Table, str, int, boolean, array, table, none′, item, empty, entry, Grow, lookup, insert, snoc, hang, down, toLast, known, stands, within, inLast, atArray, atKey, underLast, put, enter, orMake, ensure, pushTo, addTo, pushOne, push, assign, asTable, asArray, seen}
+use Rattle.meaning.specs.Tree.{Value, Items, Table, str, int, boolean, array, table, none′, item, empty, entry, Grow, lookup, insert, snoc, withTable, alongPath, toLastSegment, mustExist, mustBeTable, inTable, inLastItem, atArray, atExisting, atLastItem, putValue, tableOrNew, orMake, openTables, pushTo, addTo, pushOne, push, assign, asTable, asArray, readAs}
 use Rattle.meaning.specs.Integers.{integer}
 use Rattle.meaning.specs.Keys.{keys}
 use Rattle.meaning.specs.Space.{trim}
 use Rattle.meaning.specs.Values.{Reader, each, aString, aPlain, one, anArray, brackets, value, stringOf, plain, itemsOf}
 use Rattle.meaning.specs.Lines.{Line, joined}
 use Rattle.meaning.specs.Utf8.{valid}
-use Rattle.meaning.specs.Document.{Doc, Under, tables, arrays, Form, pushes, heads, sets, neither, form, here, setting, act, lines, document, Parsed, reading, behind}
+use Rattle.meaning.specs.Document.{Doc, Under, tables, arrays, Form, pushes, heads, sets, neither, form, underHeader, assignment, readForm, readLines, document, Parsed, lineThen, storedFirst}
 use Rattle.laws.specs.Cases.{on, picked, never}
 use Rattle.laws.specs.Order.{Distinct, eq-same, lookup-other}
 
@@ -143,7 +143,7 @@ array-once (boolean b) h = tt
 array-once (array is) h = h
 array-once (table t) h = tt
 
-seen-once : {X : Type 0} (P : X → Type 0) (f : Value → Option X) → ((v : Value) → Once v → Maybe P (f v)) → (o : Option Value) → Maybe Once o → Maybe P (seen f o)
+seen-once : {X : Type 0} (P : X → Type 0) (f : Value → Option X) → ((v : Value) → Once v → Maybe P (f v)) → (o : Option Value) → Maybe Once o → Maybe P (readAs f o)
 seen-once P f k none h = tt
 seen-once P f k (some v) h = k v h
 
@@ -151,18 +151,18 @@ seen-once P f k (some v) h = k v h
 abbrev Steps : (Option Value → Grow Table) → Type 0
 Steps step = (o : Option Value) (m : ℕ) → Maybe Once o → Grew OnceIn (step o m)
 
-known-once : Steps known
-unfolding known
+known-once : Steps mustExist
+unfolding mustExist
 known-once none m h = tt
 known-once (some v) m h = go (asTable v) (table-once v h)
   where
-    go : (q : Option Table) → Maybe OnceIn q → Grew OnceIn (stands q m)
+    go : (q : Option Table) → Maybe OnceIn q → Grew OnceIn (mustBeTable q m)
     go none g = tt
     go (some u) g = g
 
-enter-once : (limit : ℕ) → Steps (enter limit)
-unfolding enter
-enter-once limit o m h = go (seen asTable o) (seen-once OnceIn asTable table-once o h)
+enter-once : (limit : ℕ) → Steps (tableOrNew limit)
+unfolding tableOrNew
+enter-once limit o m h = go (readAs asTable o) (seen-once OnceIn asTable table-once o h)
   where
     go : (q : Option Table) → Maybe OnceIn q → Grew OnceIn (orMake limit q m)
     go none g = make-once OnceIn limit m empty tt
@@ -183,56 +183,56 @@ abbrev Keeps : (Table → Grow Table) → Type 0
 Keeps f = (t : Table) (m : ℕ) → OnceIn t → Grew OnceIn (f t m)
 
 module _ (step : Option Value → Grow Table) (steps : Steps step) where
-  down-once : (f : Table → Grow Table) → Keeps f → (p : List (List ℕ)) → Keeps (down step f p)
+  down-once : (f : Table → Grow Table) → Keeps f → (p : List (List ℕ)) → Keeps (alongPath step f p)
   down-once f k [] t m h = k t m h
   down-once f k (j ∷ js) t m h =
       then-once OnceIn OnceIn (step (lookup t j) m) _ (steps (lookup t j) m (lookup-once t j h))
-      (λ u n g. turn-once OnceIn OnceIn (hang t j) (down step f js u n) (down-once f k js u n g) (λ w o. insert-once t j (table w) o h))
+      (λ u n g. turn-once OnceIn OnceIn (withTable t j) (alongPath step f js u n) (down-once f k js u n g) (λ w o. insert-once t j (table w) o h))
 
-  last-once : (f : List ℕ → Table → Grow Table) → ((k : List ℕ) → Keeps (f k)) → (p : List (List ℕ)) → Keeps (toLast step f p)
+  last-once : (f : List ℕ → Table → Grow Table) → ((k : List ℕ) → Keeps (f k)) → (p : List (List ℕ)) → Keeps (toLastSegment step f p)
   last-once f k [] t m h = tt
   last-once f k (j ∷ []) t m h = k j t m h
   last-once f k (j ∷ i ∷ js) t m h =
       then-once OnceIn OnceIn (step (lookup t j) m) _ (steps (lookup t j) m (lookup-once t j h))
-      (λ u n g. turn-once OnceIn OnceIn (hang t j) (toLast step f (i ∷ js) u n) (last-once f k (i ∷ js) u n g) (λ w o. insert-once t j (table w) o h))
+      (λ u n g. turn-once OnceIn OnceIn (withTable t j) (toLastSegment step f (i ∷ js) u n) (last-once f k (i ∷ js) u n g) (λ w o. insert-once t j (table w) o h))
 
 module _ (f : Table → Grow Table) (k : Keeps f) where
-  within-once : (o : Option Table) (m : ℕ) → Maybe OnceIn o → Grew Once (within f o m)
+  within-once : (o : Option Table) (m : ℕ) → Maybe OnceIn o → Grew Once (inTable f o m)
   within-once none m h = tt
   within-once (some t) m h = turn-once OnceIn Once table (f t m) (k t m h) (λ u g. g)
 
-  inLast-once : (a : Items) (m : ℕ) → OnceAll a → Grew OnceAll (inLast f a m)
+  inLast-once : (a : Items) (m : ℕ) → OnceAll a → Grew OnceAll (inLastItem f a m)
   inLast-once none′ m h = tt
-  inLast-once (item v none′) m h = turn-once Once OnceAll (λ w. item w none′) (within f (asTable v) m) (within-once (asTable v) m (table-once v (h .0))) (λ w g. (g, tt))
-  inLast-once (item v (item w is)) m h = turn-once OnceAll OnceAll (item v) (inLast f (item w is) m) (inLast-once (item w is) m (h .1)) (λ js g. (h .0, g))
+  inLast-once (item v none′) m h = turn-once Once OnceAll (λ w. item w none′) (inTable f (asTable v) m) (within-once (asTable v) m (table-once v (h .0))) (λ w g. (g, tt))
+  inLast-once (item v (item w is)) m h = turn-once OnceAll OnceAll (item v) (inLastItem f (item w is) m) (inLast-once (item w is) m (h .1)) (λ js g. (h .0, g))
 
-  underLast-once : (j : List ℕ) → Keeps (underLast f j)
+  underLast-once : (j : List ℕ) → Keeps (atLastItem f j)
   underLast-once j t m h = at-key (lookup t j) (lookup-once t j h)
     where
       go : (o : Option Items) → Maybe OnceAll o → Grew OnceIn (atArray f j t o m)
       go none g = tt
-      go (some a) g = turn-once OnceAll OnceIn (λ b. insert t j (array b)) (inLast f a m) (inLast-once a m g) (λ b o. insert-once t j (array b) o h)
+      go (some a) g = turn-once OnceAll OnceIn (λ b. insert t j (array b)) (inLastItem f a m) (inLast-once a m g) (λ b o. insert-once t j (array b) o h)
 
-      at-key : (o : Option Value) → Maybe Once o → Grew OnceIn (atKey f j t o m)
+      at-key : (o : Option Value) → Maybe Once o → Grew OnceIn (atExisting f j t o m)
       at-key none g = tt
       at-key (some v) g = go (asArray v) (array-once v g)
 
-  here-once : (u : Under) → Keeps (here u f)
-  here-once (tables p) t m h = down-once known known-once f k p t m h
-  here-once (arrays p) t m h = last-once known known-once (underLast f) underLast-once p t m h
+  here-once : (u : Under) → Keeps (underHeader u f)
+  here-once (tables p) t m h = down-once mustExist known-once f k p t m h
+  here-once (arrays p) t m h = last-once mustExist known-once (atLastItem f) underLast-once p t m h
 
 module _ (limit : ℕ) where
   assign-once : (p : List (List ℕ)) (v : Value) → Once v → Keeps (assign limit p v)
-  assign-once p v o t m h = last-once (enter limit) (enter-once limit) (put v) (λ j u n g. insert-once u j v o g) p t m h
+  assign-once p v o t m h = last-once (tableOrNew limit) (enter-once limit) (putValue v) (λ j u n g. insert-once u j v o g) p t m h
 
   push-once : (p : List (List ℕ)) → Keeps (push limit p)
   push-once p t m h =
-      last-once (enter limit) (enter-once limit) (pushOne limit)
+      last-once (tableOrNew limit) (enter-once limit) (pushOne limit)
       (λ j u n g. turn-once OnceAll OnceIn (λ a. insert u j (array a)) (pushTo limit (lookup u j) n) (pushTo-once limit n (lookup u j) (lookup-once u j g)) (λ a o. insert-once u j (array a) o g))
       p t m h
 
-  ensure-once : (p : List (List ℕ)) → Keeps (ensure limit p)
-  ensure-once p t m h = down-once (enter limit) (enter-once limit) grown (λ u n g. g) p t m h
+  ensure-once : (p : List (List ℕ)) → Keeps (openTables limit p)
+  ensure-once p t m h = down-once (tableOrNew limit) (enter-once limit) grown (λ u n g. g) p t m h
 
   -- ---- values
 
@@ -284,36 +284,36 @@ Rooted (accepted r) = OnceIn (r .root)
 Rooted (refused f s p) = Unit {0}
 
 module _ (lim : Limits) where
-  act-once : (f : Form) (d : Doc) (m : ℕ) → Sound d → Gave Sound (act lim f d m)
-  unfolding act setting
+  act-once : (f : Form) (d : Doc) (m : ℕ) → Sound d → Gave Sound (readForm lim f d m)
+  unfolding readForm assignment
   act-once (pushes k) d m h =
       having-once Any Sound (keys (lim .segments) k) _ (any-read (keys (lim .segments) k))
       (λ p _. kept-once OnceIn Sound (λ t. record { root = t; under = arrays p }) (concat p) (push (lim .values) p (d .root) m) (push-once (lim .values) p (d .root) m h) (λ t g. g))
   act-once (heads k) d m h =
       having-once Any Sound (keys (lim .segments) k) _ (any-read (keys (lim .segments) k))
-      (λ p _. kept-once OnceIn Sound (λ t. record { root = t; under = tables p }) (concat p) (ensure (lim .values) p (d .root) m) (ensure-once (lim .values) p (d .root) m h) (λ t g. g))
+      (λ p _. kept-once OnceIn Sound (λ t. record { root = t; under = tables p }) (concat p) (openTables (lim .values) p (d .root) m) (ensure-once (lim .values) p (d .root) m h) (λ t g. g))
   act-once (sets k v) d m h =
       picked (Gave Sound) (nil? (trim k)) (λ _. tt)
       (λ _. onward-once Once Sound (value (lim .values) (lim .arrays) v m) _ (value-once (lim .values) (lim .arrays) v m)
       (λ x n o. having-once Any Sound (keys (lim .segments) (trim k)) _ (any-read (keys (lim .segments) (trim k)))
-      (λ p _. kept-once OnceIn Sound (λ t. record { root = t; under = d .under }) (concat p) (here (d .under) (assign (lim .values) p x) (d .root) n)
+      (λ p _. kept-once OnceIn Sound (λ t. record { root = t; under = d .under }) (concat p) (underHeader (d .under) (assign (lim .values) p x) (d .root) n)
       (here-once (assign (lim .values) p x) (assign-once (lim .values) p x o) (d .under) (d .root) n h) (λ t g. g))))
   act-once neither d m h = tt
 
-  behind-once : (bs : List ℕ) (a : Answer Parsed) → Rooted a → Rooted (behind bs a)
+  behind-once : (bs : List ℕ) (a : Answer Parsed) → Rooted a → Rooted (storedFirst bs a)
   behind-once bs (accepted r) h = h
   behind-once bs (refused e s p) h = tt
 
-  reading-once : (at : ℕ) (g : Got Doc) (k : Doc → ℕ → Answer Parsed) → Gave Sound g → ((e : Doc) (n : ℕ) → Sound e → Rooted (k e n)) → Rooted (reading at g k)
+  reading-once : (at : ℕ) (g : Got Doc) (k : Doc → ℕ → Answer Parsed) → Gave Sound g → ((e : Doc) (n : ℕ) → Sound e → Rooted (k e n)) → Rooted (lineThen at g k)
   reading-once at (got e bs n) k s h = behind-once bs (k e n) (h e n s)
   reading-once at (failed f) k s h = tt
 
-  lines-once : (ls : List Line) (d : Doc) (m : ℕ) → Sound d → Rooted (lines lim d ls m)
+  lines-once : (ls : List Line) (d : Doc) (m : ℕ) → Sound d → Rooted (readLines lim d ls m)
   lines-once [] d m h = h
   lines-once (l ∷ ls) d m h =
-      reading-once (l .at) (act lim (form (trim (l .text))) d m) _ (act-once (form (trim (l .text))) d m h) (λ e n s. lines-once ls e n s)
+      reading-once (l .at) (readForm lim (form (trim (l .text))) d m) _ (act-once (form (trim (l .text))) d m h) (λ e n s. lines-once ls e n s)
 
-  joined-once : (a : Answer (List Line)) → Rooted (acceptedThen a (λ ls. lines lim (record { root = empty; under = tables [] }) ls 0))
+  joined-once : (a : Answer (List Line)) → Rooted (acceptedThen a (λ ls. readLines lim (record { root = empty; under = tables [] }) ls 0))
   joined-once (accepted ls) = lines-once ls (record { root = empty; under = tables [] }) 0 tt
   joined-once (refused e s p) = tt
 

@@ -30,7 +30,7 @@ pub less-self : (k : List ℕ) → less k k ≡ false
 less-self [] = refl
 less-self (a ∷ k) = rw (eq-eqb a a refl) (less-self k)
 
--- by the first byte, or behind it
+-- by the first byte, or after it
 less-cases : (a b : ℕ) (p q : List ℕ) → less (a ∷ p) (b ∷ q) ≡ true → (a < b) ⊎ ((a ≡ b) × (less p q ≡ true))
 less-cases a b p q e = on (eqb a b) (λ t. inr (eqb-true a b t, rw t at e)) (λ t. inl (ltb-true a b (rw t at e)))
 
@@ -114,7 +114,7 @@ first-least t k m v w h e =
     (λ f. on (less k m) (λ g. less-back k m g)
     (λ g. none-some w (sym (lookup-low t k m (h .1) (h .0) g) ∙ rw f at e)))
 
--- behind it stand the keys above it
+-- after it stand the keys above it
 pub rest-lookup : (t : Table) (k m : List ℕ) (v : Value) → Rises (entry k v t) → lookup t m ≡ pick (less k m) (lookup (entry k v t) m) none
 rest-lookup t k m v h = on (less k m) (λ e. rw (e, less-apart k m e)) (λ e. rw e (lookup-low t k m (h .1) (h .0) e))
 
@@ -176,13 +176,13 @@ pub sorted-one : (t u : Table) → ((k : List ℕ) → lookup t k ≡ lookup u k
 sorted-one t u e =
     rises-one (sorted t) (sorted u) (sorted-rises t) (sorted-rises u) (λ k. sorted-lookup t k ∙ e k ∙ sym (sorted-lookup u k))
 
--- ---- what stands behind a key
+-- ---- what stands after a key
 
 before-past : (t : Table) (k : List ℕ) → Before k t → past k t ≡ t
 before-past empty k h = refl
 before-past (entry j v t) k h = rw h
 
--- behind the first key stands the rest
+-- after the first key stands the rest
 pub past-first : (t : Table) (k : List ℕ) (v : Value) → Rises (entry k v t) → past k (entry k v t) ≡ t
 past-first t k v h = rw (less-self k) (before-past t k (h .0))
 

@@ -10,7 +10,9 @@ use Rattle.meaning.specs.declared.Act.the-variants.{End, Hold, Put, Fault}
 use Rattle.meaning.specs.Base.{nil?, cut, onFirst, final}
 use Rattle.meaning.specs.Refusal.{R, ok, bad, okThen}
 use Rattle.meaning.specs.Space.{trim}
-use Rattle.meaning.specs.Strings.{Ending, closed, escape, unended, Said, act, go, decode, byEnd}
+use Rattle.meaning.specs.declared.StringByte.{StringByte}
+use Rattle.meaning.specs.declared.StringByte.the-variants.{Plain, AfterBackslash}
+use Rattle.meaning.specs.Strings.{Ending, closed, escape, unended, Said, actOf, byAct, decode, ifEnded}
 use Rattle.meaning.specs.Keys.{nonempty, quoted, segment, segments, keys}
 use Rattle.laws.specs.Cases.{on, picked}
 use Rattle.laws.specs.Never.{Reads}
@@ -78,22 +80,21 @@ Dotless Hold = Unit {0}
 Dotless (Put b) = eqb b 46 ≡ false
 Dotless Fault = Unit {0}
 
-act-dotless : (st b : ℕ) → eqb b 46 ≡ false → Dotless (act st b)
-unfolding act
-act-dotless st b h =
-    picked Dotless (eqb st 0)
-    (λ _. picked Dotless (eqb b 34) (λ _. tt) (λ _. picked Dotless (eqb b 92) (λ _. tt) (λ _. h)))
-    (λ _. picked Dotless (eqb b 110) (λ _. refl) (λ _. picked Dotless (eqb b 116) (λ _. refl) (λ _. picked Dotless (eqb b 114) (λ _. refl)
-    (λ _. picked Dotless (eqb b 34) (λ _. refl) (λ _. picked Dotless (eqb b 92) (λ _. refl) (λ _. tt))))))
+act-dotless : (st : StringByte) (b : ℕ) → eqb b 46 ≡ false → Dotless (actOf st b)
+unfolding actOf
+act-dotless Plain b h = picked Dotless (eqb b 34) (λ _. tt) (λ _. picked Dotless (eqb b 92) (λ _. tt) (λ _. h))
+act-dotless AfterBackslash b h =
+    picked Dotless (eqb b 110) (λ _. refl) (λ _. picked Dotless (eqb b 116) (λ _. refl) (λ _. picked Dotless (eqb b 114) (λ _. refl)
+    (λ _. picked Dotless (eqb b 34) (λ _. refl) (λ _. picked Dotless (eqb b 92) (λ _. refl) (λ _. tt)))))
 
-decode-without : (st : ℕ) (s : List ℕ) → Without 46 s → Without 46 (decode st s .bytes)
+decode-without : (st : StringByte) (s : List ℕ) → Without 46 s → Without 46 (decode st s .bytes)
 decode-without st [] h = tt
-decode-without st (b ∷ s) h = step (act st b) (λ t. decode t s) (act-dotless st b (h .0)) (λ t. decode-without t s (h .1))
+decode-without st (b ∷ s) h = step (actOf st b) (λ t. decode t s) (act-dotless st b (h .0)) (λ t. decode-without t s (h .1))
   where
-    step : (a : Act) (f : ℕ → Said) → Dotless a → ((t : ℕ) → Without 46 (f t .bytes)) → Without 46 (go st a f .bytes)
+    step : (a : Act) (f : StringByte → Said) → Dotless a → ((t : StringByte) → Without 46 (f t .bytes)) → Without 46 (byAct st a f .bytes)
     step End f d k = tt
-    step Hold f d k = k 1
-    step (Put c) f d k = (d, k 0)
+    step Hold f d k = k AfterBackslash
+    step (Put c) f d k = (d, k Plain)
     step Fault f d k = tt
 
 -- ---- segments
@@ -102,7 +103,7 @@ nonempty-named : (s : List ℕ) → Without 46 s → Reads Named (nonempty s)
 unfolding nonempty
 nonempty-named s h = on (nil? s) (λ e. rw e tt) (λ e. rw e (e, h))
 
-ending-named : (e : Ending) (r : R (List ℕ)) → Reads Named r → Reads Named (byEnd e r)
+ending-named : (e : Ending) (r : R (List ℕ)) → Reads Named r → Reads Named (ifEnded e r)
 ending-named closed r h = h
 ending-named escape r h = tt
 ending-named unended r h = tt
@@ -111,9 +112,9 @@ segment-named : (s : List ℕ) → Without 46 s → Reads Named (segment s)
 unfolding segment quoted
 segment-named s h =
     picked (Reads Named) (eqb (getD s 0 0) 34)
-    (λ _. ending-named (decode 0 (drop 1 s) .how) _
+    (λ _. ending-named (decode Plain (drop 1 s) .how) _
     (picked (Reads Named) (eqb (final (drop 1 s)) 34)
-    (λ _. nonempty-named (decode 0 (drop 1 s) .bytes) (decode-without 0 (drop 1 s) (drop-without 46 1 s h))) (λ _. tt)))
+    (λ _. nonempty-named (decode Plain (drop 1 s) .bytes) (decode-without Plain (drop 1 s) (drop-without 46 1 s h))) (λ _. tt)))
     (λ _. nonempty-named s h)
 
 segments-named : (n : ℕ) (ps : List (List ℕ)) → AllWithout 46 ps → Reads AllNamed (segments n ps)

@@ -21,7 +21,7 @@ module _ {S : Type 0} (next : S → ℕ → S) (sep : S → ℕ → Bool) where
   lead-fits st (b ∷ s) = on (sep st b) (λ e. rw e (omega arith)) (λ e. rw e (omega (arith, lead-fits (next st b) s)))
 
   module _ (start : S) where
-    -- the parts behind a first one of k bytes
+    -- the parts after a first one of k bytes
     abbrev pub others : ℕ → List ℕ → List (List ℕ)
     others k s = pick (ltb k (length s)) (split start next sep start (drop (suc k) s)) []
 

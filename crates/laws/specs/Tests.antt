@@ -1,4 +1,4 @@
--- The sets that prove a return behind tests of numbers, and behind calls that answer a bool.
+-- The sets that prove a return after tests of numbers, and after calls that answer a bool.
 use borrow.Author.Needs.{needs}
 use borrow.Author.Tests.{lt-ltb, le-ltb, le-leb, lt-leb, eq-eqb, ne-eqb}
 use Rattle.laws.specs.Cases.{yes, no}

@@ -11,14 +11,14 @@ use Rattle.meaning.specs.declared.Limits.{Limits}
 use Rattle.meaning.specs.Base.{same, ascii, nil?, final, concat}
 use Rattle.meaning.specs.Refusal.{R, ok, bad, okThen, Answer, accepted, refused, acceptedThen}
 use Rattle.meaning.specs.Reading.{Grown, grown, stuck, Got, got, failed, growThen, growMap, storing, adding, gotThen, gotMap, okThenGot, growThenGot, make}
-use Rattle.meaning.specs.Tree.{Value, Items, Table, str, int, boolean, array, table, none′, item, empty, entry, Grow, lookup, insert, snoc, hang, down, toLast, known, stands, within, inLast, atArray, atKey, underLast, put, enter, orMake, ensure, pushTo, addTo, pushOne, push, assign, asString, asTable, asArray}
+use Rattle.meaning.specs.Tree.{Value, Items, Table, str, int, boolean, array, table, none′, item, empty, entry, Grow, lookup, insert, snoc, withTable, alongPath, toLastSegment, mustExist, mustBeTable, inTable, inLastItem, atArray, atExisting, atLastItem, putValue, tableOrNew, orMake, openTables, pushTo, addTo, pushOne, push, assign, asString, asTable, asArray}
 use Rattle.meaning.specs.Integers.{integer}
 use Rattle.meaning.specs.Keys.{keys}
 use Rattle.meaning.specs.Space.{trim}
 use Rattle.meaning.specs.Values.{Reader, each, aString, aPlain, one, anArray, brackets, value, stringOf, plain, itemsOf}
 use Rattle.meaning.specs.Lines.{Line, joined}
 use Rattle.meaning.specs.Utf8.{valid}
-use Rattle.meaning.specs.Document.{Doc, Under, tables, arrays, Form, pushes, heads, sets, neither, form, here, setting, act, lines, document, Parsed, reading, behind}
+use Rattle.meaning.specs.Document.{Doc, Under, tables, arrays, Form, pushes, heads, sets, neither, form, underHeader, assignment, readForm, readLines, document, Parsed, lineThen, storedFirst}
 use Rattle.laws.specs.Cases.{on, picked}
 
 -- the bytes of all keys and strings of a value, of items, of a table
@@ -156,46 +156,46 @@ along-free n (k ∷ ks) = omega (arith, along-free n ks)
 
 -- a step from t to the table u under k, for whose new state w the segment's price is enough
 abbrev Goes : (List ℕ → ℕ) → Table → List ℕ → Table → Type 0
-Goes price t k u = (w : Table) → weightIn (hang t k w) + weightIn u ≤ weightIn t + price k + weightIn w
+Goes price t k u = (w : Table) → weightIn (withTable t k w) + weightIn u ≤ weightIn t + price k + weightIn w
 
 module _ (price : List ℕ → ℕ) (step : Option Value → Grow Table) (goes : (t : Table) (k : List ℕ) (m : ℕ) → Grew (Goes price t k) (step (lookup t k) m)) where
-  deeper : (n : ℕ) (f : Table → Grow Table) (k : List ℕ) → Adds n f → Adds (price k + n) (λ t m. growThen (step (lookup t k) m) (λ u i. growMap (hang t k) (f u i)))
+  deeper : (n : ℕ) (f : Table → Grow Table) (k : List ℕ) → Adds n f → Adds (price k + n) (λ t m. growThen (step (lookup t k) m) (λ u i. growMap (withTable t k) (f u i)))
   deeper n f k h t m =
       then-grew (Goes price t k) (λ u. weightIn u ≤ weightIn t + (price k + n)) (step (lookup t k) m) _ (goes t k m)
-      (λ u i g. turn-grew (λ w. weightIn w ≤ weightIn u + n) (λ w. weightIn w ≤ weightIn t + (price k + n)) (hang t k) (f u i) (h u i) (λ w l. omega (arith, g w)))
+      (λ u i g. turn-grew (λ w. weightIn w ≤ weightIn u + n) (λ w. weightIn w ≤ weightIn t + (price k + n)) (withTable t k) (f u i) (h u i) (λ w l. omega (arith, g w)))
 
-  down-adds : (n : ℕ) (f : Table → Grow Table) → Adds n f → (p : List (List ℕ)) → Adds (along price n p) (down step f p)
+  down-adds : (n : ℕ) (f : Table → Grow Table) → Adds n f → (p : List (List ℕ)) → Adds (along price n p) (alongPath step f p)
   down-adds n f h [] t m = h t m
-  down-adds n f h (k ∷ ks) t m = deeper (along price n ks) (down step f ks) k (down-adds n f h ks) t m
+  down-adds n f h (k ∷ ks) t m = deeper (along price n ks) (alongPath step f ks) k (down-adds n f h ks) t m
 
-  last-adds : (n : ℕ) (f : List ℕ → Table → Grow Table) → ((k : List ℕ) → Adds (price k + n) (f k)) → (p : List (List ℕ)) → Adds (along price n p) (toLast step f p)
+  last-adds : (n : ℕ) (f : List ℕ → Table → Grow Table) → ((k : List ℕ) → Adds (price k + n) (f k)) → (p : List (List ℕ)) → Adds (along price n p) (toLastSegment step f p)
   last-adds n f h [] t m = tt
   last-adds n f h (k ∷ []) t m = h k t m
-  last-adds n f h (k ∷ j ∷ ks) t m = deeper (along price n (j ∷ ks)) (toLast step f (j ∷ ks)) k (last-adds n f h (j ∷ ks)) t m
+  last-adds n f h (k ∷ j ∷ ks) t m = deeper (along price n (j ∷ ks)) (toLastSegment step f (j ∷ ks)) k (last-adds n f h (j ∷ ks)) t m
 
 -- a header's path is there, and costs nothing
-known-goes : (t : Table) (k : List ℕ) (m : ℕ) → Grew (Goes (λ j. 0) t k) (known (lookup t k) m)
-unfolding known
+known-goes : (t : Table) (k : List ℕ) (m : ℕ) → Grew (Goes (λ j. 0) t k) (mustExist (lookup t k) m)
+unfolding mustExist
 known-goes t k m = go (lookup t k) (λ w. insert-weighs t k (table w))
   where
-    there : (q : Option Table) (n : ℕ) → size weightIn q ≤ n → ((w : Table) → weightIn (hang t k w) + n ≤ weightIn t + 0 + weightIn w) → Grew (Goes (λ j. 0) t k) (stands q m)
+    there : (q : Option Table) (n : ℕ) → size weightIn q ≤ n → ((w : Table) → weightIn (withTable t k w) + n ≤ weightIn t + 0 + weightIn w) → Grew (Goes (λ j. 0) t k) (mustBeTable q m)
     there none n l h = tt
     there (some u) n l h = λ w. omega (arith, h w)
 
-    go : (o : Option Value) → ((w : Table) → weightIn (hang t k w) + size weight o ≤ weightIn t + fee o (length k) + weightIn w) → Grew (Goes (λ j. 0) t k) (known o m)
+    go : (o : Option Value) → ((w : Table) → weightIn (withTable t k w) + size weight o ≤ weightIn t + fee o (length k) + weightIn w) → Grew (Goes (λ j. 0) t k) (mustExist o m)
     go none h = tt
     go (some v) h = there (asTable v) (weight v) (table-weighs v) h
 
 module _ (limit : ℕ) where
-  enter-goes : (t : Table) (k : List ℕ) (m : ℕ) → Grew (Goes length t k) (enter limit (lookup t k) m)
-  unfolding enter
+  enter-goes : (t : Table) (k : List ℕ) (m : ℕ) → Grew (Goes length t k) (tableOrNew limit (lookup t k) m)
+  unfolding tableOrNew
   enter-goes t k m = go (lookup t k) (λ w. omega (arith, insert-weighs t k (table w), fee-most (lookup t k) (length k)))
     where
-      there : (q : Option Table) (n : ℕ) → size weightIn q ≤ n → ((w : Table) → weightIn (hang t k w) + n ≤ weightIn t + length k + weightIn w) → Grew (Goes length t k) (orMake limit q m)
+      there : (q : Option Table) (n : ℕ) → size weightIn q ≤ n → ((w : Table) → weightIn (withTable t k w) + n ≤ weightIn t + length k + weightIn w) → Grew (Goes length t k) (orMake limit q m)
       there none n l h = make-grew (Goes length t k) limit m empty (λ w. omega (arith, h w))
       there (some u) n l h = λ w. omega (arith, h w)
 
-      go : (o : Option Value) → ((w : Table) → weightIn (hang t k w) + size weight o ≤ weightIn t + length k + weightIn w) → Grew (Goes length t k) (enter limit o m)
+      go : (o : Option Value) → ((w : Table) → weightIn (withTable t k w) + size weight o ≤ weightIn t + length k + weightIn w) → Grew (Goes length t k) (tableOrNew limit o m)
       go none h = there none 0 (omega arith) h
       go (some v) h = there (asTable v) (weight v) (table-weighs v) h
 
@@ -212,54 +212,54 @@ module _ (limit : ℕ) where
       go (some is) h = make-grew (λ js. weightAll js ≤ weight v) limit m (snoc is (table empty)) (omega (arith, snoc-weighs is (table empty)))
 
   push-adds : (p : List (List ℕ)) → Adds (along length 0 p) (push limit p)
-  push-adds p t m = last-adds length (enter limit) enter-goes 0 (pushOne limit) one-more p t m
+  push-adds p t m = last-adds length (tableOrNew limit) enter-goes 0 (pushOne limit) one-more p t m
     where
       one-more : (k : List ℕ) → Adds (length k + 0) (pushOne limit k)
       one-more k u i =
           turn-grew (λ is. weightAll is ≤ size weight (lookup u k)) (λ w. weightIn w ≤ weightIn u + (length k + 0)) (λ is. insert u k (array is)) (pushTo limit (lookup u k) i)
           (pushTo-weighs i (lookup u k)) (λ is l. omega (arith, insert-weighs u k (array is), fee-most (lookup u k) (length k)))
 
-  ensure-adds : (p : List (List ℕ)) → Adds (along length 0 p) (ensure limit p)
-  ensure-adds p t m = down-adds length (enter limit) enter-goes 0 grown (λ u i. omega arith) p t m
+  ensure-adds : (p : List (List ℕ)) → Adds (along length 0 p) (openTables limit p)
+  ensure-adds p t m = down-adds length (tableOrNew limit) enter-goes 0 grown (λ u i. omega arith) p t m
 
   assign-adds : (p : List (List ℕ)) (v : Value) → Adds (along length (weight v) p) (assign limit p v)
   assign-adds p v t m =
-      last-adds length (enter limit) enter-goes (weight v) (put v) (λ k u i. omega (arith, insert-weighs u k v, fee-most (lookup u k) (length k))) p t m
+      last-adds length (tableOrNew limit) enter-goes (weight v) (putValue v) (λ k u i. omega (arith, insert-weighs u k v, fee-most (lookup u k) (length k))) p t m
 
 -- ---- where assignments go
 
 module _ (n : ℕ) (f : Table → Grow Table) (adds : Adds n f) where
-  inLast-adds : (is : Items) (m : ℕ) → Grew (λ js. weightAll js ≤ weightAll is + n) (inLast f is m)
+  inLast-adds : (is : Items) (m : ℕ) → Grew (λ js. weightAll js ≤ weightAll is + n) (inLastItem f is m)
   inLast-adds none′ m = tt
   inLast-adds (item v none′) m = go (asTable v) (table-weighs v)
     where
       in-table : (t : Table) → weightIn t ≤ weight v → Grew (λ w. weight w ≤ weight v + n) (growMap table (f t m))
       in-table t l = turn-grew (λ u. weightIn u ≤ weightIn t + n) (λ w. weight w ≤ weight v + n) table (f t m) (adds t m) (λ u h. omega arith)
 
-      go : (q : Option Table) → size weightIn q ≤ weight v → Grew (λ js. weightAll js ≤ weight v + 0 + n) (growMap (λ w. item w none′) (within f q m))
+      go : (q : Option Table) → size weightIn q ≤ weight v → Grew (λ js. weightAll js ≤ weight v + 0 + n) (growMap (λ w. item w none′) (inTable f q m))
       go none l = tt
       go (some t) l = turn-grew (λ w. weight w ≤ weight v + n) (λ js. weightAll js ≤ weight v + 0 + n) (λ w. item w none′) (growMap table (f t m)) (in-table t l) (λ w h. omega arith)
   inLast-adds (item v (item w is)) m =
-      turn-grew (λ js. weightAll js ≤ weightAll (item w is) + n) (λ js. weightAll js ≤ weight v + weightAll (item w is) + n) (item v) (inLast f (item w is) m)
+      turn-grew (λ js. weightAll js ≤ weightAll (item w is) + n) (λ js. weightAll js ≤ weight v + weightAll (item w is) + n) (item v) (inLastItem f (item w is) m)
       (inLast-adds (item w is) m) (λ js h. omega arith)
 
-  underLast-adds : (k : List ℕ) → Adds (0 + n) (underLast f k)
+  underLast-adds : (k : List ℕ) → Adds (0 + n) (atLastItem f k)
   underLast-adds k t m = go (lookup t k) (λ is. insert-weighs t k (array is))
     where
       there : (q : Option Items) (h : ℕ) → size weightAll q ≤ h → ((is : Items) → weightIn (insert t k (array is)) + h ≤ weightIn t + 0 + weightAll is)
           → Grew (λ u. weightIn u ≤ weightIn t + (0 + n)) (atArray f k t q m)
       there none h l g = tt
       there (some is) h l g =
-          turn-grew (λ js. weightAll js ≤ weightAll is + n) (λ u. weightIn u ≤ weightIn t + (0 + n)) (λ js. insert t k (array js)) (inLast f is m) (inLast-adds is m) (λ js e. omega (arith, g js))
+          turn-grew (λ js. weightAll js ≤ weightAll is + n) (λ u. weightIn u ≤ weightIn t + (0 + n)) (λ js. insert t k (array js)) (inLastItem f is m) (inLast-adds is m) (λ js e. omega (arith, g js))
 
       go : (o : Option Value) → ((is : Items) → weightIn (insert t k (array is)) + size weight o ≤ weightIn t + fee o (length k) + weightAll is)
-          → Grew (λ u. weightIn u ≤ weightIn t + (0 + n)) (atKey f k t o m)
+          → Grew (λ u. weightIn u ≤ weightIn t + (0 + n)) (atExisting f k t o m)
       go none g = tt
       go (some v) g = there (asArray v) (weight v) (array-weighs v) g
 
-  here-adds : (u : Under) → Adds n (here u f)
-  here-adds (tables p) t m = rw (along-free n p) at (down-adds (λ k. 0) known known-goes n f adds p t m)
-  here-adds (arrays p) t m = rw (along-free n p) at (last-adds (λ k. 0) known known-goes n (underLast f) underLast-adds p t m)
+  here-adds : (u : Under) → Adds n (underHeader u f)
+  here-adds (tables p) t m = rw (along-free n p) at (down-adds (λ k. 0) mustExist known-goes n f adds p t m)
+  here-adds (arrays p) t m = rw (along-free n p) at (last-adds (λ k. 0) mustExist known-goes n (atLastItem f) underLast-adds p t m)
 
 -- ---- values
 
@@ -337,31 +337,31 @@ module _ (lim : Limits) where
       (λ p. stored-paid rootOf b (concat p) (growMap (λ t. record { root = t; under = u p }) (f p))
       (turn-grew (λ t. weightIn t ≤ n + along length i p) (λ d. rootOf d ≤ b + length (concat p)) (λ t. record { root = t; under = u p }) (f p) (h p) (λ t g. omega (arith, along-stored i p))))
 
-  act-paid : (f : Form) (d : Doc) (m : ℕ) → Paid rootOf (rootOf d) (act lim f d m)
-  unfolding act setting
+  act-paid : (f : Form) (d : Doc) (m : ℕ) → Paid rootOf (rootOf d) (readForm lim f d m)
+  unfolding readForm assignment
   act-paid (pushes k) d m = path-paid (rootOf d) 0 (rootOf d) (omega arith) arrays k (λ p. push (lim .values) p (d .root) m) (λ p. push-adds (lim .values) p (d .root) m)
-  act-paid (heads k) d m = path-paid (rootOf d) 0 (rootOf d) (omega arith) tables k (λ p. ensure (lim .values) p (d .root) m) (λ p. ensure-adds (lim .values) p (d .root) m)
+  act-paid (heads k) d m = path-paid (rootOf d) 0 (rootOf d) (omega arith) tables k (λ p. openTables (lim .values) p (d .root) m) (λ p. ensure-adds (lim .values) p (d .root) m)
   act-paid (sets k v) d m =
       picked (Paid rootOf (rootOf d)) (nil? (trim k)) (λ _. tt)
       (λ _. onward-paid (λ x. rootOf d + weight x) rootOf (rootOf d) (value (lim .values) (lim .arrays) v m) _ (value-paid (lim .values) (lim .arrays) (rootOf d) v m)
-      (λ x i. path-paid (rootOf d) (weight x) (rootOf d + weight x) (omega arith) (λ _. d .under) (trim k) (λ p. here (d .under) (assign (lim .values) p x) (d .root) i)
+      (λ x i. path-paid (rootOf d) (weight x) (rootOf d + weight x) (omega arith) (λ _. d .under) (trim k) (λ p. underHeader (d .under) (assign (lim .values) p x) (d .root) i)
       (λ p. here-adds (along length (weight x) p) (assign (lim .values) p x) (assign-adds (lim .values) p x) (d .under) (d .root) i)))
   act-paid neither d m = tt
 
-  behind-weighs : (n k : ℕ) (bs : List ℕ) (a : Answer Parsed) → k ≤ n + length bs → Weighed k a → Weighed n (behind bs a)
+  behind-weighs : (n k : ℕ) (bs : List ℕ) (a : Answer Parsed) → k ≤ n + length bs → Weighed k a → Weighed n (storedFirst bs a)
   behind-weighs n k bs (accepted r) h g = omega (arith, length-append bs (r .bytes))
   behind-weighs n k bs (refused e s p) h g = tt
 
-  reading-weighs : (at n : ℕ) (g : Got Doc) (k : Doc → ℕ → Answer Parsed) → Paid rootOf n g → ((e : Doc) (i : ℕ) → Weighed (rootOf e) (k e i)) → Weighed n (reading at g k)
+  reading-weighs : (at n : ℕ) (g : Got Doc) (k : Doc → ℕ → Answer Parsed) → Paid rootOf n g → ((e : Doc) (i : ℕ) → Weighed (rootOf e) (k e i)) → Weighed n (lineThen at g k)
   reading-weighs at n (got e bs i) k h w = behind-weighs n (rootOf e) bs (k e i) h (w e i)
   reading-weighs at n (failed f) k h w = tt
 
-  lines-weigh : (ls : List Line) (d : Doc) (m : ℕ) → Weighed (rootOf d) (lines lim d ls m)
+  lines-weigh : (ls : List Line) (d : Doc) (m : ℕ) → Weighed (rootOf d) (readLines lim d ls m)
   lines-weigh [] d m = omega arith
   lines-weigh (l ∷ ls) d m =
-      reading-weighs (l .at) (rootOf d) (act lim (form (trim (l .text))) d m) _ (act-paid (form (trim (l .text))) d m) (λ e i. lines-weigh ls e i)
+      reading-weighs (l .at) (rootOf d) (readForm lim (form (trim (l .text))) d m) _ (act-paid (form (trim (l .text))) d m) (λ e i. lines-weigh ls e i)
 
-  joined-weigh : (a : Answer (List Line)) → Weighed 0 (acceptedThen a (λ ls. lines lim (record { root = empty; under = tables [] }) ls 0))
+  joined-weigh : (a : Answer (List Line)) → Weighed 0 (acceptedThen a (λ ls. readLines lim (record { root = empty; under = tables [] }) ls 0))
   joined-weigh (accepted ls) = lines-weigh ls (record { root = empty; under = tables [] }) 0
   joined-weigh (refused e s p) = tt
 

@@ -8,7 +8,7 @@ use native.Mathlib.Numerals.{add-one}
 use lib.ListN.{length, getD, take}
 use lib.Seq.{slice, slice-cons, slice-empty, take-suc}
 use Rattle.meaning.specs.Base.{pick}
-use Rattle.meaning.specs.Verdict.{behind}
+use Rattle.meaning.specs.Verdict.{withLast}
 use Rattle.layout.specs.Marks.{anyOf, firstHit}
 
 -- no entry before number i hits an earlier one
@@ -35,7 +35,7 @@ module _ {X : Type 0} (hit : X → X → Bool) (xs : List X) (n : ℕ) where
         ≡ i + pick (anyOf (hit (getD xs i d)) (take i xs)) 0 (suc (firstHit hit (take (i + 1) xs) (slice (i + 1) n xs)))
     later-head d l =
         let a : slice i n xs ≡ getD xs i d ∷ slice (suc i) n xs = slice-cons i n xs d l (k .long) in
-        let b : take (suc i) xs ≡ behind (take i xs) (getD xs i d) = take-suc xs i d (omega (arith, k .long)) in
+        let b : take (suc i) xs ≡ withLast (take i xs) (getD xs i d) = take-suc xs i d (omega (arith, k .long)) in
         rw (add-one, b) (rw a at (k .left))
 
     pub later-end : n ≤ i → found ≡ firstHit hit [] (take n xs)

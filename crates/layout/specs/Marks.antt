@@ -5,7 +5,7 @@ use mathlib.Core.List.{List, [], _∷_}
 use lib.Dec.{eqb}
 use Rattle.meaning.specs.Base.{pick, same}
 use Rattle.meaning.specs.Refusal.{accepted, refused, numberOf}
-use Rattle.meaning.specs.Verdict.{Verdict, orElse, among, behind, inTurn}
+use Rattle.meaning.specs.Verdict.{Verdict, orElse, among, withLast, inTurn}
 use Rattle.schema.specs.Texts.{clip}
 use Rattle.layout.specs.declared.Mark.{Mark}
 use Rattle.layout.specs.declared.Fault.{Fault}
@@ -21,7 +21,7 @@ anyOf hit (y ∷ ys) = pick (hit y) true (anyOf hit ys)
 -- how many entries stand before the first that hits an earlier one, some of which are given
 abbrev pub firstHit : {X : Type 0} → (X → X → Bool) → List X → List X → ℕ
 firstHit hit earlier [] = 0
-firstHit hit earlier (x ∷ xs) = pick (anyOf (hit x) earlier) 0 (suc (firstHit hit (behind earlier x) xs))
+firstHit hit earlier (x ∷ xs) = pick (anyOf (hit x) earlier) 0 (suc (firstHit hit (withLast earlier x) xs))
 
 -- how many stand before the first that is the same
 abbrev pub rank : List ℕ → List (List ℕ) → ℕ
@@ -59,7 +59,7 @@ markRule number bytes earlier m = entryFault number (among (named bytes m) earli
 
 -- the names up to an entry
 abbrev pub noted : List ℕ → List (List ℕ) → Mark → List (List ℕ)
-noted bytes earlier m = behind earlier (named bytes m)
+noted bytes earlier m = withLast earlier (named bytes m)
 
 abbrev pub markVerdict : ℕ → List ℕ → ℕ → List Mark → Verdict
 markVerdict number bytes section ms = inTurn (markRule number bytes) (noted bytes) section 0 [] ms

@@ -13,7 +13,7 @@ use Rattle.meaning.specs.Refusal.{accepted, refused, numbered, inPartition}
 use Rattle.meaning.specs.Schema as schemas
 use Rattle.meaning.specs.Layout as meant
 use Rattle.meaning.specs.Verdict as verdicts
-use Rattle.meaning.specs.Verdict.{Verdict, fine, firstRefusal, orElse, among, behind, inTurn}
+use Rattle.meaning.specs.Verdict.{Verdict, fine, firstRefusal, orElse, among, withLast, inTurn}
 use Rattle.laws.specs.Cases.{on}
 use Rattle.schema.specs.declared.Partition.{Partition}
 use Rattle.layout.specs.declared.Mark.{Mark}
@@ -120,7 +120,7 @@ any-among : (bytes : List ℕ) (m : Mark) (es : List Mark) → anyOf (sameName b
 any-among bytes m [] = refl
 any-among bytes m (e ∷ es) = rw (any-among bytes m es)
 
-map-behind : {X Y : Type 0} (f : X → Y) (xs : List X) (x : X) → map f (behind xs x) ≡ behind (map f xs) (f x)
+map-behind : {X Y : Type 0} (f : X → Y) (xs : List X) (x : X) → map f (withLast xs x) ≡ withLast (map f xs) (f x)
 map-behind f [] x = refl
 map-behind f (y ∷ xs) x = rw (map-behind f xs x)
 
@@ -138,18 +138,18 @@ module _ (number : ℕ) (bytes : List ℕ) (h : 1 ≤ number) (section : ℕ) wh
       ≡ faultOf (inTurn (markRule number bytes) (noted bytes) section i (map (named bytes) es) ms)
   turns i es [] = refl
   turns i es (m ∷ ms) =
-      let w = inTurn (markRule number bytes) (noted bytes) section (i + 1) (behind (map (named bytes) es) (named bytes m)) ms in
+      let w = inTurn (markRule number bytes) (noted bytes) section (i + 1) (withLast (map (named bytes) es) (named bytes m)) ms in
       on (anyOf (sameName bytes m) es)
       (λ e.
       let a : among (named bytes m) (map (named bytes) es) ≡ true = sym (any-among bytes m es) ∙ e in
       let b : eqb i (i + 0) ≡ true = eq-eqb i (i + 0) (omega arith) in
       rw (e, a, b) (step-fault section i (entryFault number true m) (firstFault number (i + 0) (i + 1) ms) w (λ z. absurd (met-fault number m h z))))
       (λ e.
-      let n : ℕ = firstHit (sameName bytes) (behind es m) ms in
+      let n : ℕ = firstHit (sameName bytes) (withLast es m) ms in
       let a : among (named bytes m) (map (named bytes) es) ≡ false = sym (any-among bytes m es) ∙ e in
       let b : eqb i (i + suc n) ≡ false = ne-eqb i (i + suc n) (λ z. omega arith) in
       let d : i + suc n ≡ i + 1 + n = omega arith in
-      rw (e, a, b) (step-fault section i (entryFault number false m) (firstFault number (i + suc n) (i + 1) ms) w (λ z. rw d (rw (map-behind (named bytes) es m) at (turns (i + 1) (behind es m) ms)))))
+      rw (e, a, b) (step-fault section i (entryFault number false m) (firstFault number (i + suc n) (i + 1) ms) w (λ z. rw d (rw (map-behind (named bytes) es m) at (turns (i + 1) (withLast es m) ms)))))
 
 pub twin-first : (number : ℕ) (bytes : List ℕ) (ms : List Mark) → 1 ≤ number → firstFault number (twin bytes ms) 0 ms ≡ judged number bytes ms
 unfolding judged
@@ -180,7 +180,7 @@ module _ (bytes : List ℕ) (block : ℕ) where
       ≡ inTurn (markRule 43 bytes) (noted bytes) section n names (marksFrom bytes block end ps)
   unfolding markOf
   part-turn section n names end [] = refl
-  part-turn section n names end (p ∷ ps) = rw (part-rule names end p, part-turn section (n + 1) (behind names (partName bytes p)) (endOf p) ps)
+  part-turn section n names end (p ∷ ps) = rw (part-rule names end p, part-turn section (n + 1) (withLast names (partName bytes p)) (endOf p) ps)
 
 pub layout-none : (chip : schemas.Chip) → record { number = 40; place = 0 } ≡ faultOf (meant.layout chip [])
 unfolding meant.layout

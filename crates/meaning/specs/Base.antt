@@ -67,7 +67,7 @@ abbrev pub before : ℕ → List ℕ → ℕ
 before c [] = 0
 before c (b ∷ s) = pick (eqb b c) 0 (suc (before c s))
 
--- byte strings one behind the other
+-- byte strings one after the other
 abbrev pub concat : List (List ℕ) → List ℕ
 concat [] = []
 concat (x ∷ xs) = x ++ concat xs
@@ -76,7 +76,8 @@ abbrev pub onFirst : ℕ → List (List ℕ) → List (List ℕ)
 onFirst b [] = (b ∷ []) ∷ []
 onFirst b (l ∷ ls) = (b ∷ l) ∷ ls
 
--- the parts of a text between separators: next is the state after a byte, sep says that the byte parts; behind a separator the state is start again
+-- the parts of a text between separators: next is the state after a byte, sep says that the byte parts; after a
+-- separator the state is start again
 abbrev pub split : {S : Type 0} → S → (S → ℕ → S) → (S → ℕ → Bool) → S → List ℕ → List (List ℕ)
 split start next sep st [] = [] ∷ []
 split start next sep st (b ∷ s) =

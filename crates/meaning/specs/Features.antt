@@ -1,17 +1,19 @@
--- "Features: a string split at spaces and commas, empty items dropped, or an array of strings, empty ones kept; sorted by bytes, duplicates dropped." Refusals 20, 25.
+-- "Features: a string split at spaces and commas, empty items dropped, or an array of strings, empty ones kept; sorted
+-- by bytes, duplicates dropped." Refusals 20, 25.
 use Prim.Native.Nat.{ℕ}
 use mathlib.Core.Bool.{Bool, true}
 use mathlib.Core.List.{List, [], _∷_}
 use lib.Dec.{eqb, ltb}
 use lib.ListN.{length}
 use Rattle.meaning.specs.Base.{pick, nil?, same, less, split}
+use Rattle.meaning.specs.Bytes.{space, comma}
 use Rattle.meaning.specs.Refusal.{R, ok, bad, okThen}
 use Rattle.meaning.specs.Tree.{Value, Items, str, int, boolean, array, table, none′, item, count}
 use Rattle.meaning.specs.Fields.{aText}
 
 -- "spaces and commas"
 unfoldable pub gap : ℕ → Bool
-gap b = pick (eqb b 32) true (eqb b 44)
+gap b = pick (eqb b space) true (eqb b comma)
 
 -- "empty items dropped"
 abbrev pub filled : List (List ℕ) → List (List ℕ)

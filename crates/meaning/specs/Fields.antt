@@ -1,4 +1,5 @@
--- 01, "From tree to records": a field of a table, read in one way for each kind of value; and the entries of a list. Refusals 20, 21, 23, 24, 25.
+-- 01, "From tree to records": a field of a table, read in one way for each kind of value; and the entries of a list.
+-- Refusals 20, 21, 23, 24, 25.
 use Prim.Native.Nat.{ℕ, _+_}
 use mathlib.Core.Bool.{Bool}
 use mathlib.Core.List.{List, [], _∷_}
@@ -8,7 +9,8 @@ use lib.IntN.{ℤ, pos, negsuc}
 use lib.ListN.{length}
 use Rattle.meaning.specs.Base.{pick, orDefault}
 use Rattle.meaning.specs.Refusal.{R, ok, bad, okThen, Answer, accepted, refused, acceptedThen, told, numbered}
-use Rattle.meaning.specs.Tree.{Value, Items, Table, none′, item, empty, entry, asString, asInt, asBool, asArray, asTable, lookup}
+use Rattle.meaning.specs.Tree.{Value, Items, Table, none′, item, empty, entry, asString, asInt, asBool, asArray}
+use Rattle.meaning.specs.Tree.{asTable, lookup}
 
 -- ---- a value of a kind
 
@@ -91,7 +93,9 @@ orThen r (some x) = ok (some x)
 -- "`partitions` and `components` are taken only where the singular is absent."
 unfoldable pub listAt : Table → List ℕ → List ℕ → R (List Value)
 listAt root one many =
-    okThen (field anArray root one) (λ single. okThen (orThen (field anArray root many) single) (λ found. ok (values (orDefault found none′))))
+    okThen (field anArray root one) (λ single.
+    okThen (orThen (field anArray root many) single) (λ found.
+    ok (values (orDefault found none′))))
 
 -- ---- entries
 
@@ -102,11 +106,14 @@ tabled read v = okThen (need 23 (asTable v)) read
 -- one entry after the other, the first of which is entry n; a refusal is told at its entry
 abbrev pub each : {A X : Type 0} → (A → R X) → ℕ → ℕ → List A → Answer (List X)
 each read section n [] = accepted []
-each read section n (a ∷ rest) = acceptedThen (told section n (read a)) (λ x. acceptedThen (each read section (n + 1) rest) (λ xs. accepted (x ∷ xs)))
+each read section n (a ∷ rest) =
+    acceptedThen (told section n (read a)) (λ x.
+    acceptedThen (each read section (n + 1) rest) (λ xs. accepted (x ∷ xs)))
 
 -- 25: "list too long (place: first entry over ..)". "List length is checked before entries."
 unfoldable pub listed : {A X : Type 0} → (A → R X) → ℕ → ℕ → List A → Answer (List X)
-listed read section limit all = pick (ltb limit (length all)) (refused (numbered 25) section limit) (each read section 0 all)
+listed read section limit all =
+    pick (ltb limit (length all)) (refused (numbered 25) section limit) (each read section 0 all)
 
 -- "or 0 outside an entry": what a reader says of a section
 abbrev pub outside : {X : Type 0} → ℕ → R X → Answer X

@@ -1,4 +1,5 @@
--- "A file's name is its last `/` piece that is neither empty nor `.`; `..` gives none. Its stem stops before the last dot, unless that dot is first."
+-- "A file's name is its last `/` piece that is neither empty nor `.`; `..` gives none. Its stem stops before the last
+-- dot, unless that dot is first."
 use Prim.Native.Nat.{ℕ, _+_}
 use mathlib.Core.Bool.{Bool, true, false}
 use mathlib.Core.List.{List, [], _∷_}
@@ -6,6 +7,7 @@ use mathlib.Core.Option.{Option, none, some}
 use lib.Dec.{eqb}
 use lib.ListN.{take}
 use Rattle.meaning.specs.Base.{pick, nil?, ascii, same, cut}
+use Rattle.meaning.specs.Bytes.{dot, slash}
 
 -- "neither empty nor `.`"
 unfoldable pub piece? : List ℕ → Bool
@@ -23,12 +25,12 @@ notUp (some p) = pick (same p (ascii "..")) none (some p)
 
 -- "A file's name is its last `/` piece that is neither empty nor `.`"
 unfoldable pub fileName : List ℕ → Option (List ℕ)
-fileName s = notUp (lastPiece none (cut 47 s))
+fileName s = notUp (lastPiece none (cut slash s))
 
 -- where the last dot stands, else d; i bytes stand before s
 abbrev pub lastDot : ℕ → ℕ → List ℕ → ℕ
 lastDot d i [] = d
-lastDot d i (b ∷ s) = lastDot (pick (eqb b 46) i d) (i + 1) s
+lastDot d i (b ∷ s) = lastDot (pick (eqb b dot) i d) (i + 1) s
 
 -- "Its stem stops before the last dot, unless that dot is first": of a file's name
 unfoldable pub stemOf : List ℕ → List ℕ

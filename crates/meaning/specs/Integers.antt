@@ -1,4 +1,5 @@
--- "Integers: drop all underscores; `0x` or `0X` means base 16; then an optional sign and at least one digit, within 64-bit signed range." 12
+-- "Integers: drop all underscores; `0x` or `0X` means base 16; then an optional sign and at least one digit, within
+-- 64-bit signed range." Refusal 12.
 use Prim.Native.Nat.{ℕ, _+_, _-_, _*_, _^_}
 use mathlib.Core.Bool.{Bool, true, false}
 use mathlib.Core.List.{List, [], _∷_}
@@ -7,14 +8,24 @@ use lib.IntN.{ℤ, pos, negℤ}
 use lib.ListN.{getD, drop}
 pub use Rattle.meaning.specs.declared.Signed.{Signed}
 use Rattle.meaning.specs.Base.{pick, nil?}
+use Rattle.meaning.specs.Bytes.{plus, minus, digitZero, capitalA, capitalX, underscore, smallA, smallX}
 use Rattle.meaning.specs.Refusal.{R, ok, bad, okThen}
 
--- what a digit 0 to 9, A to F or a to f counts; 99, which is over every base, for no digit
+-- over every base
+abbrev pub noDigit : ℕ
+noDigit = 99
+
+-- what a digit 0 to 9, A to F or a to f counts
 unfoldable pub digit : ℕ → ℕ
 digit b =
-    pick (ltb b 48) 99 (pick (ltb b 58) (b - 48) (pick (ltb b 65) 99 (pick (ltb b 71) (b - 55) (pick (ltb b 97) 99 (pick (ltb b 103) (b - 87) 99)))))
+    pick (ltb b digitZero) noDigit
+    (pick (ltb b (digitZero + 10)) (b - digitZero)
+    (pick (ltb b capitalA) noDigit
+    (pick (ltb b (capitalA + 6)) (b - (capitalA - 10))
+    (pick (ltb b smallA) noDigit
+    (pick (ltb b (smallA + 6)) (b - (smallA - 10)) noDigit)))))
 
--- the value of the digits s behind digits of the value acc
+-- the value of the digits s after digits of the value acc
 abbrev pub value : ℕ → ℕ → List ℕ → R ℕ
 value base acc [] = ok acc
 value base acc (b ∷ s) = pick (leb base (digit b)) (bad 12) (value base (acc * base + digit b) s)
@@ -22,7 +33,7 @@ value base acc (b ∷ s) = pick (leb base (digit b)) (bad 12) (value base (acc *
 -- "drop all underscores"
 abbrev pub clean : List ℕ → List ℕ
 clean [] = []
-clean (b ∷ s) = pick (eqb b 95) (clean s) (b ∷ clean s)
+clean (b ∷ s) = pick (eqb b underscore) (clean s) (b ∷ clean s)
 
 -- "64-bit signed range": the largest magnitude, with and without a minus
 unfoldable pub most : Bool → ℕ
@@ -35,19 +46,22 @@ within limit r = okThen r (λ n. pick (ltb limit n) (bad 12) (ok n))
 
 -- "at least one digit, within 64-bit signed range"
 unfoldable pub magnitude : Bool → ℕ → List ℕ → R Signed
-magnitude neg base s = pick (nil? s) (bad 12) (okThen (within (most neg) (value base 0 s)) (λ n. ok (record { neg = neg; mag = n })))
+magnitude neg base s =
+    pick (nil? s) (bad 12)
+    (okThen (within (most neg) (value base 0 s)) (λ n. ok (record { neg = neg; mag = n })))
 
 -- "then an optional sign": `-` or `+`
 unfoldable pub sign : ℕ → List ℕ → R Signed
 sign base s =
-    pick (eqb (getD s 0 0) 45) (magnitude true base (drop 1 s))
-    (pick (eqb (getD s 0 0) 43) (magnitude false base (drop 1 s)) (magnitude false base s))
+    pick (eqb (getD s 0 0) minus) (magnitude true base (drop 1 s))
+    (pick (eqb (getD s 0 0) plus) (magnitude false base (drop 1 s)) (magnitude false base s))
 
 -- "`0x` or `0X` means base 16"
 unfoldable pub body : List ℕ → R Signed
 body s =
-    pick (eqb (getD s 0 0) 48)
-    (pick (eqb (getD s 1 0) 120) (sign 16 (drop 2 s)) (pick (eqb (getD s 1 0) 88) (sign 16 (drop 2 s)) (sign 10 s)))
+    pick (eqb (getD s 0 0) digitZero)
+    (pick (eqb (getD s 1 0) smallX) (sign 16 (drop 2 s))
+    (pick (eqb (getD s 1 0) capitalX) (sign 16 (drop 2 s)) (sign 10 s)))
     (sign 10 s)
 
 -- the integer that s is, by sign and magnitude, or 12

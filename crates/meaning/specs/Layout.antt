@@ -6,7 +6,7 @@ use lib.Dec.{eqb, ltb}
 use Rattle.meaning.specs.Base.{pick, nil?}
 use Rattle.meaning.specs.Refusal.{Answer, refused, numbered, inPartition}
 use Rattle.meaning.specs.Schema.{Chip, Partition, eraseFor}
-use Rattle.meaning.specs.Verdict.{Verdict, firstRefusal, judged, orElse, among, inTurn, behind}
+use Rattle.meaning.specs.Verdict.{Verdict, firstRefusal, judged, orElse, among, inTurn, withLast}
 
 -- what the partitions before one leave: their names and the previous end
 pub record Before : Type 0 where
@@ -21,7 +21,7 @@ abbrev pub endOf : Partition → ℕ
 endOf p = p .offset + p .size
 
 abbrev pub passed : Before → Partition → Before
-passed b p = record { names = behind (b .names) (p .name); end = endOf p }
+passed b p = record { names = withLast (b .names) (p .name); end = endOf p }
 
 -- 42, 43: "empty name; duplicate"
 unfoldable pub nameFault : List (List ℕ) → List ℕ → ℕ
@@ -29,7 +29,9 @@ nameFault names name = pick (nil? name) 42 (pick (among name names) 43 0)
 
 -- 44, 45, 46: "size 0; offset off the erase block; size off it"
 unfoldable pub blockFault : ℕ → Partition → ℕ
-blockFault block p = pick (eqb (p .size) 0) 44 (pick (eqb (p .offset % block) 0) (pick (eqb (p .size % block) 0) 0 46) 45)
+blockFault block p =
+    pick (eqb (p .size) 0) 44
+    (pick (eqb (p .offset % block) 0) (pick (eqb (p .size % block) 0) 0 46) 45)
 
 -- 47, 48: "starts before the previous end; end at or above 2^32"
 unfoldable pub spanFault : ℕ → Partition → ℕ
@@ -46,7 +48,9 @@ startFault p = pick (eqb (p .offset) 0) 0 41
 -- 40: "no partitions"
 unfoldable pub layout : Chip → List Partition → Verdict
 layout chip [] = refused (numbered 40) inPartition 0
-layout chip (p ∷ ps) = firstRefusal (judged inPartition 0 (startFault p)) (inTurn (partitionFault (eraseFor chip)) passed inPartition 0 nothingBefore (p ∷ ps))
+layout chip (p ∷ ps) =
+    firstRefusal (judged inPartition 0 (startFault p))
+    (inTurn (partitionFault (eraseFor chip)) passed inPartition 0 nothingBefore (p ∷ ps))
 
 unfoldable pub computes : Unit {0}
 unfolding nameFault blockFault spanFault partitionFault startFault layout Rattle.meaning.specs.Schema.computes

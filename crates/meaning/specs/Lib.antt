@@ -1,4 +1,5 @@
 pub mod Base
+pub mod Bytes
 pub mod Limits
 pub mod Refusal
 pub mod Utf8

@@ -5,6 +5,7 @@ use mathlib.Core.List.{List, [], _∷_, _++_, map}
 use lib.Dec.{ltb, leb}
 use lib.ListN.{length}
 use Rattle.meaning.specs.Base.{pick, ascii, nil?, concat}
+use Rattle.meaning.specs.Bytes.{lineFeed, space, digitZero}
 use Rattle.meaning.specs.Limits.{Limits}
 use Rattle.meaning.specs.Refusal.{Answer, accepted, refused, numbered, inText, numberOf, acceptedThen}
 use Rattle.meaning.specs.Schema.{Partition, Component, Application, Preset, chipWord, mediaWord, kindWord}
@@ -12,10 +13,12 @@ use Rattle.meaning.specs.Plan.{Build, Plan, Planned, bootChain, plan}
 
 -- ---- numbers and lines
 
--- the digits of n before those behind, the last first; n has no more than as many as are left, and one
+-- the digits of n before the digits after, the last first; n has no more than as many as are left, and one
 abbrev pub digits : ℕ → ℕ → List ℕ → List ℕ
-digits zero n behind = (48 + n % 10) ∷ behind
-digits (suc left) n behind = pick (ltb n 10) ((48 + n) ∷ behind) (digits left (n / 10) ((48 + n % 10) ∷ behind))
+digits zero n after = (digitZero + n % 10) ∷ after
+digits (suc left) n after =
+    pick (ltb n 10) ((digitZero + n) ∷ after)
+    (digits left (n / 10) ((digitZero + n % 10) ∷ after))
 
 -- a number in decimal; those below 2^64 have no more than 20 digits
 unfoldable pub decimal : ℕ → List ℕ
@@ -24,11 +27,11 @@ decimal n = digits 19 n []
 -- "one space between fields"
 abbrev pub spaced : List (List ℕ) → List ℕ
 spaced [] = []
-spaced (f ∷ fs) = 32 ∷ (f ++ spaced fs)
+spaced (f ∷ fs) = space ∷ (f ++ spaced fs)
 
 -- "Lines end in LF": a line's first word, its fields, LF
 abbrev pub line : List ℕ → List (List ℕ) → List ℕ
-line word fields = word ++ (spaced fields ++ (10 ∷ []))
+line word fields = word ++ (spaced fields ++ (lineFeed ∷ []))
 
 -- ---- the lines
 
@@ -36,7 +39,13 @@ line word fields = word ++ (spaced fields ++ (10 ∷ []))
 unfoldable pub okLine : ℕ → Preset → List ℕ
 okLine made r =
     line (ascii "ok")
-    (chipWord (r .board .chip) ∷ mediaWord (r .image .media) ∷ decimal (length (r .partitions)) ∷ decimal (length (r .components)) ∷ decimal (length (r .applications)) ∷ decimal made ∷ [])
+    (chipWord (r .board .chip)
+    ∷ mediaWord (r .image .media)
+    ∷ decimal (length (r .partitions))
+    ∷ decimal (length (r .components))
+    ∷ decimal (length (r .applications))
+    ∷ decimal made
+    ∷ [])
 
 -- "`part`: name, start, end"
 unfoldable pub partLine : Partition → List ℕ
@@ -70,7 +79,11 @@ each f xs = concat (map f xs)
 unfoldable pub linesOf : ℕ → Preset → Plan → List ℕ
 linesOf made r p =
     okLine made r
-    ++ (each partLine (r .partitions) ++ (each compLine (r .components) ++ (each appLine (r .applications) ++ (each buildLine (p .builds) ++ stemLine (p .stem)))))
+    ++ (each partLine (r .partitions)
+    ++ (each compLine (r .components)
+    ++ (each appLine (r .applications)
+    ++ (each buildLine (p .builds)
+    ++ stemLine (p .stem)))))
 
 -- "A refusal prints `refused`, number, section, place."
 unfoldable pub refusedLine : ℕ → ℕ → ℕ → List ℕ
@@ -78,7 +91,8 @@ refusedLine number section place = line (ascii "refused") (decimal number ∷ de
 
 -- ---- the listing of a text
 
--- how many bytes a listing may have: each byte of the store stands in it no more than twice, 8,192 for all else, and the lent name
+-- how many bytes a listing may have: each byte of the store stands in it no more than twice, 8,192 for all else, and
+-- the lent name
 abbrev pub outSize : List ℕ → ℕ
 outSize name = 73728 + length name
 
@@ -98,7 +112,8 @@ listed x = record { planned = x; lines = linesOf (x .read .parsed .made) (x .rea
 -- "plans the boot chain"; 17 where the output is too small, as for any lent room
 unfoldable pub listing : Limits → ℕ → ℕ → ℕ → ℕ → List ℕ → List ℕ → Answer Listed
 listing lim width store tree out name text =
-    pick (short out name) (refused (numbered 17) inText 0) (acceptedThen (plan lim width store tree name bootChain text) (λ x. accepted (listed x)))
+    pick (short out name) (refused (numbered 17) inText 0)
+    (acceptedThen (plan lim width store tree name bootChain text) (λ x. accepted (listed x)))
 
 -- what the program prints
 unfoldable pub printed : Answer Listed → List ℕ
@@ -106,5 +121,6 @@ printed (accepted l) = l .lines
 printed (refused f section place) = refusedLine (numberOf f) section place
 
 unfoldable pub computes : Unit {0}
-unfolding decimal okLine partLine dashed compLine appLine buildLine stemLine linesOf refusedLine short listing printed Rattle.meaning.specs.Plan.computes
+unfolding decimal okLine partLine dashed compLine appLine buildLine stemLine linesOf refusedLine short listing printed
+    Rattle.meaning.specs.Plan.computes
 computes = tt

@@ -5,6 +5,7 @@ use mathlib.Core.Option.{Option, none, some}
 use mathlib.Core.Path.{_≡_, refl}
 use lib.IntN.{pos}
 use Rattle.meaning.specs.Base.{pick, same, less, ascii}
+use Rattle.meaning.specs.Bytes.{lineFeed}
 use Rattle.meaning.specs.Limits.{of01}
 use Rattle.meaning.specs.Refusal.{accepted}
 use Rattle.meaning.specs.Tree.{Value, Table, int, empty, entry}
@@ -25,7 +26,7 @@ abbrev pub entries : Table → ℕ
 entries empty = 0
 entries (entry k v t) = suc (entries t)
 
--- of a table in byte order, what stands behind the key k
+-- of a table in byte order, what stands after the key k
 abbrev pub past : List ℕ → Table → Table
 past k empty = empty
 past k (entry j v t) = pick (less k j) (entry j v t) (past k t)
@@ -41,25 +42,35 @@ least t = firstKey (sorted t)
 abbrev pub following : Table → List ℕ → Option (List ℕ)
 following t k = firstKey (past k (sorted t))
 
--- capitals stand before small letters, and a key before those that it begins: `b`, `ab`, `B`, `a` are `B`, `a`, `ab`, `b`
+-- capitals stand before small letters, and a key before those that it begins: `b`, `ab`, `B`, `a` are
+-- `B`, `a`, `ab`, `b`
 four : Table
-four = entry (ascii "b") (int (pos 1)) (entry (ascii "ab") (int (pos 2)) (entry (ascii "B") (int (pos 3)) (entry (ascii "a") (int (pos 4)) empty)))
+four =
+    entry (ascii "b") (int (pos 1)) (entry (ascii "ab") (int (pos 2))
+    (entry (ascii "B") (int (pos 3)) (entry (ascii "a") (int (pos 4)) empty)))
 
-in-order : sorted four ≡ entry (ascii "B") (int (pos 3)) (entry (ascii "a") (int (pos 4)) (entry (ascii "ab") (int (pos 2)) (entry (ascii "b") (int (pos 1)) empty)))
+in-order : sorted four
+    ≡ entry (ascii "B") (int (pos 3)) (entry (ascii "a") (int (pos 4))
+    (entry (ascii "ab") (int (pos 2)) (entry (ascii "b") (int (pos 1)) empty)))
 unfolding four
 in-order = refl
 
-one-by-one : (least four ≡ some (ascii "B")) × (following four (ascii "a") ≡ some (ascii "ab")) × (following four (ascii "aa") ≡ some (ascii "ab"))
+one-by-one : (least four ≡ some (ascii "B"))
+    × (following four (ascii "a") ≡ some (ascii "ab")) × (following four (ascii "aa") ≡ some (ascii "ab"))
     × (following four (ascii "b") ≡ none) × (least empty ≡ none)
 unfolding four
 one-by-one = (refl, refl, refl, refl, refl)
 
 -- a key that comes again keeps its first place in the table, and its place in byte order: `b = 1⏎a = 2⏎b = 3`
 abbrev again : List ℕ
-again = ascii "b = 1" ++ 10 ∷ ascii "a = 2" ++ 10 ∷ ascii "b = 3"
+again = ascii "b = 1" ++ lineFeed ∷ ascii "a = 2" ++ lineFeed ∷ ascii "b = 3"
 
 read-again : meant.document of01 again
-    ≡ accepted (record { root = entry (ascii "b") (int (pos 3)) (entry (ascii "a") (int (pos 2)) empty); bytes = ascii "bab"; made = 3 })
+    ≡ accepted (record {
+      root = entry (ascii "b") (int (pos 3)) (entry (ascii "a") (int (pos 2)) empty);
+      bytes = ascii "bab";
+      made = 3;
+    })
 unfolding meant.computes
 read-again = refl
 

@@ -6,15 +6,17 @@ use mathlib.Core.Option.{Option, none, some}
 use Rattle.meaning.specs.Base.{pick, nil?, orDefault, firstGiven, same}
 use Rattle.meaning.specs.Limits.{Limits}
 use Rattle.meaning.specs.Refusal.{Answer, accepted, refused, numbered, inApplication, acceptedThen as _>>=_}
-use Rattle.meaning.specs.Schema.{Kind, kindApp, kindPbp, kindRaw, Board, Image, Partition, Head, Boot, Component, Application, Preset}
+use Rattle.meaning.specs.Schema.{Kind, kindApp, kindPbp, kindRaw, Board, Image, Partition, Head, Boot, Component}
+use Rattle.meaning.specs.Schema.{Application, Preset}
 use Rattle.meaning.specs.Files.{fileStem}
-use Rattle.meaning.specs.Verdict.{among, behind}
+use Rattle.meaning.specs.Verdict.{among, withLast}
 use Rattle.meaning.specs.Rules.{nameOf}
 use Rattle.meaning.specs.Preset.{Read, validate}
 
 -- ---- what is asked for, and what a plan says
 
--- document 004, `Selection`: "The boot chain alone", or "The boot chain plus the `[apps.<package>]` application" of a key
+-- document 004, `Selection`: "The boot chain alone", or "The boot chain plus the `[apps.<package>]` application"
+-- of a key
 pub data Selection : Type 0 where
   bootChain : Selection
   app : List ℕ → Selection
@@ -30,7 +32,8 @@ pub data Source : Type 0 where
   fromPackage : Build → Source
   fromFile : List ℕ → Source
 
--- document 004, `PlannedComponent`: `spec` is the whole record, but without `pbp`, and without `file` where that is the source
+-- document 004, `PlannedComponent`: `spec` is the whole record, but without `pbp`, and without `file` where
+-- that is the source
 pub record PlannedComponent : Type 0 where
   pub spec : Component
   pub source : Source
@@ -68,7 +71,14 @@ fileLeft (some p) file = file
 fileLeft none file = none
 
 abbrev pub headLeft : Head → Head
-headLeft h = record { kind = h .kind; name = h .name; pack = h .pack; bin = h .bin; file = fileLeft (h .pack) (h .file); filename = h .filename }
+headLeft h = record {
+  kind = h .kind;
+  name = h .name;
+  pack = h .pack;
+  bin = h .bin;
+  file = fileLeft (h .pack) (h .file);
+  filename = h .filename;
+}
 
 -- document 004, `planned`: `spec.pbp = None`; `private` as written
 abbrev pub bootLeft : Boot → Boot
@@ -88,10 +98,31 @@ planned c =
 unfoldable pub componentOf : Application → Component
 componentOf a =
     record {
-      head = record { kind = kindApp; name = a .name; pack = some (a .pack); bin = none; file = none; filename = a .filename };
-      role = record { features = a .features; pbpFeatures = []; partition = a .partition; attr = a .attr; targetAttr = none; targetFilename = none };
+      head = record {
+        kind = kindApp;
+        name = a .name;
+        pack = some (a .pack);
+        bin = none;
+        file = none;
+        filename = a .filename;
+      };
+      role = record {
+        features = a .features;
+        pbpFeatures = [];
+        partition = a .partition;
+        attr = a .attr;
+        targetAttr = none;
+        targetFilename = none;
+      };
       boot = record { updater = false; ram = none; pbp = none; pbpPack = none; private = none };
-      load = record { loadAddress = a .loadAddress; entryPoint = none; entryOffset = a .entryOffset; headerVersion = none; withExt = false; extReserve = 0 };
+      load = record {
+        loadAddress = a .loadAddress;
+        entryPoint = none;
+        entryOffset = a .entryOffset;
+        headerVersion = none;
+        withExt = false;
+        extReserve = 0;
+      };
     }
 
 -- an application and its entry number
@@ -102,7 +133,8 @@ pub record Entry : Type 0 where
 -- document 003, `Preset::app`: "The application declared by `[apps.<package>]`"; the first of these is entry n
 abbrev pub declared : ℕ → List ℕ → List Application → Option Entry
 declared n key [] = none
-declared n key (a ∷ more) = pick (same key (a .pack)) (some (record { place = n; application = a })) (declared (n + 1) key more)
+declared n key (a ∷ more) =
+    pick (same key (a .pack)) (some (record { place = n; application = a })) (declared (n + 1) key more)
 
 abbrev pub componentNames : List Component → List (List ℕ)
 componentNames [] = []
@@ -112,16 +144,19 @@ componentNames (c ∷ cs) = c .head .name ∷ componentNames cs
 unfoldable pub admitted : List Component → Option Entry → Answer (Option Application)
 admitted cs none = refused (numbered 80) inApplication 0
 admitted cs (some e) =
-    pick (among (e .application .name) (componentNames cs)) (refused (numbered 81) inApplication (e .place)) (accepted (some (e .application)))
+    pick (among (e .application .name) (componentNames cs)) (refused (numbered 81) inApplication (e .place))
+    (accepted (some (e .application)))
 
--- the application that goes with the boot chain, if one is asked for. "A selection that is no declared key, UTF-8 or not, is 80."
+-- the application that goes with the boot chain, if one is asked for. "A selection that is no declared key, UTF-8 or
+-- not, is 80."
 unfoldable pub chosen : Preset → Selection → Answer (Option Application)
 chosen r bootChain = accepted none
 chosen r (app key) = admitted (r .components) (declared 0 key (r .applications))
 
 -- ---- components in order
 
--- "The application goes directly before the first component with a partition"; behind all where none has one, which 70 refuses
+-- "The application goes directly before the first component with a partition"; after all where none has one,
+-- which 70 refuses
 abbrev pub ahead : Component → List Component → List Component
 ahead a [] = a ∷ []
 ahead a (c ∷ cs) = pick (nil? (c .role .partition)) (c ∷ ahead a cs) (a ∷ c ∷ cs)
@@ -139,7 +174,9 @@ built? (some p) bin fs = built p bin fs ∷ []
 
 -- "each component's package, then its `pbp_package`", whose bin is the package itself
 unfoldable pub wanted : Component → List Build
-wanted c = built? (c .head .pack) (c .head .bin) (c .role .features) ++ built? (c .boot .pbpPack) none (c .role .pbpFeatures)
+wanted c =
+    built? (c .head .pack) (c .head .bin) (c .role .features)
+    ++ built? (c .boot .pbpPack) none (c .role .pbpFeatures)
 
 abbrev pub wantedBy : List Component → List Build
 wantedBy [] = []
@@ -148,13 +185,13 @@ wantedBy (c ∷ cs) = wanted c ++ wantedBy cs
 -- "the application last"
 unfoldable pub inOrder : Option Application → List Component → List Component
 inOrder none cs = cs
-inOrder (some a) cs = behind cs (componentOf a)
+inOrder (some a) cs = withLast cs (componentOf a)
 
 -- "one per package, with the first use's `bin`", and its features: those whose package is none of the earlier ones'
 abbrev pub firstUses : List (List ℕ) → List Build → List Build
 firstUses earlier [] = []
 firstUses earlier (b ∷ bs) =
-    let more : List Build = firstUses (behind earlier (b .pack)) bs in
+    let more : List Build = firstUses (withLast earlier (b .pack)) bs in
     pick (among (b .pack) earlier) more (b ∷ more)
 
 -- "Builds stand in first use"
@@ -182,7 +219,8 @@ abbrev pub ownStem : Option Component → Option (List ℕ)
 ownStem none = none
 ownStem (some c) = firstGiven (c .head .pack) (firstGiven (c .head .bin) (stemOfFile (c .head .file)))
 
--- "The stem is the selected package; for the boot chain it is .. of the first `app` component with a partition, else the board name."
+-- "The stem is the selected package; for the boot chain it is .. of the first `app` component with a partition, else
+-- the board name."
 unfoldable pub stemFor : Preset → Selection → List ℕ
 stemFor r bootChain = orDefault (ownStem (firstApp (r .components))) (r .board .name)
 stemFor r (app key) = key
@@ -212,7 +250,7 @@ composed r s a =
       stem = stemFor r s;
     }
 
--- document 004, `Preset::plan`, behind validation
+-- document 004, `Preset::plan`, after validation
 unfoldable pub planOf : Preset → Selection → Answer Plan
 planOf r s = do
   a ← chosen r s
@@ -231,5 +269,8 @@ plan lim width store tree name selection text = do
   accepted (record { read = r; plan = p })
 
 unfoldable pub computes : Unit {0}
-unfolding planned componentOf admitted chosen composition wanted inOrder buildsOf stemFor partitionFor composed planOf plan Rattle.meaning.specs.Preset.computes Rattle.meaning.specs.Files.computes
+unfolding planned componentOf admitted chosen composition wanted inOrder buildsOf stemFor partitionFor composed planOf
+    plan
+    Rattle.meaning.specs.Preset.computes
+    Rattle.meaning.specs.Files.computes
 computes = tt

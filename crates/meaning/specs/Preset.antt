@@ -28,5 +28,8 @@ validate lim width store tree name text = do
   accepted r
 
 unfoldable pub computes : Unit {0}
-unfolding read validate Rattle.meaning.specs.Rules.computes Rattle.meaning.specs.Document.computes Rattle.meaning.specs.Records.computes
+unfolding read validate
+    Rattle.meaning.specs.Rules.computes
+    Rattle.meaning.specs.Document.computes
+    Rattle.meaning.specs.Records.computes
 computes = tt

@@ -1,41 +1,51 @@
--- Where a byte stands outside a string. "In a string a backslash hides the next character."
+-- What stands outside a string, and the brackets there. "In a string a backslash hides the next character."
 use Prim.Native.Nat.{ℕ, suc, _+_}
 use mathlib.Core.Bool.{Bool, false}
 use mathlib.Core.List.{List, [], _∷_}
 use lib.Dec.{eqb}
-use Rattle.meaning.specs.Base.{pick}
+use Rattle.meaning.specs.declared.StringState.{StringState}
+use Rattle.meaning.specs.declared.StringState.the-variants.{Outside, Inside, Escaped}
 pub use Rattle.meaning.specs.declared.Scan.{Scan}
+use Rattle.meaning.specs.Base.{pick}
+use Rattle.meaning.specs.Bytes.{quoteMark, backslash, openBracket, closeBracket}
 
--- the state after a byte: 0 outside a string, 1 inside, 2 inside and behind a backslash. Hiding a character's first byte hides it: the rest are no quotes
-unfoldable pub quote : ℕ → ℕ → ℕ
-quote st b =
-    pick (eqb st 0) (pick (eqb b 34) 1 0)
-    (pick (eqb st 1) (pick (eqb b 92) 2 (pick (eqb b 34) 0 1)) 1)
+-- the state after a byte; hiding a character's first byte hides the character, since its other bytes are no quotes
+unfoldable pub stateAfter : StringState → ℕ → StringState
+stateAfter Outside b = pick (eqb b quoteMark) Inside Outside
+stateAfter Inside b = pick (eqb b backslash) Escaped (pick (eqb b quoteMark) Outside Inside)
+stateAfter Escaped b = Inside
 
 -- b is c, outside a string
-unfoldable pub hits : ℕ → ℕ → ℕ → Bool
-hits c st b = pick (eqb st 0) (eqb b c) false
+unfoldable pub hits : ℕ → StringState → ℕ → Bool
+hits c Outside b = eqb b c
+hits c Inside b = false
+hits c Escaped b = false
 
--- how many bytes stand before the first c outside a string, from state st on
-abbrev pub upTo : ℕ → ℕ → List ℕ → ℕ
-upTo c st [] = 0
-upTo c st (b ∷ s) = pick (hits c st b) 0 (suc (upTo c (quote st b) s))
+-- how many bytes stand before the first c outside a string, or in all where there is none
+abbrev pub upTo : ℕ → StringState → List ℕ → ℕ
+upTo c state [] = 0
+upTo c state (b ∷ s) = pick (hits c state b) 0 (suc (upTo c (stateAfter state b) s))
 
--- what is carried along a line from its start on: the string state, and the brackets `[` and `]` outside strings
+-- a line starts outside strings, with no brackets
 abbrev pub fresh : Scan
-fresh = record { st = 0; opens = 0; closes = 0 }
+fresh = record { state = Outside; opens = 0; closes = 0 }
 
 -- n and, where b is c outside a string, one more
-unfoldable pub tally : ℕ → ℕ → ℕ → ℕ → ℕ
-tally c st b n = pick (hits c st b) (n + 1) n
+unfoldable pub tally : ℕ → StringState → ℕ → ℕ → ℕ
+tally c state b n = pick (hits c state b) (n + 1) n
 
+-- the string state, and the brackets `[` and `]` outside strings, after one more byte
 unfoldable pub step : Scan → ℕ → Scan
-step c b = record { st = quote (c .st) b; opens = tally 91 (c .st) b (c .opens); closes = tally 93 (c .st) b (c .closes) }
+step c b = record {
+  state = stateAfter (c .state) b;
+  opens = tally openBracket (c .state) b (c .opens);
+  closes = tally closeBracket (c .state) b (c .closes);
+}
 
 abbrev pub scan : Scan → List ℕ → Scan
 scan c [] = c
 scan c (b ∷ s) = scan (step c b) s
 
 unfoldable pub computes : Unit {0}
-unfolding quote hits tally step
+unfolding stateAfter hits tally step
 computes = tt

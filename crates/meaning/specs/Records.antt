@@ -5,12 +5,15 @@ use mathlib.Core.List.{List, [], _++_}
 use mathlib.Core.Option.{Option, none, some}
 use Rattle.meaning.specs.Base.{pick, nil?, ascii, orDefault, firstGiven}
 use Rattle.meaning.specs.Limits.{Limits}
-use Rattle.meaning.specs.Refusal.{R, ok, okThen as _>>=_, Answer, accepted, acceptedThen, inBoard, inImage, inPartition, inComponent, inApplication}
+use Rattle.meaning.specs.Refusal.{R, ok, okThen as _>>=_, Answer, accepted, acceptedThen, inBoard, inImage}
+use Rattle.meaning.specs.Refusal.{inPartition, inComponent, inApplication}
 use Rattle.meaning.specs.Utf8.{valid}
 use Rattle.meaning.specs.Tree.{Table}
 use Rattle.meaning.specs.Order.{sorted}
-use Rattle.meaning.specs.Schema.{Chip, d13x, kindRaw, chipOf, mediaOf, kindOf, chipWord, mediaFor, targetFor, Board, Image, Partition, Head, Role, Boot, Load, Component, Application, Preset}
-use Rattle.meaning.specs.Fields.{aText, aNumber, aFlag, aWord, field, defaulted, required, tableAt, listAt, Row, rows, tabled, listed, outside}
+use Rattle.meaning.specs.Schema.{Chip, d13x, kindRaw, chipOf, mediaOf, kindOf, chipWord, mediaFor, targetFor}
+use Rattle.meaning.specs.Schema.{Board, Image, Partition, Head, Role, Boot, Load, Component, Application, Preset}
+use Rattle.meaning.specs.Fields.{aText, aNumber, aFlag, aWord, field, defaulted, required, tableAt, listAt, Row}
+use Rattle.meaning.specs.Fields.{rows, tabled, listed, outside}
 use Rattle.meaning.specs.Features.{aFeatures}
 use Rattle.meaning.specs.Files.{fileName}
 
@@ -25,7 +28,8 @@ chosen none none = accepted d13x
 -- "board `chip` and image `platform`; the chip word"
 unfoldable pub chipFrom : Table → Table → Answer Chip
 chipFrom board image =
-    acceptedThen (outside inBoard (field aText board (ascii "chip"))) (λ chip. acceptedThen (outside inImage (field aText image (ascii "platform"))) (chosen chip))
+    acceptedThen (outside inBoard (field aText board (ascii "chip"))) (λ chip.
+    acceptedThen (outside inImage (field aText image (ascii "platform"))) (chosen chip))
 
 -- "board `name`, `target`, `profile`"
 unfoldable pub boardFrom : List ℕ → Chip → Table → R Board
@@ -45,7 +49,15 @@ imageFrom chip f = do
   mediaDevId ← defaulted aNumber 0 f (ascii "media_dev_id")
   mediaId ← defaulted aText [] f (ascii "media_id")
   bootApp ← defaulted aText [] f (ascii "app")
-  ok (record { platform = platform; product = product; version = version; media = media; mediaDevId = mediaDevId; mediaId = mediaId; bootApp = bootApp })
+  ok (record {
+    platform = platform;
+    product = product;
+    version = version;
+    media = media;
+    mediaDevId = mediaDevId;
+    mediaId = mediaId;
+    bootApp = bootApp;
+  })
 
 -- the board and the image, which share the chip
 pub record Front : Type 0 where
@@ -73,7 +85,9 @@ partitionFrom f = do
 
 -- "Partitions 32"
 unfoldable pub partitionsOf : Limits → Table → Answer (List Partition)
-partitionsOf lim root = acceptedThen (outside inPartition (listAt root (ascii "partition") (ascii "partitions"))) (listed (tabled partitionFrom) inPartition (lim .partitions))
+partitionsOf lim root =
+    acceptedThen (outside inPartition (listAt root (ascii "partition") (ascii "partitions")))
+    (listed (tabled partitionFrom) inPartition (lim .partitions))
 
 -- ---- components
 
@@ -97,7 +111,8 @@ headFrom f = do
   filename ← defaulted aText (filenameFor bin file pack) f (ascii "filename")
   ok (record { kind = kind; name = name; pack = pack; bin = bin; file = file; filename = filename })
 
--- ".. `features`, `pbp_features`, `partition`, `attr`, `target_attr`, `target_filename`, .."; "Empty `pbp_features` takes `features`."
+-- ".. `features`, `pbp_features`, `partition`, `attr`, `target_attr`, `target_filename`, .."; "Empty `pbp_features`
+-- takes `features`."
 unfoldable pub roleFrom : ℕ → Table → R Role
 roleFrom limit f = do
   features ← defaulted (aFeatures limit) [] f (ascii "features")
@@ -155,7 +170,8 @@ componentFrom limit f = do
 -- "components 64"; "Items in one feature list ..: 32"
 unfoldable pub componentsOf : Limits → Table → Answer (List Component)
 componentsOf lim root =
-    acceptedThen (outside inComponent (listAt root (ascii "component") (ascii "components"))) (listed (tabled (componentFrom (lim .features))) inComponent (lim .components))
+    acceptedThen (outside inComponent (listAt root (ascii "component") (ascii "components")))
+    (listed (tabled (componentFrom (lim .features))) inComponent (lim .components))
 
 -- ---- applications
 
@@ -187,7 +203,8 @@ applicationAt limit r = tabled (applicationFrom limit (r .key)) (r .value)
 -- "applications 64", "in byte order of key"
 unfoldable pub applicationsOf : Limits → Table → Answer (List Application)
 applicationsOf lim root =
-    acceptedThen (outside inApplication (tableAt root (ascii "apps"))) (λ apps. listed (applicationAt (lim .features)) inApplication (lim .applications) (rows (sorted apps)))
+    acceptedThen (outside inApplication (tableAt root (ascii "apps"))) (λ apps.
+    listed (applicationAt (lim .features)) inApplication (lim .applications) (rows (sorted apps)))
 
 -- ---- all
 
@@ -202,8 +219,20 @@ presetOf lim name root =
     acceptedThen (partitionsOf lim root) (λ partitions.
     acceptedThen (componentsOf lim root) (λ components.
     acceptedThen (applicationsOf lim root) (λ applications.
-    accepted (record { board = front .board; image = front .image; partitions = partitions; components = components; applications = applications })))))
+    accepted (record {
+      board = front .board;
+      image = front .image;
+      partitions = partitions;
+      components = components;
+      applications = applications;
+    })))))
 
 unfoldable pub computes : Unit {0}
-unfolding chosen chipFrom boardFrom imageFrom frontOf partitionFrom partitionsOf filenameFor headFrom roleFrom bootFrom loadFrom componentFrom componentsOf applicationFrom applicationsOf lentName presetOf Rattle.meaning.specs.Utf8.computes Rattle.meaning.specs.Schema.computes Rattle.meaning.specs.Fields.computes Rattle.meaning.specs.Features.computes Rattle.meaning.specs.Files.computes
+unfolding chosen chipFrom boardFrom imageFrom frontOf partitionFrom partitionsOf filenameFor headFrom roleFrom bootFrom
+    loadFrom componentFrom componentsOf applicationFrom applicationsOf lentName presetOf
+    Rattle.meaning.specs.Utf8.computes
+    Rattle.meaning.specs.Schema.computes
+    Rattle.meaning.specs.Fields.computes
+    Rattle.meaning.specs.Features.computes
+    Rattle.meaning.specs.Files.computes
 computes = tt

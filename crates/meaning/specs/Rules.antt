@@ -1,4 +1,5 @@
--- 01, "Refusal numbers" 30 to 35 and 50 to 70: validation, "in table order, one entry through its checks before the next".
+-- 01, "Refusal numbers" 30 to 35 and 50 to 70: validation, "in table order, one entry through its checks before the
+-- next".
 use Prim.Native.Nat.{ℕ, _+_, _%_}
 use mathlib.Core.Bool.{Bool, true, false}
 use mathlib.Core.List.{List, [], _∷_, _++_}
@@ -6,11 +7,13 @@ use mathlib.Core.Option.{Option, none, some}
 use lib.Dec.{eqb}
 use lib.ListN.{take}
 use Rattle.meaning.specs.Base.{pick, nil?, ascii, same, before}
+use Rattle.meaning.specs.Bytes.{semicolon}
 use Rattle.meaning.specs.Refusal.{Answer, refused, numbered, inBoard, inImage, inComponent, inApplication}
 use Rattle.meaning.specs.Space.{trim}
-use Rattle.meaning.specs.Schema.{Chip, d13x, d21x, Media, spiNor, spiNand, chipWord, mediaFor, Board, Image, Partition, Component, Application, Preset}
+use Rattle.meaning.specs.Schema.{Chip, d13x, d21x, Media, spiNor, spiNand, chipWord, mediaFor, Board, Image}
+use Rattle.meaning.specs.Schema.{Partition, Component, Application, Preset}
 use Rattle.meaning.specs.Layout.{layout}
-use Rattle.meaning.specs.Verdict.{Verdict, fine, firstRefusal, judged, orElse, long, among, inTurn, behind}
+use Rattle.meaning.specs.Verdict.{Verdict, fine, firstRefusal, judged, orElse, long, among, inTurn, withLast}
 
 -- ---- 30 to 35
 
@@ -48,14 +51,17 @@ widthFault chip (some c) = pick (sameChip chip c) 0 35
 
 -- 30, 31: "media not the chip's; platform not the chip's name"
 unfoldable pub deviceFault : Board → Image → ℕ
-deviceFault b i = pick (sameMedia (mediaFor (b .chip)) (i .media)) (pick (same (i .platform) (chipWord (b .chip))) 0 31) 30
+deviceFault b i =
+    pick (sameMedia (mediaFor (b .chip)) (i .media)) (pick (same (i .platform) (chipWord (b .chip))) 0 31) 30
 
--- 32: "empty profile"; 33: "boot app over 32 bytes". "Refusals 30, 31, 33 .. are in section 2; 32, 34 and 35 in section 1."
+-- 32: "empty profile"; 33: "boot app over 32 bytes". "Refusals 30, 31, 33 .. are in section 2; 32, 34 and 35 in section
+-- 1."
 unfoldable pub frontRules : Board → Image → Verdict
 frontRules b i =
     firstRefusal (judged inImage 0 (deviceFault b i))
     (firstRefusal (judged inBoard 0 (pick (nil? (b .profile)) 32 0))
-    (firstRefusal (judged inImage 0 (pick (long (i .bootApp)) 33 0)) (judged inBoard 0 (widthFault (b .chip) (chipFor (b .target))))))
+    (firstRefusal (judged inImage 0 (pick (long (i .bootApp)) 33 0))
+    (judged inBoard 0 (widthFault (b .chip) (chipFor (b .target))))))
 
 -- ---- 50 to 59
 
@@ -65,7 +71,7 @@ partitionNames (p ∷ ps) = p .name ∷ partitionNames ps
 
 -- "A component's reference drops everything from the first `;` and is trimmed"
 unfoldable pub nameOf : List ℕ → List ℕ
-nameOf reference = trim (take (before 59 reference) reference)
+nameOf reference = trim (take (before semicolon reference) reference)
 
 abbrev pub given : {X : Type 0} → Option X → Bool
 given none = false
@@ -81,11 +87,15 @@ sourceFault pack file = pick pack (pick file 53 0) (pick file 0 54)
 
 -- 55: "`pbp` and `pbp_package`"; 56: "updater without `ram`"
 unfoldable pub bootFault : Bool → Bool → Bool → Bool → ℕ
-bootFault pbp pbpPack updater ram = pick (pick pbp pbpPack false) 55 (pick (pick updater (pick ram false true) false) 56 0)
+bootFault pbp pbpPack updater ram =
+    pick (pick pbp pbpPack false) 55
+    (pick (pick updater (pick ram false true) false) 56 0)
 
 -- 57, 58: "no partition and no updater; unknown partition"
 unfoldable pub targetFault : List (List ℕ) → Bool → List ℕ → ℕ
-targetFault parts updater reference = pick (nil? reference) (pick updater 0 57) (pick (among (nameOf reference) parts) 0 58)
+targetFault parts updater reference =
+    pick (nil? reference) (pick updater 0 57)
+    (pick (among (nameOf reference) parts) 0 58)
 
 -- 59: "`ext_reserve` not a multiple of 512"
 unfoldable pub reserveFault : ℕ → ℕ
@@ -102,7 +112,8 @@ componentFault parts earlier c =
 -- 50: "no components"
 unfoldable pub componentRules : List (List ℕ) → List Component → Verdict
 componentRules parts [] = refused (numbered 50) inComponent 0
-componentRules parts (c ∷ cs) = inTurn (componentFault parts) (λ earlier d. behind earlier (d .head .name)) inComponent 0 [] (c ∷ cs)
+componentRules parts (c ∷ cs) =
+    inTurn (componentFault parts) (λ earlier d. withLast earlier (d .head .name)) inComponent 0 [] (c ∷ cs)
 
 -- ---- 60
 
@@ -162,8 +173,10 @@ useFault earlier us = pick (clashes earlier us) 60 0
 -- "(section 4 or 5)"
 unfoldable pub featureRules : List Component → List Application → Verdict
 featureRules cs apps =
-    firstRefusal (inTurn (λ earlier c. useFault earlier (usesOf c)) (λ earlier c. earlier ++ usesOf c) inComponent 0 [] cs)
-    (inTurn (λ earlier a. useFault earlier (useOf a)) (λ earlier a. earlier ++ useOf a) inApplication 0 (allUses cs) apps)
+    firstRefusal
+    (inTurn (λ earlier c. useFault earlier (usesOf c)) (λ earlier c. earlier ++ usesOf c) inComponent 0 [] cs)
+    (inTurn (λ earlier a. useFault earlier (useOf a)) (λ earlier a. earlier ++ useOf a)
+    inApplication 0 (allUses cs) apps)
 
 -- ---- 61 to 66
 
@@ -172,22 +185,26 @@ unfoldable pub addressFault : Option ℕ → ℕ
 addressFault none = 0
 addressFault (some a) = pick (eqb (a % 4) 0) 0 66
 
--- "empty name; over 32 bytes; empty filename; unknown partition; duplicate name"; "validation compares an application's exactly"
+-- "empty name; over 32 bytes; empty filename; unknown partition; duplicate name"; "validation compares an
+-- application's exactly"
 unfoldable pub applicationFault : List (List ℕ) → List (List ℕ) → Application → ℕ
 applicationFault parts earlier a =
     pick (nil? (a .name)) 61
     (pick (long (a .name)) 62
-    (pick (nil? (a .filename)) 63 (pick (among (a .partition) parts) (pick (among (a .name) earlier) 65 (addressFault (a .loadAddress))) 64)))
+    (pick (nil? (a .filename)) 63
+    (pick (among (a .partition) parts) (pick (among (a .name) earlier) 65 (addressFault (a .loadAddress))) 64)))
 
 unfoldable pub applicationRules : List (List ℕ) → List Application → Verdict
-applicationRules parts apps = inTurn (applicationFault parts) (λ earlier a. behind earlier (a .name)) inApplication 0 [] apps
+applicationRules parts apps =
+    inTurn (applicationFault parts) (λ earlier a. withLast earlier (a .name)) inApplication 0 [] apps
 
 -- ---- 70
 
 -- some component's reference names the partition
 abbrev pub targets : List ℕ → List Component → Bool
 targets name [] = false
-targets name (c ∷ cs) = pick (pick (nil? (c .role .partition)) false (same (nameOf (c .role .partition)) name)) true (targets name cs)
+targets name (c ∷ cs) =
+    pick (pick (nil? (c .role .partition)) false (same (nameOf (c .role .partition)) name)) true (targets name cs)
 
 -- "no component targets the first partition (section 4, place 0)"
 unfoldable pub bootRule : List (List ℕ) → List Component → Verdict
@@ -202,8 +219,13 @@ rules r =
     (firstRefusal (layout (r .board .chip) (r .partitions))
     (firstRefusal (componentRules (partitionNames (r .partitions)) (r .components))
     (firstRefusal (featureRules (r .components) (r .applications))
-    (firstRefusal (applicationRules (partitionNames (r .partitions)) (r .applications)) (bootRule (partitionNames (r .partitions)) (r .components))))))
+    (firstRefusal (applicationRules (partitionNames (r .partitions)) (r .applications))
+    (bootRule (partitionNames (r .partitions)) (r .components))))))
 
 unfoldable pub computes : Unit {0}
-unfolding chipFor widthFault deviceFault frontRules nameOf componentName sourceFault bootFault targetFault reserveFault componentFault componentRules usesOf differ featureRules addressFault applicationFault applicationRules bootRule rules Rattle.meaning.specs.Space.computes Rattle.meaning.specs.Layout.computes
+unfolding chipFor widthFault deviceFault frontRules nameOf componentName sourceFault bootFault targetFault reserveFault
+    componentFault componentRules usesOf differ featureRules addressFault applicationFault applicationRules bootRule
+    rules
+    Rattle.meaning.specs.Space.computes
+    Rattle.meaning.specs.Layout.computes
 computes = tt

@@ -1,4 +1,5 @@
--- 01, "From tree to records" (document 003): chips, media and kinds with what belongs to them, and the records. Refusal 22.
+-- 01, "From tree to records" (document 003): chips, media and kinds with what belongs to them, and the records. Refusal
+-- 22.
 use Prim.Native.Nat.{ℕ}
 use mathlib.Core.Bool.{Bool}
 use mathlib.Core.List.{List, [], _∷_}
@@ -80,7 +81,8 @@ erase spiNand = 131072
 unfoldable pub eraseFor : Chip → ℕ
 eraseFor chip = erase (mediaFor chip)
 
--- ---- the records. `package` is a word of this language, so that a package is `pack` here; "A file source carries its path as written."
+-- ---- the records. `package` is a word of this language, so that a package is `pack` here; "A file source carries its
+-- path as written."
 
 -- document 003, `BoardInfo`
 pub record Board : Type 0 where

@@ -1,4 +1,5 @@
--- UTF-8, from the ABNF of RFC 3629, section 4 (refusal 2, and the lent board name), and the characters of a byte string.
+-- UTF-8, from the ABNF of RFC 3629, section 4 (refusal 2, and the lent board name), and the characters of a byte
+-- string.
 use Prim.Native.Nat.{ℕ, zero, suc, _+_, _-_, _*_, _%_}
 use mathlib.Core.Bool.{Bool, true, false}
 use mathlib.Core.List.{List, [], _∷_, _++_}
@@ -61,7 +62,8 @@ utf8-4 =
 unfoldable pub char : List ℕ → ℕ
 char s = pick (oneOf utf8-1 s) 1 (pick (oneOf utf8-2 s) 2 (pick (oneOf utf8-3 s) 3 (pick (oneOf utf8-4 s) 4 0)))
 
--- section 3: the bits that stand for x in "0xxxxxxx", "110xxxxx 10xxxxxx", "1110xxxx 10xxxxxx 10xxxxxx" and "11110xxx 10xxxxxx 10xxxxxx 10xxxxxx"
+-- section 3: the bits that stand for x in "0xxxxxxx", "110xxxxx 10xxxxxx", "1110xxxx 10xxxxxx 10xxxxxx" and "11110xxx
+-- 10xxxxxx 10xxxxxx 10xxxxxx"
 abbrev pub point : List ℕ → ℕ
 point [] = 0
 point (b ∷ []) = b

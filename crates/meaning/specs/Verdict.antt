@@ -37,8 +37,10 @@ among x (y ∷ ys) = pick (same x y) true (among x ys)
 -- each entry against what its forerunners left, the first of which is entry n
 abbrev pub inTurn : {X S : Type 0} → (S → X → ℕ) → (S → X → S) → ℕ → ℕ → S → List X → Verdict
 inTurn rule next section n s [] = fine
-inTurn rule next section n s (x ∷ xs) = firstRefusal (judged section n (rule s x)) (inTurn rule next section (n + 1) (next s x) xs)
+inTurn rule next section n s (x ∷ xs) =
+    firstRefusal (judged section n (rule s x))
+    (inTurn rule next section (n + 1) (next s x) xs)
 
--- x behind the others
-abbrev pub behind : {X : Type 0} → List X → X → List X
-behind xs x = xs ++ (x ∷ [])
+-- x after the others
+abbrev pub withLast : {X : Type 0} → List X → X → List X
+withLast xs x = xs ++ (x ∷ [])

@@ -25,9 +25,16 @@ pub struct Limits {
     pub features: usize,
 }
 
+// Where a byte stands: outside a string, inside one, or inside one and after a backslash.
+pub enum StringState {
+    Outside,
+    Inside,
+    Escaped,
+}
+
 // What is carried along a line: the string state, and the brackets `[` and `]` outside strings.
 pub struct Scan {
-    pub st: u8,
+    pub state: StringState,
     pub opens: usize,
     pub closes: usize,
 }
@@ -43,6 +50,12 @@ pub enum Fate {
 pub struct Signed {
     pub neg: bool,
     pub mag: u64,
+}
+
+// Where a byte of a string stands: for itself, or after a backslash.
+pub enum StringByte {
+    Plain,
+    AfterBackslash,
 }
 
 // What a byte of a string does: ends it, announces an escape, stands for a byte, or is no escape.

@@ -7,7 +7,7 @@ use mathlib.Core.Path.{_≡_, refl, sym, ap, _∙_}
 use lib.ListN.{length}
 use lib.Seq.{take-all}
 use Rattle.meaning.specs.Base.{pick, ascii}
-use Rattle.meaning.specs.Verdict.{among, behind}
+use Rattle.meaning.specs.Verdict.{among, withLast}
 use Rattle.meaning.specs.Rules.{twice}
 use Rattle.meaning.specs.Schema as schema
 use Rattle.meaning.specs.Plan as meant
@@ -99,7 +99,7 @@ module _ (room store : List ℕ) (made : ℕ) (name : List ℕ) where
   packs-skip [] u h = rw h
   packs-skip (e ∷ es) u h = rw (packs-skip es u h)
 
-  packs-behind : (es : List Build) (u : Build) → there (u .«package») ≡ true → packs (es ++ (u ∷ [])) ≡ behind (packs es) (spelled store name (u .«package»))
+  packs-behind : (es : List Build) (u : Build) → there (u .«package») ≡ true → packs (es ++ (u ∷ [])) ≡ withLast (packs es) (spelled store name (u .«package»))
   packs-behind [] u h = rw h
   packs-behind (e ∷ es) u h = rw (packs-behind es u h) (on (there (e .«package»)) (λ t. rw t) (λ t. rw t))
 
@@ -164,7 +164,7 @@ module _ (room store : List ℕ) (made : ℕ) (name : List ℕ) where
   uses-behind [] u = refl
   uses-behind (v ∷ us) u = rw (uses-behind us u) (on (there (v .«package»)) (λ t. rw t) (λ t. rw t))
 
-  wanted-behind : (cs : List schema.Component) (c : schema.Component) → meant.wantedBy (behind cs c) ≡ meant.wantedBy cs ++ meant.wanted c
+  wanted-behind : (cs : List schema.Component) (c : schema.Component) → meant.wantedBy (withLast cs c) ≡ meant.wantedBy cs ++ meant.wanted c
   wanted-behind [] c = append-nil (meant.wanted c)
   wanted-behind (d ∷ cs) c = rw (wanted-behind cs c) (sym (append-assoc (meant.wanted d) (meant.wantedBy cs) (meant.wanted c)))
 

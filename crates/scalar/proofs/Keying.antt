@@ -13,7 +13,9 @@ use Rattle.meaning.specs.Refusal.{R, ok, bad, okThen}
 use Rattle.meaning.specs.Space.{trim}
 use Rattle.meaning.specs.declared.Act.{Act}
 use Rattle.meaning.specs.declared.Act.the-variants.{End, Hold, Put, Fault}
-use Rattle.meaning.specs.Strings.{act, Said, go, decode}
+use Rattle.meaning.specs.declared.StringByte.{StringByte}
+use Rattle.meaning.specs.declared.StringByte.the-variants.{Plain, AfterBackslash}
+use Rattle.meaning.specs.Strings.{actOf, Said, byAct, decode}
 use Rattle.meaning.specs.Keys.{segment, segments, keys}
 use Rattle.scalar.specs.declared.string.Decoded.{Decoded}
 use Rattle.scalar.specs.declared.key.Verdict.{Verdict}
@@ -176,12 +178,12 @@ module _ (limit : ℕ) (s store : List ℕ) (at : ℕ) (store' : List ℕ) (ks :
   key-segment m = rw (within, h .left) (segment-at store at ks i m (omega (arith, h .count)))
 
 -- ---- a string says no more bytes than it takes
-go-fits : (st n : ℕ) (a : Act) (f : ℕ → Said) → ((t : ℕ) → length (f t .bytes) ≤ n) → length (go st a f .bytes) ≤ suc n
+go-fits : (st : StringByte) (n : ℕ) (a : Act) (f : StringByte → Said) → ((t : StringByte) → length (f t .bytes) ≤ n) → length (byAct st a f .bytes) ≤ suc n
 go-fits st n End f h = omega arith
-go-fits st n Hold f h = omega (arith, h 1)
-go-fits st n (Put c) f h = omega (arith, h 0)
+go-fits st n Hold f h = omega (arith, h AfterBackslash)
+go-fits st n (Put c) f h = omega (arith, h Plain)
 go-fits st n Fault f h = omega arith
 
-pub said-fits : (st : ℕ) (s : List ℕ) → length (decode st s .bytes) ≤ length s
+pub said-fits : (st : StringByte) (s : List ℕ) → length (decode st s .bytes) ≤ length s
 said-fits st [] = omega arith
-said-fits st (b ∷ s) = go-fits st (length s) (act st b) (λ t. decode t s) (λ t. said-fits t s)
+said-fits st (b ∷ s) = go-fits st (length s) (actOf st b) (λ t. decode t s) (λ t. said-fits t s)

@@ -11,6 +11,7 @@ use lib.Seq.{drop-drop, length-take-le}
 use Rattle.meaning.specs.Base.{pick, nil?, final}
 use Rattle.meaning.specs.Refusal.{R, ok, bad}
 use Rattle.meaning.specs.Space.{trim}
+use Rattle.meaning.specs.declared.StringByte.the-variants.{Plain}
 use Rattle.meaning.specs.Strings.{Ending, closed, escape, unended, Said, decode}
 use Rattle.meaning.specs.Keys.{nonempty, quoted, segment}
 use Rattle.laws.specs.Cases.{on}
@@ -70,20 +71,20 @@ judged-is f b = on (eqb f 34) (λ p. rw p (go b)) (λ p. rw p)
 
 module _ (p store store' : List ℕ) (a : ℕ) (d : Decoded) (h : Puts p store a store' d) where
   pub quoted-closed : (u w f : ℕ) (v : Verdict) → d ≡ decoded.Done u w → f ≡ final p → v ≡ judged f w
-      → Segmented p (quoted p) (decode 0 p .bytes) store a store' (record { verdict = v; written = w })
+      → Segmented p (quoted p) (decode Plain p .bytes) store a store' (record { verdict = v; written = w })
   unfolding quoted
   quoted-closed u w f v q e j =
       let c : Speaks p closed u w = string-closed p store store' a d h u w q in
       let k : Closed (length p) u w = closed-within p store store' a d h u w q in
       record {
-        says = rw (c .how, j, ← (c .size), e) (judged-is (final p) (decode 0 p .bytes));
+        says = rw (c .how, j, ← (c .size), e) (judged-is (final p) (decode Plain p .bytes));
         wrote = sym (c .size);
         fits = omega (arith, k .fits, k .less);
         left = h .left;
       }
 
   pub quoted-escape : (u w : ℕ) → d ≡ decoded.Escape u w
-      → Segmented p (quoted p) (decode 0 p .bytes) store a store' (record { verdict = Escape; written = w })
+      → Segmented p (quoted p) (decode Plain p .bytes) store a store' (record { verdict = Escape; written = w })
   unfolding quoted
   quoted-escape u w q =
       let c : Speaks p escape u w = string-escape p store store' a d h u w q in
@@ -91,10 +92,10 @@ module _ (p store store' : List ℕ) (a : ℕ) (d : Decoded) (h : Puts p store a
       record { says = rw (c .how); wrote = sym (c .size); fits = omega (arith, k .fits, k .most); left = h .left }
 
   pub quoted-unended : (w : ℕ) → d ≡ decoded.Unended w
-      → Segmented p (quoted p) (decode 0 p .bytes) store a store' (record { verdict = Unended; written = w })
+      → Segmented p (quoted p) (decode Plain p .bytes) store a store' (record { verdict = Unended; written = w })
   unfolding quoted
   quoted-unended w q =
-      let c : Speaks p unended (decode 0 p .span) w = string-unended p store store' a d h w q in
+      let c : Speaks p unended (decode Plain p .span) w = string-unended p store store' a d h w q in
       let k : Open (length p) w = unended-within p store store' a d h w q in
       record { says = rw (c .how); wrote = sym (c .size); fits = k .most; left = h .left }
 
@@ -109,11 +110,11 @@ module _ (p store : List ℕ) (a f : ℕ) (e : f ≡ getD p 0 0) where
 
   module _ (store' : List ℕ) (r : Segment) where
     pub trimmed-quoted : f ≡ 34
-        → Segmented (take (length p - 1) (drop 1 p)) (quoted (take (length p - 1) (drop 1 p))) (decode 0 (take (length p - 1) (drop 1 p)) .bytes) store a store' r
+        → Segmented (take (length p - 1) (drop 1 p)) (quoted (take (length p - 1) (drop 1 p))) (decode Plain (take (length p - 1) (drop 1 p)) .bytes) store a store' r
         → Segmented p (segment p) (laid p) store a store' r
     unfolding segment laid
     trimmed-quoted q h =
-        let k : Segmented (drop 1 p) (quoted (drop 1 p)) (decode 0 (drop 1 p) .bytes) store a store' r = rw (rest-of p 1) at h in
+        let k : Segmented (drop 1 p) (quoted (drop 1 p)) (decode Plain (drop 1 p) .bytes) store a store' r = rw (rest-of p 1) at h in
         let t : eqb (getD p 0 0) 34 ≡ true = eq-eqb (getD p 0 0) 34 (sym e ∙ q) in
         record {
           says = rw t (k .says);

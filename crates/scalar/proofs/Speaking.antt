@@ -3,6 +3,7 @@ use Prim.Native.Nat.{ℕ, _+_, _≤_, _<_}
 use mathlib.Core.List.{List}
 use mathlib.Core.Path.{_≡_, refl, sym, _∙_}
 use lib.ListN.{length}
+use Rattle.meaning.specs.declared.StringByte.the-variants.{Plain}
 use Rattle.meaning.specs.Strings.{Ending, closed, escape, unended, decode}
 use Rattle.scalar.specs.declared.string.Decoded.{Decoded}
 use Rattle.scalar.specs.declared.string.Decoded.the-variants.{Done, Escape, Unended}
@@ -10,9 +11,9 @@ use Rattle.scalar.specs.Decodes.{answer, Closed, Stuck, Open, Puts}
 
 -- the string ends so, after so many bytes of text, and says w bytes
 pub record Speaks (src : List ℕ) (e : Ending) (k w : ℕ) : Type 0 where
-  pub how : decode 0 src .how ≡ e
-  pub span : decode 0 src .span ≡ k
-  pub size : length (decode 0 src .bytes) ≡ w
+  pub how : decode Plain src .how ≡ e
+  pub span : decode Plain src .span ≡ k
+  pub size : length (decode Plain src .bytes) ≡ w
 
 closed-of : (e : Ending) (k m u w : ℕ) → answer e k m ≡ Done u w → (e ≡ closed) × (k ≡ u) × (m ≡ w)
 closed-of closed k m u w q = (refl, cc, cc)
@@ -32,20 +33,20 @@ unended-of unended k m w q = (refl, cc)
 module _ (src store store' : List ℕ) (at : ℕ) (r : Decoded) (h : Puts src store at store' r) where
   pub string-closed : (u w : ℕ) → r ≡ Done u w → Speaks src closed u w
   string-closed u w q =
-      let c : (decode 0 src .how ≡ closed) × (decode 0 src .span ≡ u) × (length (decode 0 src .bytes) ≡ w) =
-      closed-of (decode 0 src .how) (decode 0 src .span) (length (decode 0 src .bytes)) u w (sym (h .says) ∙ q) in
+      let c : (decode Plain src .how ≡ closed) × (decode Plain src .span ≡ u) × (length (decode Plain src .bytes) ≡ w) =
+      closed-of (decode Plain src .how) (decode Plain src .span) (length (decode Plain src .bytes)) u w (sym (h .says) ∙ q) in
       record { how = c .0; span = c .1; size = c .2 }
 
   pub string-escape : (u w : ℕ) → r ≡ Escape u w → Speaks src escape u w
   string-escape u w q =
-      let c : (decode 0 src .how ≡ escape) × (decode 0 src .span ≡ u) × (length (decode 0 src .bytes) ≡ w) =
-      escape-of (decode 0 src .how) (decode 0 src .span) (length (decode 0 src .bytes)) u w (sym (h .says) ∙ q) in
+      let c : (decode Plain src .how ≡ escape) × (decode Plain src .span ≡ u) × (length (decode Plain src .bytes) ≡ w) =
+      escape-of (decode Plain src .how) (decode Plain src .span) (length (decode Plain src .bytes)) u w (sym (h .says) ∙ q) in
       record { how = c .0; span = c .1; size = c .2 }
 
-  pub string-unended : (w : ℕ) → r ≡ Unended w → Speaks src unended (decode 0 src .span) w
+  pub string-unended : (w : ℕ) → r ≡ Unended w → Speaks src unended (decode Plain src .span) w
   string-unended w q =
-      let c : (decode 0 src .how ≡ unended) × (length (decode 0 src .bytes) ≡ w) =
-      unended-of (decode 0 src .how) (decode 0 src .span) (length (decode 0 src .bytes)) w (sym (h .says) ∙ q) in
+      let c : (decode Plain src .how ≡ unended) × (length (decode Plain src .bytes) ≡ w) =
+      unended-of (decode Plain src .how) (decode Plain src .span) (length (decode Plain src .bytes)) w (sym (h .says) ∙ q) in
       record { how = c .0; span = refl; size = c .1 }
 
   -- how far it goes

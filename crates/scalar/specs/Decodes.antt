@@ -3,6 +3,7 @@ use Prim.Native.Nat.{ℕ, _≤_, _<_}
 use mathlib.Core.List.{List}
 use mathlib.Core.Path.{_≡_}
 use lib.ListN.{length}
+use Rattle.meaning.specs.declared.StringByte.the-variants.{Plain}
 use Rattle.meaning.specs.Strings.{Ending, closed, escape, unended, Said, decode}
 use Rattle.scalar.specs.declared.string.Decoded.{Decoded}
 use Rattle.scalar.specs.declared.string.Decoded.the-variants.{Done, Escape, Unended}
@@ -37,12 +38,12 @@ Within n (Unended written) = Open n written
 
 -- what `decode` leaves: its answer, and in the room the bytes decoded with what stood past them
 pub record Decodes (src out out' : List ℕ) (r : Decoded) : Type 0 where
-  pub says : r ≡ answerOf (decode 0 src)
-  pub left : out' ≡ over (decode 0 src .bytes) out
+  pub says : r ≡ answerOf (decode Plain src)
+  pub left : out' ≡ over (decode Plain src .bytes) out
   pub within : Within (length src) r
 
 -- what `put_string` leaves: the same, behind at in the store
 pub record Puts (src store : List ℕ) (at : ℕ) (store' : List ℕ) (r : Decoded) : Type 0 where
-  pub says : r ≡ answerOf (decode 0 src)
-  pub left : store' ≡ stored store at (decode 0 src .bytes)
+  pub says : r ≡ answerOf (decode Plain src)
+  pub left : store' ≡ stored store at (decode Plain src .bytes)
   pub within : Within (length src) r

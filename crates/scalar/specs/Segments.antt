@@ -7,6 +7,7 @@ use lib.Dec.{eqb}
 use lib.ListN.{length, getD, drop}
 use Rattle.meaning.specs.Base.{pick}
 use Rattle.meaning.specs.Refusal.{R, ok, bad}
+use Rattle.meaning.specs.declared.StringByte.the-variants.{Plain}
 use Rattle.meaning.specs.Strings.{decode}
 use Rattle.scalar.specs.declared.key.Verdict.{Verdict}
 use Rattle.scalar.specs.declared.key.Verdict.the-variants.{Fine, Malformed, Escape, Unended, TooMany}
@@ -34,7 +35,7 @@ judged end written = pick (eqb end 34) (pick (eqb written 0) Malformed Fine) Mal
 
 -- what a trimmed segment leaves in the store, refused or not: all that is decoded of a quoted one, or the segment itself
 unfoldable pub laid : List ℕ → List ℕ
-laid p = pick (eqb (getD p 0 0) 34) (decode 0 (drop 1 p) .bytes) p
+laid p = pick (eqb (getD p 0 0) 34) (decode Plain (drop 1 p) .bytes) p
 
 -- what the reader of a segment s that means m leaves: its answer, and the bytes, laid behind at in the store
 pub record Segmented (s : List ℕ) (m : R (List ℕ)) (bytes store : List ℕ) (at : ℕ) (store' : List ℕ) (r : Segment) : Type 0 where

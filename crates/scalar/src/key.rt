@@ -2,6 +2,7 @@
 
 use crate::string::Decoded;
 use crate::string::put_string;
+use meaning::StringByte;
 ghost use mathlib.Core.Path.{_≡_};
 ghost use Rattle.meaning.specs.Base as base;
 ghost use Rattle.meaning.specs.Keys as meant;
@@ -100,7 +101,7 @@ fn put_bare(p: &[u8], store: &mut [u8], used: usize) -> Segment
 // A segment behind its opening quote. 8 and 9 leave what is decoded until then, 7 the whole string.
 fn put_quoted(p: &[u8], store: &mut [u8], used: usize) -> Segment
     requires { ⌜ Room (now p) (now store) used ⌝ }
-    ensures { λ r. ⌜ Segmented (now (p .entry)) (meant.quoted (now (p .entry))) (strings.decode 0 (now (p .entry)) .bytes) (now (store .entry)) used (now (store .exit)) r ⌝ }
+    ensures { λ r. ⌜ Segmented (now (p .entry)) (meant.quoted (now (p .entry))) (strings.decode StringByte.Plain (now (p .entry)) .bytes) (now (store .entry)) used (now (store .exit)) r ⌝ }
 {
     let end = last(p);
     let d = put_string(p, store, used);

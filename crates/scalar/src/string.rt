@@ -1,6 +1,7 @@
 // A string behind its opening quote, decoded into a lent room.
 
 use meaning::Act;
+use meaning::StringByte;
 ghost use mathlib.Core.Path.{_≡_};
 ghost use Prim.Native.Nat.{_≤_};
 ghost use lib.ListN.{length};
@@ -14,35 +15,39 @@ pub enum Decoded {
     Unended { written: usize },
 }
 
-// What a byte does, before a character (0) or behind its backslash (1).
-fn act(st: u8, b: u8) -> Act
-    ensures { λ r. ⌜ r ≡ meant.act st b ⌝ }
+// What a byte of a string does.
+fn act(state: StringByte, b: u8) -> Act
+    ensures { λ r. ⌜ r ≡ meant.actOf state b ⌝ }
 {
-    if st == 0 {
-        if b == 34 {
-            return Act::End;
+    match state {
+        StringByte::Plain => {
+            if b == b'"' {
+                return Act::End;
+            }
+            if b == b'\\' {
+                return Act::Hold;
+            }
+            Act::Put(b)
         }
-        if b == 92 {
-            return Act::Hold;
+        StringByte::AfterBackslash => {
+            if b == b'n' {
+                return Act::Put(b'\n');
+            }
+            if b == b't' {
+                return Act::Put(b'\t');
+            }
+            if b == b'r' {
+                return Act::Put(b'\r');
+            }
+            if b == b'"' {
+                return Act::Put(b'"');
+            }
+            if b == b'\\' {
+                return Act::Put(b'\\');
+            }
+            Act::Fault
         }
-        return Act::Put(b);
     }
-    if b == 110 {
-        return Act::Put(10);
-    }
-    if b == 116 {
-        return Act::Put(9);
-    }
-    if b == 114 {
-        return Act::Put(13);
-    }
-    if b == 34 {
-        return Act::Put(34);
-    }
-    if b == 92 {
-        return Act::Put(92);
-    }
-    Act::Fault
 }
 
 // Decodes src at the head of out. A refusal leaves the bytes decoded until then, and the rest of out as it was.
@@ -53,9 +58,9 @@ pub fn decode(src: &[u8], out: &mut [u8]) -> Decoded
     let mut i = 0;
     let mut at = 0;
     let mut n = 0;
-    let mut st: u8 = 0;
+    let mut state = StringByte::Plain;
     while i < src.len() {
-        let a = act(st, src[i]);
+        let a = act(state, src[i]);
         match a {
             Act::End => {
                 return Decoded::Done {
@@ -68,13 +73,13 @@ pub fn decode(src: &[u8], out: &mut [u8]) -> Decoded
             }
             Act::Hold => {
                 at = i;
-                st = 1;
+                state = StringByte::AfterBackslash;
                 i += 1;
             }
             Act::Put(c) => {
                 out[n] = c;
                 n += 1;
-                st = 0;
+                state = StringByte::Plain;
                 i += 1;
                 at = i;
             }

@@ -8,6 +8,7 @@ use native.Mathlib.Numerals.{add-one}
 use lib.ListN.{length, getD, drop, drop-of-length-le}
 use lib.Seq.{drop-cons}
 use Rattle.meaning.specs.declared.Scan.{Scan}
+use Rattle.meaning.specs.declared.StringState.the-variants.{Outside}
 use Rattle.meaning.specs.Quote.{step}
 use Rattle.meaning.specs.Values.{parts?}
 use Rattle.laws.specs.Scans.{step-opens, step-closes}
@@ -20,7 +21,7 @@ pub record Parting (s : List ℕ) (i : ℕ) (x : Scan) : Type 0 where
   pub closes : x .closes ≤ i
   pub left : i + lead step parts? x (drop i s) ≡ itemSize s
 
-pub part-start : (s : List ℕ) → Parting s 0 (record { st = 0; opens = 0; closes = 0 })
+pub part-start : (s : List ℕ) → Parting s 0 (record { state = Outside; opens = 0; closes = 0 })
 part-start s = record { high = omega arith; opens = omega arith; closes = omega arith; left = omega arith }
 
 module _ (s : List ℕ) (i : ℕ) (x : Scan) (k : Parting s i x) where

@@ -13,6 +13,8 @@ use Rattle.meaning.specs.declared.Fate.{Fate}
 use Rattle.meaning.specs.declared.Fate.the-variants.{Over, Unended, Whole}
 use Rattle.meaning.specs.declared.Scan.{Scan}
 use Rattle.meaning.specs.Base.{pick, before}
+use Rattle.meaning.specs.declared.StringState.{StringState}
+use Rattle.meaning.specs.declared.StringState.the-variants.{Outside}
 use Rattle.meaning.specs.Quote.{fresh, scan, step}
 use Rattle.meaning.specs.Lines.{fate}
 use Rattle.laws.specs.Cases.{on}
@@ -42,7 +44,7 @@ unfolding mid
 mid-byte t m b f h =
     rw (ne-eqb b 10 h, leb·suc-suc, add-one, add-one, append-assoc)
 
-mid-run : (st : ℕ) (t : List ℕ) (m : ℕ) (l f : List ℕ) → Quiets st l → mid t m (l ++ f) ≡ mid (t ++ l) m f
+mid-run : (st : StringState) (t : List ℕ) (m : ℕ) (l f : List ℕ) → Quiets st l → mid t m (l ++ f) ≡ mid (t ++ l) m f
 mid-run st t m [] f a = rw append-nil
 mid-run st t m (b ∷ l) f a =
     mid-byte t m b (l ++ f) (a .0 .line) ∙ mid-run st (t ++ (b ∷ [])) m l f (a .1)
@@ -82,14 +84,14 @@ pub record Gathering (s : List ℕ) (i m : ℕ) (x : Scan) : Type 0 where
   pub scans : x ≡ scan fresh (take i s)
   pub left : mid (take i s) m (drop i s) ≡ joint s
 
-pub gather-start : (s : List ℕ) → Gathering s 0 1 (record { st = 0; opens = 0; closes = 0 })
+pub gather-start : (s : List ℕ) → Gathering s 0 1 (record { state = Outside; opens = 0; closes = 0 })
 gather-start s =
     record { high = omega arith; opens = omega arith; closes = omega arith; some = omega arith; lines = omega arith; scans = refl; left = mid-start s }
 
 -- behind a run
-gather-run : (s : List ℕ) (i m : ℕ) (x : Scan) (n : ℕ) → Gathering s i m x → Run (x .st) (take (length s - i) (drop i s)) n → Gathering s (i + n) m x
+gather-run : (s : List ℕ) (i m : ℕ) (x : Scan) (n : ℕ) → Gathering s i m x → Run (x .state) (take (length s - i) (drop i s)) n → Gathering s (i + n) m x
 gather-run s i m x n k p =
-    let r : Run (x .st) (drop i s) n = rw (rest-of s i) at p in
+    let r : Run (x .state) (drop i s) n = rw (rest-of s i) at p in
     let l : List ℕ = take n (drop i s) in
     let t : take (i + n) s ≡ take i s ++ l = take-add i n s in
     let d : l ++ drop (i + n) s ≡ drop i s = rw (← (drop-drop n i s)) (take-append-drop n (drop i s)) in
@@ -101,7 +103,7 @@ gather-run s i m x n k p =
       some = k .some;
       lines = omega (arith, k .lines);
       scans = sym (ap (scan fresh) t ∙ scan-append fresh (take i s) l ∙ ap (λ (z : Scan). scan z l) (sym (k .scans)) ∙ q);
-      left = ap (λ (u : List ℕ). mid u m (drop (i + n) s)) t ∙ sym (mid-run (x .st) (take i s) m l (drop (i + n) s) (r .all)) ∙ ap (mid (take i s) m) d ∙ k .left;
+      left = ap (λ (u : List ℕ). mid u m (drop (i + n) s)) t ∙ sym (mid-run (x .state) (take i s) m l (drop (i + n) s) (r .all)) ∙ ap (mid (take i s) m) d ∙ k .left;
     }
 
 module _ (s : List ℕ) (i m : ℕ) (x : Scan) (k : Gathering s i m x) where
@@ -161,7 +163,7 @@ module _ (s : List ℕ) (i m : ℕ) (x : Scan) (k : Gathering s i m x) where
       rw e (record { is = sym (mid-end (take i s) m) ∙ rw (drop-of-length-le s h) at (k .left); fit = f })
 
 -- ---- the ways on and out, each behind a run
-module _ (s : List ℕ) (i m : ℕ) (x : Scan) (k : Gathering s i m x) (n : ℕ) (p : Run (x .st) (take (length s - i) (drop i s)) n) where
+module _ (s : List ℕ) (i m : ℕ) (x : Scan) (k : Gathering s i m x) (n : ℕ) (p : Run (x .state) (take (length s - i) (drop i s)) n) where
   at-run : Gathering s (i + n) m x
   at-run = gather-run s i m x n k p
 

@@ -12,6 +12,7 @@ use lib.Dec.{eqb, ltb}
 use lib.ListN.{length, getD, take, drop, set, length-drop, length-append, length-take, drop-of-length-le}
 use lib.Seq.{length-take-le, take-all, take-take, take-at, drop-at, drop-drop, getD-take, drop-cons, set-at}
 use Rattle.meaning.specs.Base.{before}
+use Rattle.meaning.specs.declared.StringState.the-variants.{Outside}
 use Rattle.meaning.specs.Quote.{upTo}
 use Rattle.meaning.specs.Lines.{dropCr, kept, physical}
 use Rattle.laws.specs.Cases.{on, picked}
@@ -60,11 +61,11 @@ pub record Keeps (n : ℕ) (s : List ℕ) (r : ℕ) : Type 0 where
   pub fits : r ≤ n
   pub is : take r s ≡ kept (firstLine n s)
 
-pub keeps : (s : List ℕ) (n m r : ℕ) → n ≤ length s → Begins n s m → r ≡ upTo 35 0 (take m s) → Keeps n s r
+pub keeps : (s : List ℕ) (n m r : ℕ) → n ≤ length s → Begins n s m → r ≡ upTo 35 Outside (take m s) → Keeps n s r
 unfolding kept
 keeps s n m r h b e =
     let l : length (take m s) ≡ m = length-take-le m s (omega (arith, b .fits)) in
-    let f : r ≤ m = omega (arith, up-to-fits 35 0 (take m s)) in
+    let f : r ≤ m = omega (arith, up-to-fits 35 Outside (take m s)) in
     record {
       fits = omega (arith, b .fits);
       is = sym (rw (← (b .is), ← e) (take-take r m s f));
@@ -81,7 +82,7 @@ put l o d h e =
 -- ---- a laid text is at most one byte longer
 kept-fits : (l : List ℕ) → length (kept l) ≤ length l
 unfolding kept
-kept-fits l = omega (arith, length-take (upTo 35 0 l) l)
+kept-fits l = omega (arith, length-take (upTo 35 Outside l) l)
 
 drop-cr-fits : (l : List ℕ) → length (dropCr l) ≤ length l
 unfolding dropCr
@@ -124,7 +125,7 @@ laid-short (suc k) s h = go s h (laid-short k)
         rw (laid-last (b ∷ s) n refl m (omega arith)) (omega (arith, first-fits n (b ∷ s) (before-fits 10 (b ∷ s)))))
 
 -- ---- one line of n bytes, m without a CR before LF, of which k are kept
-module _ (s o : List ℕ) (n m k : ℕ) (e : n ≡ before 10 s) (h : n ≤ length s) (b : Begins n s m) (g : k ≡ upTo 35 0 (take m s)) where
+module _ (s o : List ℕ) (n m k : ℕ) (e : n ≡ before 10 s) (h : n ≤ length s) (b : Begins n s m) (g : k ≡ upTo 35 Outside (take m s)) where
   p : Keeps n s k
   p = keeps s n m k h b g
 

@@ -1,3 +1,4 @@
+pub mod States
 pub mod Scans
 pub mod Runs
 pub mod Cuts

@@ -9,7 +9,9 @@ use borrow.Author.Tests.{ne-eqb}
 use lib.ListN.{length, getD, take}
 use lib.Seq.{take-suc}
 use Rattle.meaning.specs.declared.Scan.{Scan}
-use Rattle.meaning.specs.Quote.{quote, hits, tally, step, scan}
+use Rattle.meaning.specs.declared.StringState.{StringState}
+use Rattle.meaning.specs.declared.StringState.the-variants.{Outside, Inside}
+use Rattle.meaning.specs.Quote.{stateAfter, hits, tally, step, scan}
 use Rattle.laws.specs.Cases.{never}
 use Rattle.text.specs.Runs.{marked, Quiet, Quiets, Run}
 
@@ -19,9 +21,9 @@ use Rattle.text.specs.Runs.{marked, Quiet, Quiets, Run}
 unmarked : (set b : ℕ) (r : Bool) → r ≡ marked set b → not r ≡ true → (n : ℕ) → marked set n ≡ true → b ≡ n → ⊥
 unmarked set b r e h n m q = let t : r ≡ true = rw q at e ∙ m in never {b = not r} h (ap not t)
 
-module _ (st b : ℕ) (z : st ≡ 0) where
+module _ (st : StringState) (b : ℕ) (z : st ≡ Outside) where
   bare : (b ≡ 10 → ⊥) → (b ≡ 34 → ⊥) → (b ≡ 91 → ⊥) → (b ≡ 93 → ⊥) → Quiet st b
-  unfolding quote hits
+  unfolding stateAfter hits
   bare l q o k = record {
     line = l;
     same = rw (z, ne-eqb b 34 q);
@@ -35,9 +37,9 @@ module _ (st b : ℕ) (z : st ≡ 0) where
       stops : (n : ℕ) → marked 0x428000400 n ≡ true → b ≡ n → ⊥
       stops = unmarked 0x428000400 b r e h
 
-module _ (st b : ℕ) (z : st ≡ 1) where
+module _ (st : StringState) (b : ℕ) (z : st ≡ Inside) where
   held : (b ≡ 10 → ⊥) → (b ≡ 34 → ⊥) → (b ≡ 92 → ⊥) → Quiet st b
-  unfolding quote hits
+  unfolding stateAfter hits
   held l q k = record {
     line = l;
     same = rw (z, ne-eqb b 92 k, ne-eqb b 34 q);
@@ -52,24 +54,24 @@ module _ (st b : ℕ) (z : st ≡ 1) where
       stops = unmarked 0x410000400 b r e h
 
 -- ---- a run of them
-quiets-more : (st : ℕ) (s : List ℕ) (b : ℕ) → Quiets st s → Quiet st b → Quiets st (s ++ (b ∷ []))
+quiets-more : (st : StringState) (s : List ℕ) (b : ℕ) → Quiets st s → Quiet st b → Quiets st (s ++ (b ∷ []))
 quiets-more st [] b a q = (q, tt)
 quiets-more st (x ∷ s) b a q = (a .0, quiets-more st s b (a .1) q)
 
-pub run-start : (st : ℕ) (s : List ℕ) → Run st s 0
+pub run-start : (st : StringState) (s : List ℕ) → Run st s 0
 run-start st s = record { fits = omega arith; all = tt }
 
-pub run-on : (st : ℕ) (s : List ℕ) (i : ℕ) (r : Bool) → Run st s i → i < length s → (r ≡ true → Quiet st (getD s i 0)) → r ≡ true → Run st s (i + 1)
+pub run-on : (st : StringState) (s : List ℕ) (i : ℕ) (r : Bool) → Run st s i → i < length s → (r ≡ true → Quiet st (getD s i 0)) → r ≡ true → Run st s (i + 1)
 run-on st s i r k h q t = record {
   fits = omega arith;
   all = rw (add-one, take-suc s i 0 h) (quiets-more st (take i s) (getD s i 0) (k .all) (q t));
 }
 
 -- ---- the scan behind a run
-step-quiet : (x : Scan) (b : ℕ) → Quiet (x .st) b → step x b ≡ x
+step-quiet : (x : Scan) (b : ℕ) → Quiet (x .state) b → step x b ≡ x
 unfolding step tally
 step-quiet x b q = rw (q .same, q .opens, q .closes)
 
-pub scan-quiet : (x : Scan) (s : List ℕ) → Quiets (x .st) s → scan x s ≡ x
+pub scan-quiet : (x : Scan) (s : List ℕ) → Quiets (x .state) s → scan x s ≡ x
 scan-quiet x [] a = refl
 scan-quiet x (b ∷ s) a = rw (step-quiet x b (a .0)) (scan-quiet x s (a .1))

@@ -1,6 +1,6 @@
 -- The string state along a text: what each loop keeps, and one law for each way on and out.
 use Prim.Native.Nat.{ℕ, suc, _+_, _-_, _≤_, _<_}
-use mathlib.Core.Bool.{false}
+use mathlib.Core.Bool.{Bool, true, false}
 use mathlib.Core.List.{List, [], _∷_}
 use mathlib.Core.Path.{_≡_, refl, sym, ap, _∙_}
 use native.Mathlib.Omega.{arith}
@@ -11,15 +11,19 @@ use lib.ListN.{length, getD, take, drop, length-drop, drop-of-length-le}
 use lib.Seq.{drop-cons, drop-drop}
 use Rattle.meaning.specs.declared.Scan.{Scan}
 use Rattle.meaning.specs.Base.{pick, before}
-use Rattle.meaning.specs.Quote.{quote, hits, tally, step, scan, fresh, upTo}
-use Rattle.laws.specs.Cases.{on}
+use Rattle.meaning.specs.declared.StringState.{StringState}
+use Rattle.meaning.specs.declared.StringState.the-variants.{Outside, Inside, Escaped}
+use Rattle.meaning.specs.Quote.{stateAfter, hits, tally, step, scan, fresh, upTo}
+use Rattle.meaning.specs.Lines.{quotesClosed}
+use Rattle.laws.specs.Cases.{on, never}
 use Rattle.laws.specs.Parts.{rest-of}
 use Rattle.laws.specs.Scans.{step-opens, step-closes}
 use Rattle.slices.specs.Found.{Found}
 use Rattle.text.specs.Runs.{Quoted}
 
-pub step-is : (c : Scan) (b n o k : ℕ) → n ≡ quote (c .st) b → o ≡ tally 91 (c .st) b (c .opens) → k ≡ tally 93 (c .st) b (c .closes)
-    → _≡_ {A = Scan} (record { st = n; opens = o; closes = k }) (step c b)
+pub step-is : (c : Scan) (b : ℕ) (n : StringState) (o k : ℕ) → n ≡ stateAfter (c .state) b
+    → o ≡ tally 91 (c .state) b (c .opens) → k ≡ tally 93 (c .state) b (c .closes)
+    → _≡_ {A = Scan} (record { state = n; opens = o; closes = k }) (step c b)
 unfolding step
 step-is c b n o k e f g = rw (e, f, g)
 
@@ -30,7 +34,7 @@ pub record Scanning (s : List ℕ) (i : ℕ) (x : Scan) : Type 0 where
   pub closes : x .closes ≤ i
   pub left : scan x (drop i s) ≡ scan fresh s
 
-pub scan-start : (s : List ℕ) → Scanning s 0 (record { st = 0; opens = 0; closes = 0 })
+pub scan-start : (s : List ℕ) → Scanning s 0 (record { state = Outside; opens = 0; closes = 0 })
 scan-start s = record { high = omega arith; opens = omega arith; closes = omega arith; left = refl }
 
 pub scan-on : (s : List ℕ) (i : ℕ) (x y : Scan) → Scanning s i x → i < length s → y ≡ step x (getD s i 0) → Scanning s (i + 1) y
@@ -47,27 +51,40 @@ pub scan-end : (s : List ℕ) (i : ℕ) (x : Scan) → Scanning s i x → length
 scan-end s i x k h = rw (drop-of-length-le s h) at (k .left)
 
 -- ---- a string from behind its opening quote on
-pub record Quoting (s : List ℕ) (i st : ℕ) : Type 0 where
+pub record Quoting (s : List ℕ) (i : ℕ) (st : StringState) : Type 0 where
   pub high : i ≤ length s
-  pub inside : st ≡ 0 → ⊥
-  pub left : (c : ℕ) → upTo c 1 s ≡ i + upTo c st (drop i s)
+  pub inside : quotesClosed st ≡ false
+  pub left : (c : ℕ) → upTo c Inside s ≡ i + upTo c st (drop i s)
 
-pub quoted-start : (s : List ℕ) → Quoting s 0 1
-quoted-start s = record { high = omega arith; inside = λ z. omega arith; left = λ c. omega arith }
+pub quoted-start : (s : List ℕ) → Quoting s 0 Inside
+quoted-start s = record { high = omega arith; inside = refl; left = λ c. omega arith }
 
-module _ (s : List ℕ) (i st : ℕ) (k : Quoting s i st) where
-  module _ (h : i < length s) (n : ℕ) (g : n ≡ quote st (getD s i 0)) where
-    quoted-left : (c : ℕ) → upTo c 1 s ≡ i + 1 + upTo c n (drop (i + 1) s)
-    unfolding hits
+-- inside a string nothing is found
+no-hit : (c : ℕ) (st : StringState) (b : ℕ) → quotesClosed st ≡ false → hits c st b ≡ false
+unfolding hits
+no-hit c Outside b e = never refl e
+no-hit c Inside b e = refl
+no-hit c Escaped b e = refl
+
+-- where quotes are closed the state is that outside strings
+closed-is : (st : StringState) → quotesClosed st ≡ true → st ≡ Outside
+closed-is Outside e = refl
+closed-is Inside e = never e refl
+closed-is Escaped e = never e refl
+
+module _ (s : List ℕ) (i : ℕ) (st : StringState) (k : Quoting s i st) where
+  module _ (h : i < length s) (n : StringState) (g : n ≡ stateAfter st (getD s i 0)) (r : Bool) (q : r ≡ quotesClosed n) where
+    quoted-left : (c : ℕ) → upTo c Inside s ≡ i + 1 + upTo c n (drop (i + 1) s)
     quoted-left c =
-        let t : upTo c st (drop i s) ≡ suc (upTo c n (drop (i + 1) s)) = rw (drop-cons s i 0 h, add-one, ne-eqb st 0 (k .inside), ← g) in
+        let t : upTo c st (drop i s) ≡ suc (upTo c n (drop (i + 1) s)) =
+        rw (drop-cons s i 0 h, add-one, no-hit c st (getD s i 0) (k .inside), ← g) in
         omega (arith, k .left c)
 
-    pub quoted-on : (n ≡ 0 → ⊥) → Quoting s (i + 1) n
-    quoted-on z = record { high = omega arith; inside = z; left = quoted-left }
+    pub quoted-on : r ≡ false → Quoting s (i + 1) n
+    quoted-on z = record { high = omega arith; inside = sym q ∙ z; left = quoted-left }
 
-    pub quoted-out : n ≡ 0 → Quoted s (i + 1)
-    quoted-out z = record { fits = omega arith; is = rw z at quoted-left }
+    pub quoted-out : r ≡ true → Quoted s (i + 1)
+    quoted-out z = record { fits = omega arith; is = rw (closed-is n (sym q ∙ z)) at quoted-left }
 
   pub quoted-end : length s ≤ i → Quoted s i
   quoted-end h = record { fits = k .high; is = λ c. rw (drop-of-length-le s h) (rw (drop-of-length-le s h) at (k .left c)) }
@@ -75,21 +92,21 @@ module _ (s : List ℕ) (i st : ℕ) (k : Quoting s i st) where
 -- ---- the first byte c outside a string
 pub record Seeking (s : List ℕ) (c i : ℕ) : Type 0 where
   pub high : i ≤ length s
-  pub left : i + upTo c 0 (drop i s) ≡ upTo c 0 s
+  pub left : i + upTo c Outside (drop i s) ≡ upTo c Outside s
 
 module _ (s : List ℕ) (c i : ℕ) (k : Seeking s c i) where
   module _ (h : i < length s) where
-    pub seek-hit : getD s i 0 ≡ c → i ≡ upTo c 0 s
+    pub seek-hit : getD s i 0 ≡ c → i ≡ upTo c Outside s
     unfolding hits
     seek-hit e =
-        let t : upTo c 0 (drop i s) ≡ 0 = rw (drop-cons s i 0 h, eq-eqb (getD s i 0) c e) in
+        let t : upTo c Outside (drop i s) ≡ 0 = rw (drop-cons s i 0 h, eq-eqb (getD s i 0) c e) in
         omega (arith, k .left)
 
     module _ (n : getD s i 0 ≡ c → ⊥) where
       pub seek-on : (getD s i 0 ≡ 34 → ⊥) → Seeking s c (i + 1)
-      unfolding hits quote
+      unfolding hits stateAfter
       seek-on q =
-          let t : upTo c 0 (drop i s) ≡ suc (upTo c 0 (drop (i + 1) s)) =
+          let t : upTo c Outside (drop i s) ≡ suc (upTo c Outside (drop (i + 1) s)) =
           rw (drop-cons s i 0 h, add-one, ne-eqb (getD s i 0) c n, ne-eqb (getD s i 0) 34 q) in
           record { high = omega arith; left = omega (arith, k .left) }
 
@@ -101,27 +118,31 @@ module _ (s : List ℕ) (c i : ℕ) (k : Seeking s c i) where
         string-bound = omega (arith, there .fits, length-drop (i + 1) s)
 
         pub seek-string : Seeking s c (i + 1 + m)
-        unfolding hits quote
+        unfolding hits stateAfter
         seek-string =
-            let t : upTo c 0 (drop i s) ≡ suc (upTo c 1 (drop (i + 1) s)) =
+            let t : upTo c Outside (drop i s) ≡ suc (upTo c Inside (drop (i + 1) s)) =
             rw (drop-cons s i 0 h, add-one, ne-eqb (getD s i 0) c n, eq-eqb (getD s i 0) 34 q) in
             record { high = string-bound; left = rw (← (drop-drop m (i + 1) s)) (omega (arith, k .left, there .is c)) }
 
-  pub seek-end : length s ≤ i → i ≡ upTo c 0 s
+  pub seek-end : length s ≤ i → i ≡ upTo c Outside s
   seek-end h =
-      let t : upTo c 0 (drop i s) ≡ 0 = rw (drop-of-length-le s h) in
+      let t : upTo c Outside (drop i s) ≡ 0 = rw (drop-of-length-le s h) in
       omega (arith, k .left)
 
 -- a list without c has none outside a string
-seek-none : (c st : ℕ) (s : List ℕ) → before c s ≡ length s → length s ≡ upTo c st s
+none-here : (c : ℕ) (st : StringState) (b : ℕ) → eqb b c ≡ false → hits c st b ≡ false
 unfolding hits
+none-here c Outside b e = e
+none-here c Inside b e = refl
+none-here c Escaped b e = refl
+
+seek-none : (c : ℕ) (st : StringState) (s : List ℕ) → before c s ≡ length s → length s ≡ upTo c st s
 seek-none c st [] h = refl
 seek-none c st (b ∷ s) h =
     on (eqb b c) (λ e. absurd (omega (arith, rw e at h)))
     (λ e.
     let k : suc (before c s) ≡ suc (length s) = rw e at h in
-    let n : pick (eqb st 0) (eqb b c) false ≡ false = on (eqb st 0) (λ z. rw (z, e)) (λ z. rw z) in
-    rw n (ap suc (seek-none c (quote st b) s (omega arith))))
+    rw (none-here c st b e) (ap suc (seek-none c (stateAfter st b) s (omega arith))))
 
-pub found-none : (c : ℕ) (s : List ℕ) (n : ℕ) → Found c s n → n ≡ length s → length s ≡ upTo c 0 s
-found-none c s n f e = seek-none c 0 s (sym (f .is) ∙ e)
+pub found-none : (c : ℕ) (s : List ℕ) (n : ℕ) → Found c s n → n ≡ length s → length s ≡ upTo c Outside s
+found-none c s n f e = seek-none c Outside s (sym (f .is) ∙ e)

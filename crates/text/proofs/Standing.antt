@@ -11,7 +11,9 @@ use lib.Dec.{eqb, ltb}
 use lib.ListN.{length, getD, take, drop, length-drop, take-append-drop}
 use lib.Seq.{length-take-le, take-all, getD-take, getD-drop, drop-cons}
 use Rattle.meaning.specs.Base.{pick, before}
-use Rattle.meaning.specs.Quote.{quote, hits, upTo}
+use Rattle.meaning.specs.declared.StringState.{StringState}
+use Rattle.meaning.specs.declared.StringState.the-variants.{Outside, Inside, Escaped}
+use Rattle.meaning.specs.Quote.{stateAfter, hits, upTo}
 use Rattle.meaning.specs.Lines.{dropCr, kept, physical}
 use Rattle.laws.specs.Cases.{on}
 use Rattle.chars.specs.Under.{or-left, or-right}
@@ -44,18 +46,22 @@ module _ (s : List ℕ) (i m : ℕ) (a : Marking s i m) where
       rw n at (a .all (eqb-true m 0 e))
 
 -- ---- a bare line is kept whole
-up-bare : (st : ℕ) (l : List ℕ) → ((k : ℕ) → k < length l → Bare (getD l k 0)) → upTo 35 st l ≡ length l
+no-comment : (st : StringState) (b : ℕ) → Bare b → hits 35 st b ≡ false
 unfolding hits
+no-comment Outside b h = ne-eqb b 35 (h .comment)
+no-comment Inside b h = refl
+no-comment Escaped b h = refl
+
+up-bare : (st : StringState) (l : List ℕ) → ((k : ℕ) → k < length l → Bare (getD l k 0)) → upTo 35 st l ≡ length l
 up-bare st [] f = refl
 up-bare st (b ∷ l) f =
-    let n : pick (eqb st 0) (eqb b 35) false ≡ false = on (eqb st 0) (λ e. rw e (ne-eqb b 35 (f 0 (omega arith) .comment))) (λ e. rw e) in
-    rw n (ap suc (up-bare (quote st b) l (λ k h. f (suc k) (omega arith))))
+    rw (no-comment st b (f 0 (omega arith))) (ap suc (up-bare (stateAfter st b) l (λ k h. f (suc k) (omega arith))))
 
 bare-line : (l : List ℕ) → ((k : ℕ) → k < length l → Bare (getD l k 0)) → kept (dropCr l) ≡ l
 unfolding kept dropCr
 bare-line l f =
     let n : eqb (getD l (length l - 1) 0) 13 ≡ false = last l f in
-    rw (n, up-bare 0 l f) (take-all (length l) l (omega arith))
+    rw (n, up-bare Outside l f) (take-all (length l) l (omega arith))
   where
     last : (l : List ℕ) → ((k : ℕ) → k < length l → Bare (getD l k 0)) → eqb (getD l (length l - 1) 0) 13 ≡ false
     last [] f = refl

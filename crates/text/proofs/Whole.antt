@@ -12,6 +12,7 @@ use lib.Seq.{take-at, drop-at, length-take-le, take-append-le, take-take}
 use Rattle.meaning.specs.declared.Limits.{Limits}
 use Rattle.meaning.specs.Base.{pick, before, cut}
 use Rattle.meaning.specs.Limits.{of01}
+use Rattle.meaning.specs.declared.StringState.the-variants.{Outside}
 use Rattle.meaning.specs.Quote.{upTo}
 use Rattle.meaning.specs.Refusal.{Answer, accepted, refused, acceptedThen, atLine, atNoLine}
 use Rattle.meaning.specs.Utf8.{valid}
@@ -44,7 +45,7 @@ begins-some n s h f =
     (λ p. f n (whole-line s n h (ltb-false n (length s) p)))
 
 kept-some : (n : ℕ) (s : List ℕ) → n ≤ length s → Kept n s
-kept-some n s h = begins-some n s h (λ m b. record { bytes = upTo 35 0 (take m s); is = keeps s n m (upTo 35 0 (take m s)) h b refl })
+kept-some n s h = begins-some n s h (λ m b. record { bytes = upTo 35 Outside (take m s); is = keeps s n m (upTo 35 Outside (take m s)) h b refl })
 
 before-take : (c k : ℕ) (s : List ℕ) → k ≤ before c s → before c (take k s) ≡ length (take k s)
 before-take c zero s h = refl

@@ -5,12 +5,14 @@ use mathlib.Core.List.{List, [], _∷_}
 use mathlib.Core.Path.{_≡_}
 use lib.Dec.{eqb}
 use lib.ListN.{length, take, drop}
-use Rattle.meaning.specs.Quote.{quote, hits, upTo}
+use Rattle.meaning.specs.declared.StringState.{StringState}
+use Rattle.meaning.specs.declared.StringState.the-variants.{Outside, Inside}
+use Rattle.meaning.specs.Quote.{stateAfter, hits, upTo}
 
 -- in string state st the byte b ends no line, opens and closes nothing
-pub record Quiet (st b : ℕ) : Type 0 where
+pub record Quiet (st : StringState) (b : ℕ) : Type 0 where
   pub line : b ≡ 10 → ⊥
-  pub same : quote st b ≡ st
+  pub same : stateAfter st b ≡ st
   pub opens : hits 91 st b ≡ false
   pub closes : hits 93 st b ≡ false
 
@@ -18,16 +20,16 @@ pub record Quiet (st b : ℕ) : Type 0 where
 abbrev pub marked : ℕ → ℕ → Bool
 marked set b = eqb (set / 2 ^ (b % 64) % 2) 1
 
-abbrev pub Quiets : ℕ → List ℕ → Type 0
+abbrev pub Quiets : StringState → List ℕ → Type 0
 Quiets st [] = Unit
 Quiets st (b ∷ s) = Quiet st b × Quiets st s
 
 -- each of the first r bytes is such
-pub record Run (st : ℕ) (s : List ℕ) (r : ℕ) : Type 0 where
+pub record Run (st : StringState) (s : List ℕ) (r : ℕ) : Type 0 where
   pub fits : r ≤ length s
   pub all : Quiets st (take r s)
 
--- s stands inside a string, which ends with its first r bytes, or with all of them: the bytes behind them stand outside, whatever is looked for
+-- s stands inside a string, which ends with its first r bytes, or with all of them: the bytes after them stand outside, whatever is looked for
 pub record Quoted (s : List ℕ) (r : ℕ) : Type 0 where
   pub fits : r ≤ length s
-  pub is : (c : ℕ) → upTo c 1 s ≡ r + upTo c 0 (drop r s)
+  pub is : (c : ℕ) → upTo c Inside s ≡ r + upTo c Outside (drop r s)

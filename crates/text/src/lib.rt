@@ -3,6 +3,7 @@
 use meaning::Fate;
 use meaning::Limits;
 use meaning::Scan;
+use meaning::StringState;
 ghost use mathlib.Core.Bool.{true};
 ghost use mathlib.Core.Path.{_≡_};
 ghost use Prim.Native.Nat.{_+_, _≤_, _<_};
@@ -66,38 +67,46 @@ pub enum Reading {
     Open(usize),
 }
 
-fn quote(st: u8, b: u8) -> u8
-    ensures { λ r. ⌜ r ≡ quotes.quote st b ⌝ }
+// The string state after a byte.
+fn state_after(state: StringState, b: u8) -> StringState
+    ensures { λ r. ⌜ r ≡ quotes.stateAfter state b ⌝ }
 {
-    if st == 0 {
-        if b == 34 {
-            return 1;
+    match state {
+        StringState::Outside => {
+            if b == b'"' {
+                return StringState::Inside;
+            }
+            StringState::Outside
         }
-        return 0;
+        StringState::Inside => {
+            if b == b'\\' {
+                return StringState::Escaped;
+            }
+            if b == b'"' {
+                return StringState::Outside;
+            }
+            StringState::Inside
+        }
+        StringState::Escaped => StringState::Inside,
     }
-    if st == 1 {
-        if b == 92 {
-            return 2;
-        }
-        if b == 34 {
-            return 0;
-        }
-        return 1;
-    }
-    1
 }
 
-fn hits(c: u8, st: u8, b: u8) -> bool
-    ensures { λ r. ⌜ r ≡ quotes.hits c st b ⌝ }
+// Whether b is c, outside a string.
+fn hits(c: u8, state: StringState, b: u8) -> bool
+    ensures { λ r. ⌜ r ≡ quotes.hits c state b ⌝ }
 {
-    if st == 0 { b == c } else { false }
+    match state {
+        StringState::Outside => b == c,
+        _ => false,
+    }
 }
 
-fn tally(c: u8, st: u8, b: u8, n: usize) -> usize
+// n and, where b is c outside a string, one more.
+fn tally(c: u8, state: StringState, b: u8, n: usize) -> usize
     requires { ⌜ n < 18446744073709551615 ⌝ }
-    ensures { λ r. ⌜ r ≡ quotes.tally c st b n ⌝ }
+    ensures { λ r. ⌜ r ≡ quotes.tally c state b n ⌝ }
 {
-    if hits(c, st, b) {
+    if hits(c, state, b) {
         return n + 1;
     }
     n
@@ -108,14 +117,14 @@ fn step(c: Scan, b: u8) -> Scan
     requires { ⌜ (c .opens < 18446744073709551615) × (c .closes < 18446744073709551615) ⌝ }
     ensures { λ r. ⌜ r ≡ quotes.step c b ⌝ }
 {
-    let st = c.st;
-    let next = quote(st, b);
-    let opens = tally(91, st, b, c.opens);
-    let closes = tally(93, st, b, c.closes);
+    let before = c.state;
+    let state = state_after(before, b);
+    let opens = tally(b'[', before, b, c.opens);
+    let closes = tally(b']', before, b, c.closes);
     Scan {
-        st: next,
-        opens: opens,
-        closes: closes,
+        state,
+        opens,
+        closes,
     }
 }
 
@@ -133,26 +142,24 @@ fn marked(set: u64, b: u8) -> bool
 }
 
 // Whether b is surely one that a pass may leave out: a few more share the bit of one that it stops at.
-fn quiet(st: u8, b: u8) -> bool
-    ensures { λ r. ⌜ (r ≡ true → Quiet st b) ⌝ }
+fn quiet(state: StringState, b: u8) -> bool
+    ensures { λ r. ⌜ (r ≡ true → Quiet state b) ⌝ }
 {
-    if st == 0 {
-        return !marked(OUTSIDE, b);
+    match state {
+        StringState::Outside => !marked(OUTSIDE, b),
+        StringState::Inside => !marked(INSIDE, b),
+        StringState::Escaped => false,
     }
-    if st == 1 {
-        return !marked(INSIDE, b);
-    }
-    false
 }
 
 // How many bytes at the head of s a pass may leave out.
-fn run(s: &[u8], st: u8) -> usize
-    ensures { λ r. ⌜ Run st (now (s .entry)) r ⌝ }
+fn run(s: &[u8], state: StringState) -> usize
+    ensures { λ r. ⌜ Run state (now (s .entry)) r ⌝ }
 {
     let mut i = 0;
     while i < s.len() {
         let b = s[i];
-        if quiet(st, b) {
+        if quiet(state, b) {
             i += 1;
         } else {
             return i;
@@ -167,7 +174,7 @@ pub fn scan(s: &[u8]) -> Scan
 {
     let mut i = 0;
     let mut x = Scan {
-        st: 0,
+        state: StringState::Outside,
         opens: 0,
         closes: 0,
     };
@@ -179,16 +186,26 @@ pub fn scan(s: &[u8]) -> Scan
     x
 }
 
+// Whether a string state is outside every string.
+fn quotes_closed(state: StringState) -> bool
+    ensures { λ r. ⌜ r ≡ meant.quotesClosed state ⌝ }
+{
+    match state {
+        StringState::Outside => true,
+        _ => false,
+    }
+}
+
 // How many bytes a string has from behind its opening quote on, with the closing one; or all of them.
 fn quoted(s: &[u8]) -> usize
     ensures { λ r. ⌜ Quoted (now (s .entry)) r ⌝ }
 {
     let mut i = 0;
-    let mut st: u8 = 1;
+    let mut state = StringState::Inside;
     while i < s.len() {
-        st = quote(st, s[i]);
+        state = state_after(state, s[i]);
         i += 1;
-        if st == 0 {
+        if quotes_closed(state) {
             return i;
         }
     }
@@ -197,7 +214,7 @@ fn quoted(s: &[u8]) -> usize
 
 // How many bytes stand before the first c outside a string, or all of them.
 pub fn outside(s: &[u8], c: u8) -> usize
-    ensures { λ r. ⌜ r ≡ quotes.upTo c 0 (now (s .entry)) ⌝ }
+    ensures { λ r. ⌜ r ≡ quotes.upTo c StringState.Outside (now (s .entry)) ⌝ }
 {
     let mut i = 0;
     while i < s.len() {
@@ -205,7 +222,7 @@ pub fn outside(s: &[u8], c: u8) -> usize
         if b == c {
             return i;
         }
-        if b == 34 {
+        if b == b'"' {
             i += 1;
             let n = quoted(&s[i..]);
             i += n;
@@ -220,7 +237,8 @@ pub fn outside(s: &[u8], c: u8) -> usize
 fn parts(c: Scan, b: u8) -> bool
     ensures { λ r. ⌜ r ≡ values.parts? c b ⌝ }
 {
-    if hits(44, c.st, b) {
+    let state = c.state;
+    if hits(b',', state, b) {
         return c.opens == c.closes;
     }
     false
@@ -232,7 +250,7 @@ pub fn item(s: &[u8]) -> usize
 {
     let mut i = 0;
     let mut x = Scan {
-        st: 0,
+        state: StringState::Outside,
         opens: 0,
         closes: 0,
     };
@@ -257,7 +275,8 @@ fn fate(c: Scan) -> Fate
     if c.closes < c.opens {
         return Fate::Unended;
     }
-    if c.st == 0 {
+    let state = c.state;
+    if quotes_closed(state) {
         return Fate::Whole;
     }
     Fate::Unended
@@ -274,7 +293,7 @@ fn line_bytes(s: &[u8], n: usize) -> usize
     if n == 0 {
         return 0;
     }
-    if s[n - 1] == 13 {
+    if s[n - 1] == b'\r' {
         return n - 1;
     }
     n
@@ -282,12 +301,12 @@ fn line_bytes(s: &[u8], n: usize) -> usize
 
 // How many bytes of a line stand before its comment, or all of them. Most lines have no `#`, and a search for one is quick.
 fn kept(line: &[u8]) -> usize
-    ensures { λ r. ⌜ r ≡ quotes.upTo 35 0 (now (line .entry)) ⌝ }
+    ensures { λ r. ⌜ r ≡ quotes.upTo 35 StringState.Outside (now (line .entry)) ⌝ }
 {
-    if slices::find(line, 35) == line.len() {
+    if slices::find(line, b'#') == line.len() {
         return line.len();
     }
-    outside(line, 35)
+    outside(line, b'#')
 }
 
 // Lays a line and an LF at the head of out.
@@ -297,7 +316,7 @@ fn put_line(line: &[u8], out: &mut [u8])
 {
     slices::copy(line, out);
     let n = line.len();
-    out[n] = 10;
+    out[n] = b'\n';
 }
 
 // Lays the kept bytes of the first line of rest and an LF at the head of out.
@@ -305,7 +324,7 @@ fn lay_line(rest: &[u8], out: &mut [u8]) -> Piece
     requires { ⌜ Fitting (now rest) (now out) ⌝ }
     ensures { λ r. ⌜ Lays1 (now (rest .entry)) (now (out .entry)) (now (out .exit)) r ⌝ }
 {
-    let n = slices::find(rest, 10);
+    let n = slices::find(rest, b'\n');
     let m = line_bytes(rest, n);
     let k = kept(&rest[..m]);
     put_line(&rest[..k], out);
@@ -340,10 +359,10 @@ pub fn lay(text: &[u8], scratch: &mut [u8]) -> usize
 fn mark(b: u8) -> u8
     ensures { λ r. ⌜ (r ≡ 0 → Bare b) ⌝ }
 {
-    if b == 35 {
+    if b == b'#' {
         return 1;
     }
-    if b == 13 {
+    if b == b'\r' {
         return 1;
     }
     0
@@ -370,7 +389,7 @@ pub fn clean(s: &[u8]) -> bool
     if n == 0 {
         return true;
     }
-    if s[n - 1] == 10 {
+    if s[n - 1] == b'\n' {
         return bare(s);
     }
     false
@@ -393,18 +412,19 @@ fn join_line(s: &[u8]) -> Joint
     let mut i = 0;
     let mut m = 1;
     let mut c = Scan {
-        st: 0,
+        state: StringState::Outside,
         opens: 0,
         closes: 0,
     };
     while i < s.len() {
-        let n = run(&s[i..], c.st);
+        let state = c.state;
+        let n = run(&s[i..], state);
         i += n;
         if s.len() <= i {
             return ending(m);
         }
         let b = s[i];
-        if b == 10 {
+        if b == b'\n' {
             let f = fate(c);
             match f {
                 Fate::Over => {
@@ -445,7 +465,7 @@ fn skip(s: &[u8], at: usize, line: usize) -> Place
         if dark(s[i]) {
             return Place { at: i, line: n };
         }
-        let k = slices::find(&s[i..], 10);
+        let k = slices::find(&s[i..], b'\n');
         let e = i + k;
         if s.len() <= e {
             return Place {

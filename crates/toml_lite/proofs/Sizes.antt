@@ -11,6 +11,7 @@ use Rattle.meaning.specs.Base.{pick, ascii, same, final, split, nil?}
 use Rattle.meaning.specs.Refusal.{R, ok, bad, okThen}
 use Rattle.meaning.specs.Space.{blank, trim}
 use Rattle.meaning.specs.Quote.{fresh, step}
+use Rattle.meaning.specs.declared.StringByte.the-variants.{Plain}
 use Rattle.meaning.specs.Strings.{Ending, closed, escape, unended, decode}
 use Rattle.meaning.specs.Integers.{clean, most, within, magnitude, sign, body, signed}
 use Rattle.meaning.specs.Integers as ints
@@ -102,7 +103,7 @@ module _ (limit : ℕ) (few : limit < 65000) where
   string-bare : (parent used made : ℕ) (s : List ℕ) → parent < 65536 → used + length s < 65536 → Bare (stringOut limit parent used made s)
   unfolding stringOut
   string-bare parent used made s p l =
-      string-by parent used made s (decode 0 s .how) (decode 0 s .bytes) (decode 0 s .span) p (omega (arith, decode-short 0 s))
+      string-by parent used made s (decode Plain s .how) (decode Plain s .bytes) (decode Plain s .span) p (omega (arith, decode-short Plain s))
 
   int-bare : (parent made : ℕ) (r : R Signed) → parent < 65536 → Low r → Bare (intOut limit parent made r)
   int-bare parent made (ok x) p l = makes-bare made parent (signKind (x .neg)) (x .mag) p l

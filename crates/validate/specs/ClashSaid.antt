@@ -10,7 +10,7 @@ use lib.Dec.{ltb, leb·suc-suc}
 use lib.ListN.{length, length-map}
 use Rattle.meaning.specs.Base.{pick, same, ascii, nil?}
 use Rattle.meaning.specs.Refusal.{inComponent, inApplication}
-use Rattle.meaning.specs.Verdict.{behind, inTurn}
+use Rattle.meaning.specs.Verdict.{withLast, inTurn}
 use Rattle.meaning.specs.Rules as meant
 use Rattle.meaning.specs.Rules.{Use, use?, twice, usesOf, useOf, allUses, sameAll, clashes, useFault, featureRules}
 use Rattle.laws.specs.Cases.{on, never}
@@ -78,11 +78,11 @@ hit-two hit es (x ∷ xs) ys =
     on (anyOf (hit x) es)
     (λ e. rw (e, lt-ltb 0 (suc (length xs)) (omega arith)))
     (λ e.
-    let k : ℕ = firstHit hit (behind es x) xs in
+    let k : ℕ = firstHit hit (withLast es x) xs in
     let m : ℕ = firstHit hit (es ++ (x ∷ xs)) ys in
-    let a : behind es x ++ xs ≡ es ++ (x ∷ xs) = append-assoc es (x ∷ []) xs in
+    let a : withLast es x ++ xs ≡ es ++ (x ∷ xs) = append-assoc es (x ∷ []) xs in
     let b : suc (length xs) + m ≡ suc (length xs + m) = omega arith in
-    rw (e, leb·suc-suc (suc k) (length xs), b) (ap suc (rw a at (hit-two hit (behind es x) xs ys)) ∙ suc-pick (ltb k (length xs)) k (length xs + m)))
+    rw (e, leb·suc-suc (suc k) (length xs), b) (ap suc (rw a at (hit-two hit (withLast es x) xs ys)) ∙ suc-pick (ltb k (length xs)) k (length xs + m)))
 
 -- ---- uses against uses
 
@@ -138,7 +138,7 @@ module _ {X : Type 0} (uses : X → List Use) where
   gathered [] = []
   gathered (x ∷ xs) = uses x ++ gathered xs
 
-  gathered-behind : (xs : List X) (x : X) → gathered (behind xs x) ≡ gathered xs ++ uses x
+  gathered-behind : (xs : List X) (x : X) → gathered (withLast xs x) ≡ gathered xs ++ uses x
   gathered-behind [] x = append-nil (uses x)
   gathered-behind (y ∷ xs) x = rw (gathered-behind xs x) (sym (append-assoc (uses y) (gathered xs) (uses x)))
 
@@ -157,10 +157,10 @@ module _ {X : Type 0} (uses : X → List Use) where
           on (anyOf (hit (pair n)) es)
           (λ e. rw (a, e, lt-ltb 0 (suc (length ns)) (omega arith)) (record { told-by = (ap (told section 60) (omega arith), omega arith) }))
           (λ e.
-          let k : ℕ = firstHit hit (behind es (pair n)) (map pair ns) in
+          let k : ℕ = firstHit hit (withLast es (pair n)) (map pair ns) in
           let b : i + suc k ≡ i + 1 + k = omega arith in
-          let s : gathered (behind es (pair n)) ≡ gathered es ++ used (entry n) = rw (is n) (gathered-behind es (pair n)) in
-          rw (a, e, leb·suc-suc (suc k) (length ns), b) (rw s at (turn-says (i + 1) (behind es (pair n)) ns)))
+          let s : gathered (withLast es (pair n)) ≡ gathered es ++ used (entry n) = rw (is n) (gathered-behind es (pair n)) in
+          rw (a, e, leb·suc-suc (suc k) (length ns), b) (rw s at (turn-says (i + 1) (withLast es (pair n)) ns)))
 
 -- components before applications
 hit-faults : (cs apps k l : ℕ) → earlier (hitFault 4 0 cs k) (hitFault 5 0 apps l) ≡ clashFault cs (cs + apps) (pick (ltb k cs) k (cs + l))

@@ -9,7 +9,7 @@ use lib.Dec.{eqb, ltb}
 use lib.ListN.{length}
 use Rattle.meaning.specs.Base.{pick, nil?, ascii}
 use Rattle.meaning.specs.Refusal.{inComponent, inApplication}
-use Rattle.meaning.specs.Verdict.{Verdict, orElse, long, among, inTurn, behind}
+use Rattle.meaning.specs.Verdict.{Verdict, orElse, long, among, inTurn, withLast}
 use Rattle.meaning.specs.Rules as meant
 use Rattle.laws.specs.Cases.{on}
 use Rattle.tree.specs.Doors.{field}
@@ -175,14 +175,14 @@ module _ (room store : List ℕ) (made : ℕ) (name : List ℕ) (parts : List (L
       (name-turned (among (entries.kept store (c .head .name)) earlier) (long (entries.kept store (c .head .name))) _)
 
   components-turn : (ns : List ℕ)
-      → inTurn (meant.componentFault parts) (λ earlier d. behind earlier (d .head .name)) inComponent 0 [] (map (componentOf room store made name 32) ns)
+      → inTurn (meant.componentFault parts) (λ earlier d. withLast earlier (d .head .name)) inComponent 0 [] (map (componentOf room store made name 32) ns)
       ≡ markVerdict 51 store inComponent (map (λ n. componentAt room store made parts n .mark) ns)
   unfolding componentEntry
   components-turn =
-      turns-agree (meant.componentFault parts) (λ earlier d. behind earlier (d .head .name)) (markRule 51 store) (noted store)
+      turns-agree (meant.componentFault parts) (λ earlier d. withLast earlier (d .head .name)) (markRule 51 store) (noted store)
       (componentOf room store made name 32) (λ n. componentAt room store made parts n .mark)
       (λ earlier n. component-rule earlier (parsing.componentAt room store made n 32 .fault) (parsing.componentAt room store made n 32 .component) (component-kept room store made n))
-      (λ earlier n. ap (behind earlier) (kept-spelled store name (parsing.componentAt room store made n 32 .component .head .name) (component-kept room store made n .name)))
+      (λ earlier n. ap (withLast earlier) (kept-spelled store name (parsing.componentAt room store made n 32 .component .head .name) (component-kept room store made n .name)))
       inComponent 0 []
 
   pub components-say : (ns : List ℕ)
@@ -235,12 +235,12 @@ module _ (room store : List ℕ) (made : ℕ) (name : List ℕ) (parts : List (L
       ≡ markVerdict 65 store inApplication (map (λ n. applicationAt room store made parts n .mark) ns)
   unfolding applicationEntry meant.applicationRules
   applications-turn =
-      turns-agree (meant.applicationFault parts) (λ earlier a. behind earlier (a .name)) (markRule 65 store) (noted store)
+      turns-agree (meant.applicationFault parts) (λ earlier a. withLast earlier (a .name)) (markRule 65 store) (noted store)
       (applicationOf room store made name 32) (λ n. applicationAt room store made parts n .mark)
       (λ earlier n.
       application-rule earlier (parsing.applicationAt room store made n 32 .fault) (applicationAt room store made parts n .pair) (parsing.applicationAt room store made n 32 .application)
       (application-kept room store made n))
-      (λ earlier n. ap (behind earlier) (kept-spelled store name (parsing.applicationAt room store made n 32 .application .name) (application-kept room store made n .name)))
+      (λ earlier n. ap (withLast earlier) (kept-spelled store name (parsing.applicationAt room store made n 32 .application .name) (application-kept room store made n .name)))
       inApplication 0 []
 
   pub applications-say : (ns : List ℕ)

@@ -11,6 +11,7 @@ use lib.Dec.{eqb, leb}
 use lib.ListN.{length, take, drop}
 use Rattle.meaning.specs.Base.{pick}
 use Rattle.meaning.specs.Space.{blank}
+use Rattle.meaning.specs.declared.StringByte.the-variants.{Plain}
 use Rattle.meaning.specs.Strings.{closed, escape, unended, decode}
 use Rattle.laws.specs.Parts.{rest-of}
 use Rattle.laws.specs.Stored.{stored-nil}
@@ -28,7 +29,7 @@ use Rattle.values.proofs.Outs.{Left, left-made, then-left, filled-of, r
 
 module _ (limit parent : ℕ) (s store tree : List ℕ) (st : State) (ready : Ready limit s store tree st) (store' : List ℕ) (d : Decoded) (puts : Puts s store (st .used) store' d) where
   abbrev said : List ℕ
-  said = decode 0 s .bytes
+  said = decode Plain s .bytes
 
   -- the bytes alone
   laid : (f w : ℕ) → length said ≡ w → w ≤ length s → Left limit (length s) store tree store' tree st (record { fault = f; bytes = said; slots = [] })
@@ -62,7 +63,7 @@ module _ (limit parent : ℕ) (s store tree : List ℕ) (st : State) (ready : Re
     string-8 r e = rw (e, speaks-8 .how) (stops 8 w refl (speaks-8 .size) (omega (arith, within-8 .most, within-8 .fits)))
 
   module _ (w : ℕ) (q : d ≡ Unended w) where
-    speaks-9 : Speaks s unended (decode 0 s .span) w
+    speaks-9 : Speaks s unended (decode Plain s .span) w
     speaks-9 = string-unended s store store' (st .used) d puts w q
 
     within-9 : Open (length s) w

@@ -12,7 +12,8 @@ use Rattle.meaning.specs.Base.{pick, ascii, same, final, split, nil?}
 use Rattle.meaning.specs.Refusal.{R, ok, bad, okThen, Fault, numbered, Unmet, unmet}
 use Rattle.meaning.specs.Space.{blank, trim}
 use Rattle.meaning.specs.Quote.{fresh, step}
-use Rattle.meaning.specs.Strings.{Ending, closed, escape, unended, decode, byEnd}
+use Rattle.meaning.specs.declared.StringByte.the-variants.{Plain}
+use Rattle.meaning.specs.Strings.{Ending, closed, escape, unended, decode, ifEnded}
 use Rattle.meaning.specs.Integers as ints
 use Rattle.meaning.specs.Integers.{signed, integer, numberOf}
 use Rattle.meaning.specs.declared.Signed.{Signed}
@@ -113,7 +114,7 @@ module _ (limit : ℕ) where
 
     -- 8, 9, 10, then 16
     string-by : (s : List ℕ) (w : Ending) (bs : List ℕ) (k : ℕ)
-        → Says (okThenGot (byEnd w (pick (blank (drop k s)) (ok bs) (bad 10))) (λ d. storing d (make limit (str d) made))) (stringBy limit parent used made s w bs k)
+        → Says (okThenGot (ifEnded w (pick (blank (drop k s)) (ok bs) (bad 10))) (λ d. storing d (make limit (str d) made))) (stringBy limit parent used made s w bs k)
     unfolding make
     string-by s closed bs k =
         on (blank (drop k s))
@@ -125,7 +126,7 @@ module _ (limit : ℕ) where
 
     string-meets : (s : List ℕ) → Says (aString limit s made) (stringOut limit parent used made s)
     unfolding aString stringOf stringOut
-    string-meets s = string-by s (decode 0 s .how) (decode 0 s .bytes) (decode 0 s .span)
+    string-meets s = string-by s (decode Plain s .how) (decode Plain s .bytes) (decode Plain s .span)
 
     int-by : (r : R Signed) → Twelve r
         → Says (okThenGot (okThen (okThen r (λ x. ok (numberOf (x .neg) (x .mag)))) (λ i. ok (int i))) (λ v. storing [] (make limit v made))) (intOut limit parent made r)

@@ -12,7 +12,9 @@ use Rattle.meaning.specs.Base.{ascii, same, final, onFirst, split}
 use Rattle.meaning.specs.Refusal.{R, ok, bad}
 use Rattle.meaning.specs.Space.{blank, trim}
 use Rattle.meaning.specs.Quote.{fresh, step}
-use Rattle.meaning.specs.Strings.{act, Ending, closed, escape, unended, Said, go, decode}
+use Rattle.meaning.specs.declared.StringByte.{StringByte}
+use Rattle.meaning.specs.declared.StringByte.the-variants.{Plain, AfterBackslash}
+use Rattle.meaning.specs.Strings.{actOf, Ending, closed, escape, unended, Said, byAct, decode}
 use Rattle.meaning.specs.declared.Act.{Act}
 use Rattle.meaning.specs.declared.Act.the-variants.{End, Hold, Put, Fault}
 use Rattle.meaning.specs.Integers.{signed}
@@ -45,16 +47,16 @@ trim-short s =
     let f : List ℕ = forwards (length s) s in
     omega (arith, ap length (on-bytes s), backwards-short (length f) f, forwards-short (length s) s)
 
-go-short : (st : ℕ) (a : Act) (f : ℕ → Said) (n : ℕ) → ((t : ℕ) → length (f t .bytes) ≤ n) → length (go st a f .bytes) ≤ suc n
+go-short : (st : StringByte) (a : Act) (f : StringByte → Said) (n : ℕ) → ((t : StringByte) → length (f t .bytes) ≤ n) → length (byAct st a f .bytes) ≤ suc n
 go-short st End f n h = omega arith
-go-short st Hold f n h = omega (arith, h 1)
-go-short st (Put c) f n h = omega (arith, h 0)
+go-short st Hold f n h = omega (arith, h AfterBackslash)
+go-short st (Put c) f n h = omega (arith, h Plain)
 go-short st Fault f n h = omega arith
 
 -- a string says no more bytes than it has
-pub decode-short : (st : ℕ) (s : List ℕ) → length (decode st s .bytes) ≤ length s
+pub decode-short : (st : StringByte) (s : List ℕ) → length (decode st s .bytes) ≤ length s
 decode-short st [] = omega arith
-decode-short st (b ∷ s) = go-short st (act st b) (λ t. decode t s) (length s) (λ t. decode-short t s)
+decode-short st (b ∷ s) = go-short st (actOf st b) (λ t. decode t s) (length s) (λ t. decode-short t s)
 
 -- the bytes of all parts
 abbrev pub total : List (List ℕ) → ℕ
@@ -105,7 +107,7 @@ module _ (limit : ℕ) where
   pub string-bounded : (parent used made : ℕ) (s : List ℕ) → Bounded limit made (length s) (stringOut limit parent used made s)
   unfolding stringOut
   string-bounded parent used made s =
-      string-by parent used made s (decode 0 s .how) (decode 0 s .bytes) (decode 0 s .span) (decode-short 0 s)
+      string-by parent used made s (decode Plain s .how) (decode Plain s .bytes) (decode Plain s .span) (decode-short Plain s)
 
   int-bounded : (parent made n : ℕ) (r : R Signed) → Bounded limit made n (intOut limit parent made r)
   int-bounded parent made n (ok x) = makes-bounded made n (intSlot parent x)

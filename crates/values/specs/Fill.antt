@@ -8,6 +8,7 @@ use Rattle.meaning.specs.Base.{pick, ascii, same, final, split}
 use Rattle.meaning.specs.Refusal.{R, ok, bad}
 use Rattle.meaning.specs.Space.{blank, trim}
 use Rattle.meaning.specs.Quote.{fresh, step}
+use Rattle.meaning.specs.declared.StringByte.the-variants.{Plain}
 use Rattle.meaning.specs.Strings.{Ending, closed, escape, unended, decode}
 use Rattle.meaning.specs.Integers.{signed}
 use Rattle.meaning.specs.declared.Signed.{Signed}
@@ -55,7 +56,7 @@ module _ (limit : ℕ) where
 
   -- s is behind the opening quote
   unfoldable pub stringOut : ℕ → ℕ → ℕ → List ℕ → Out
-  stringOut parent used made s = stringBy parent used made s (decode 0 s .how) (decode 0 s .bytes) (decode 0 s .span)
+  stringOut parent used made s = stringBy parent used made s (decode Plain s .how) (decode Plain s .bytes) (decode Plain s .span)
 
   abbrev pub intOut : ℕ → ℕ → R Signed → Out
   intOut parent made (ok x) = makes made (intSlot parent x)

@@ -14,7 +14,7 @@ pub enum Form {
 
 // `[[..]]`
 fn double(l: &[u8]) -> bool
-    ensures { λ r. ⌜ r ≡ meant.double (now (l .entry)) ⌝ }
+    ensures { λ r. ⌜ r ≡ meant.arrayHeader (now (l .entry)) ⌝ }
 {
     let n = l.len();
     if n < 4 {
@@ -34,7 +34,7 @@ fn double(l: &[u8]) -> bool
 
 // `[..]` not starting `[[`
 fn single(l: &[u8]) -> bool
-    ensures { λ r. ⌜ r ≡ meant.single (now (l .entry)) ⌝ }
+    ensures { λ r. ⌜ r ≡ meant.tableHeader (now (l .entry)) ⌝ }
 {
     let n = l.len();
     if n < 2 {

@@ -1,5 +1,7 @@
 use Rattle.meaning.specs.Lines.{fate}
 use Rattle.laws.specs.Tests.{tests}
+use borrow.Author.Needs.{needs}
+use Rattle.text.proofs.States.{fate-whole, fate-open}
 use Rattle.text.proofs.fate.Statement.{statement}
 use Rattle.text.proofs.fate.Tie as tie
 
@@ -11,13 +13,14 @@ returns-2 : tie.Need-returns-2
 unfolding fate
 returns-2 c = search tests
 
+quotes-closed-requires : tie.Need-quotes-closed-requires
+quotes-closed-requires c κs = search needs
+
 returns-3 : tie.Need-returns-3
-unfolding fate
-returns-3 c = search tests
+returns-3 c = search (needs, fate-whole)
 
 returns-4 : tie.Need-returns-4
-unfolding fate
-returns-4 c = search tests
+returns-4 c = search (needs, fate-open)
 
 pub fate-spec : {M : Type 1} → statement M
-fate-spec = tie.close (tie.spec returns returns-2 returns-3 returns-4)
+fate-spec = tie.close (tie.spec returns returns-2 quotes-closed-requires returns-3 returns-4)

@@ -1,22 +1,31 @@
 use mathlib.Core.Bool.{false}
 use mathlib.Core.Path.{refl}
 use Rattle.laws.specs.Cases.{never}
-use borrow.Author.Needs.{needs}
 use Rattle.text.proofs.Runs.{bare-quiet, held-quiet}
+use borrow.Author.Needs.{needs}
 use Rattle.text.proofs.quiet.Statement.{statement}
 use Rattle.text.proofs.quiet.Tie as tie
 use Rattle.text.proofs.quiet.Reads as reads
 use Rattle.text.proofs.quiet.Lts as lts
 use Rattle.text.proofs.marked.Reads as marked-reads
 
+enum-told : tie.Need-enum-told
+enum-told c = search needs
+
 marked-requires : tie.Need-marked-requires
 marked-requires c κs = search needs
 
-returns : tie.Need-returns
-returns c = search (needs, bare-quiet)
+enum-told-2 : tie.Need-enum-told-2
+enum-told-2 c = search needs
 
 marked-requires-2 : tie.Need-marked-requires-2
 marked-requires-2 c κs = search needs
+
+enum-told-3 : tie.Need-enum-told-3
+enum-told-3 c = search needs
+
+returns : tie.Need-returns
+returns c = search (needs, bare-quiet)
 
 returns-2 : tie.Need-returns-2
 returns-2 c = search (needs, held-quiet)
@@ -25,4 +34,14 @@ returns-3 : tie.Need-returns-3
 returns-3 c = λ e. never {b = false} e refl
 
 pub quiet-spec : {M : Type 1} → statement M
-quiet-spec = tie.close (tie.spec marked-requires returns marked-requires-2 returns-2 returns-3)
+quiet-spec =
+    tie.close
+    (tie.spec
+    enum-told
+    marked-requires
+    enum-told-2
+    marked-requires-2
+    enum-told-3
+    returns
+    returns-2
+    returns-3)

@@ -6,22 +6,25 @@ use Rattle.text.proofs.quoted.Statement.{statement}
 use Rattle.text.proofs.quoted.Tie as tie
 
 abbrev Inv-loop : tie.InvT-loop
-Inv-loop s i₀ st₀ i st = Quoting s i st
+Inv-loop s i₀ state₀ i state = Quoting s i state
 
 abbrev μ-loop : tie.MeasureT-loop
-μ-loop s i₀ st₀ i st = length s - i
+μ-loop s i₀ state₀ i state = length s - i
 
 loop-holds : tie.Need-loop-holds Inv-loop μ-loop
 loop-holds c = search (needs, quoted-start)
 
-shared-slice-read-quote : tie.Need-shared-slice-read-quote Inv-loop μ-loop
-shared-slice-read-quote c = search needs
+shared-slice-read-state-after : tie.Need-shared-slice-read-state-after Inv-loop μ-loop
+shared-slice-read-state-after c = search needs
 
-quote-requires : tie.Need-quote-requires Inv-loop μ-loop
-quote-requires c κs = search needs
+state-after-requires : tie.Need-state-after-requires Inv-loop μ-loop
+state-after-requires c κs = search needs
 
 add-i : tie.Need-add-i Inv-loop μ-loop
 add-i c = search needs
+
+quotes-closed-requires : tie.Need-quotes-closed-requires Inv-loop μ-loop
+quotes-closed-requires c κs = search needs
 
 returns : tie.Need-returns Inv-loop μ-loop
 returns c = search (needs, quoted-out)
@@ -42,9 +45,10 @@ quoted-spec =
     Inv-loop
     μ-loop
     loop-holds
-    shared-slice-read-quote
-    quote-requires
+    shared-slice-read-state-after
+    state-after-requires
     add-i
+    quotes-closed-requires
     returns
     loop-less
     loop-again

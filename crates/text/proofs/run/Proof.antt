@@ -7,10 +7,10 @@ use Rattle.text.proofs.run.Statement.{statement}
 use Rattle.text.proofs.run.Tie as tie
 
 abbrev Inv-loop : tie.InvT-loop
-Inv-loop s st i₀ i = Run st s i
+Inv-loop s state i₀ i = Run state s i
 
 abbrev μ-loop : tie.MeasureT-loop
-μ-loop s st i₀ i = length s - i
+μ-loop s state i₀ i = length s - i
 
 loop-holds : tie.Need-loop-holds Inv-loop μ-loop
 loop-holds c = search (needs, run-start)

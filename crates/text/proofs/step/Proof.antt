@@ -3,8 +3,8 @@ use borrow.Author.Needs.{needs}
 use Rattle.text.proofs.step.Statement.{statement}
 use Rattle.text.proofs.step.Tie as tie
 
-quote-requires : tie.Need-quote-requires
-quote-requires c κs = search needs
+state-after-requires : tie.Need-state-after-requires
+state-after-requires c κs = search needs
 
 tally-requires : tie.Need-tally-requires
 tally-requires c κs = search needs
@@ -16,4 +16,4 @@ returns : tie.Need-returns
 returns c = search (needs, step-is)
 
 pub step-spec : {M : Type 1} → statement M
-step-spec = tie.close (tie.spec quote-requires tally-requires tally-requires-2 returns)
+step-spec = tie.close (tie.spec state-after-requires tally-requires tally-requires-2 returns)

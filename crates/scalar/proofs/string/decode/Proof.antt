@@ -9,10 +9,10 @@ use Rattle.scalar.proofs.string.decode.Lts as lts
 use Rattle.scalar.proofs.string.act.Reads as act-reads
 
 abbrev Inv-loop : tie.InvT-loop
-Inv-loop src out₀ i₀ at₀ n₀ st₀ out i at n st = Reading src out₀ out i at n st
+Inv-loop src out₀ i₀ at₀ n₀ state₀ out i at n state = Reading src out₀ out i at n state
 
 abbrev μ-loop : tie.MeasureT-loop
-μ-loop src out₀ i₀ at₀ n₀ st₀ out i at n st = length src - i
+μ-loop src out₀ i₀ at₀ n₀ state₀ out i at n state = length src - i
 
 loop-holds : tie.Need-loop-holds Inv-loop μ-loop
 loop-holds c = search (needs, start)

@@ -7,7 +7,7 @@ use Rattle.values.proofs.form.double.Reads as reads
 use Rattle.values.proofs.form.double.Lts as lts
 
 returns : tie.Need-returns
-unfolding meant.double
+unfolding meant.arrayHeader
 returns c = search tests
 
 shared-slice-read-if2 : tie.Need-shared-slice-read-if2
@@ -29,19 +29,19 @@ shared-slice-read-result : tie.Need-shared-slice-read-result
 shared-slice-read-result c = search needs
 
 returns-2 : tie.Need-returns-2
-unfolding meant.double
+unfolding meant.arrayHeader
 returns-2 c = search tests
 
 returns-3 : tie.Need-returns-3
-unfolding meant.double
+unfolding meant.arrayHeader
 returns-3 c = search tests
 
 returns-4 : tie.Need-returns-4
-unfolding meant.double
+unfolding meant.arrayHeader
 returns-4 c = search tests
 
 returns-5 : tie.Need-returns-5
-unfolding meant.double
+unfolding meant.arrayHeader
 returns-5 c = search tests
 
 pub double-spec : {M : Type 1} → statement M

@@ -7,7 +7,7 @@ use Rattle.values.proofs.form.single.Reads as reads
 use Rattle.values.proofs.form.single.Lts as lts
 
 returns : tie.Need-returns
-unfolding meant.single
+unfolding meant.tableHeader
 returns c = search tests
 
 shared-slice-read-if2 : tie.Need-shared-slice-read-if2
@@ -17,7 +17,7 @@ shared-slice-read-if3 : tie.Need-shared-slice-read-if3
 shared-slice-read-if3 c = search needs
 
 returns-2 : tie.Need-returns-2
-unfolding meant.single
+unfolding meant.tableHeader
 returns-2 c = search tests
 
 sub-result : tie.Need-sub-result
@@ -27,11 +27,11 @@ shared-slice-read-result : tie.Need-shared-slice-read-result
 shared-slice-read-result c = search needs
 
 returns-3 : tie.Need-returns-3
-unfolding meant.single
+unfolding meant.tableHeader
 returns-3 c = search tests
 
 returns-4 : tie.Need-returns-4
-unfolding meant.single
+unfolding meant.tableHeader
 returns-4 c = search tests
 
 pub single-spec : {M : Type 1} → statement M
