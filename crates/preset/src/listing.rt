@@ -1,7 +1,7 @@
 // From a text to its listing, for every text, name and rooms.
 
-use toml_lite::Read;
 use crate::Outcome;
+use toml_lite::Read;
 ghost use mathlib.Core.Path.{_≡_};
 ghost use lib.ListN.{length};
 ghost use Rattle.meaning.specs.Listing as meant;
