@@ -52,7 +52,7 @@ judge-applications-requires c κs =
     let p = l .before .before .before in (
       p .pre .0,
       p .pre .1,
-      components-few _ _ _ _ (l .component-list .ensures) _ (a .before .before .before .count .ensures) _ _ _ (a .before .before .in-section .ensures) (a .before .check-length .ensures) (a .earlier .ensures)
+      components-few _ _ _ _ (l .component-list .ensures) _ (a .before .before .before .count-items .ensures) _ _ _ (a .before .before .in-section .ensures) (a .before .check-length .ensures) (a .earlier .ensures)
           (g .before .if1 .left) _ _ (g .each-component .ensures) (c .before .before .before .if2 .left),
     )
 
@@ -62,7 +62,7 @@ returns-3 c =
     let g = d .before .before .before .before .before .before in
     let a = g .before .before .before in
     let l = a .before .before .before .before in
-    components-passed _ _ _ _ (l .component-list .ensures) _ (a .before .before .before .count .ensures) _ _ _ (a .before .before .in-section .ensures) (a .before .check-length .ensures) (a .earlier .ensures)
+    components-passed _ _ _ _ (l .component-list .ensures) _ (a .before .before .before .count-items .ensures) _ _ _ (a .before .before .in-section .ensures) (a .before .check-length .ensures) (a .earlier .ensures)
     (g .before .if1 .left) _ _ (g .each-component .ensures) (d .before .before .before .if2 .left) _ _ _ _ (d .before .check-components .ensures) (d .earlier2 .ensures) (c .judge-applications .ensures)
 
 pub judge-components-spec : {M : Type 1} → statement M
