@@ -22,7 +22,7 @@ use Rattle.parse.specs.declared.entry.List.{List}
 use Rattle.parse.specs.declared.application.ApplicationRead.{ApplicationRead}
 use Rattle.parse.specs.Fields.{textNeeded}
 use Rattle.parse.specs.Component.{componentRead, headRead}
-use Rattle.parse.specs.Entries.{Among, entryTable, told, walk, componentAt, applicationAt}
+use Rattle.parse.specs.Entries.{Among, entryTable, refusalAt, walk, componentAt, applicationAt}
 use Rattle.parse.specs.Views.{componentList, applicationList}
 use Rattle.layout.specs.Marks.{anyOf}
 use Rattle.plan.specs.declared.choice.Choice.{Choice}
@@ -126,11 +126,11 @@ module _ (room store : Seq ℕ) (made : ℕ) where
     own-taken : b ≡ taken room store made (clip (startOf (applicationAt room store made n 32 .application .name)) (lengthOf (applicationAt room store made n 32 .application .name)) store)
     own-taken = e5 ∙ rw (e4, e2, e3, e1)
 
-    pub name-taken : b ≡ true → r ≡ told 5 81 place → r ≡ nameFault room store made place n
+    pub name-taken : b ≡ true → r ≡ refusalAt 5 81 place → r ≡ nameFault room store made place n
     unfolding nameFault
     name-taken t e = rw (← own-taken, t) e
 
-    pub name-free : b ≡ false → r ≡ told 0 0 0 → r ≡ nameFault room store made place n
+    pub name-free : b ≡ false → r ≡ refusalAt 0 0 0 → r ≡ nameFault room store made place n
     unfolding nameFault
     name-free t e = rw (← own-taken, t) e
 

@@ -20,7 +20,7 @@ use Rattle.schema.specs.Texts.{clip}
 use Rattle.parse.specs.declared.Refusal.{Refusal}
 use Rattle.parse.specs.Application.{applicationRead}
 use Rattle.parse.specs.Entries as parsed
-use Rattle.parse.specs.Entries.{told}
+use Rattle.parse.specs.Entries.{refusalAt}
 use Rattle.parse.specs.Answers.{Says, says-made}
 use Rattle.parse.specs.Refused.{lentText}
 use Rattle.parse.specs.Whole.{presetMeant, componentOf, applicationOf}

@@ -109,9 +109,9 @@ fn check_name(tree: &[u8], store: &[u8], made: usize, place: usize, n: usize) ->
     let name = a.name;
     let own = schema::stored(store, name.start(), name.length());
     if taken(tree, store, made, own) {
-        return parse::told(5, 81, place);
+        return parse::refusal_at(5, 81, place);
     }
-    parse::told(0, 0, 0)
+    parse::refusal_at(0, 0, 0)
 }
 
 // 80, then 81.
@@ -121,8 +121,8 @@ pub fn check(tree: &[u8], store: &[u8], made: usize, app: u32, key: &[u8]) -> Re
 {
     let c = choose(tree, store, made, app, key);
     match c {
-        Choice::BootChain => parse::told(0, 0, 0),
-        Choice::Undeclared => parse::told(5, 80, 0),
+        Choice::BootChain => parse::refusal_at(0, 0, 0),
+        Choice::Undeclared => parse::refusal_at(5, 80, 0),
         Choice::At { place, value } => check_name(tree, store, made, place, value),
     }
 }

@@ -282,7 +282,7 @@ pub fn count(tree: &[u8], store: &[u8], made: usize, c: Choice) -> usize
     ensures { λ r. ⌜ r ≡ plans.count (now (tree .entry)) (now (store .entry)) made c ⌝ }
 {
     let l = parse::view::component_list(tree, store, made);
-    let n = tree::count(tree, l.end, l.place);
+    let n = tree::count_items(tree, l.end, l.place);
     match c {
         Choice::BootChain => n,
         Choice::Undeclared => 0,

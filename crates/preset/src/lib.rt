@@ -68,7 +68,7 @@ fn judge_rooms(way: Way, tree: &[u8], store: &[u8], made: usize, name: &[u8], ke
     ensures { λ r. ⌜ Told (judgeOf way (now (name .entry)) (now (key .entry)) (now (tree .entry)) (now (store .entry)) made) r ⌝ }
 {
     match way {
-        Way::Read => parse::judge(tree, store, made, name),
+        Way::Read => parse::judge_records(tree, store, made, name),
         Way::Validate => validate::judge(tree, store, made, name),
         Way::Plan(app) => plan::judge(tree, store, made, name, app, key),
     }

@@ -27,8 +27,8 @@ fn counted(tree: &[u8], store: &[u8], made: usize, p: List, c: List, a: List) ->
     ensures { λ r. ⌜ r ≡ countsOf (now (tree .entry)) (now (store .entry)) made ⌝ }
 {
     Counts {
-        partitions: tree::count(tree, p.end, p.place),
-        components: tree::count(tree, c.end, c.place),
+        partitions: tree::count_items(tree, p.end, p.place),
+        components: tree::count_items(tree, c.end, c.place),
         applications: parse::entry::count_keys(tree, store, a, 64),
     }
 }
@@ -160,7 +160,7 @@ pub fn build(
 {
     let package = x.package;
     let list = x.features;
-    let n = features::count(tree, store, made, list);
+    let n = features::count_features(tree, store, made, list);
     let a = page::put(out, at, b"build");
     let b = page::text(out, a, store, name, package);
     let c = page::number(out, b, n as u64);

@@ -27,7 +27,7 @@ use Rattle.schema.specs.declared.Application.{Application}
 use Rattle.schema.specs.declared.Partition.{Partition}
 use Rattle.schema.specs.Words.{all, Stands, word-part}
 use Rattle.schema.specs.Texts.{clip, startOf, lengthOf, amount}
-use Rattle.parse.specs.Fields.{first}
+use Rattle.parse.specs.Fields.{firstFault}
 use Rattle.parse.specs.Entries as parsed
 use Rattle.parse.specs.declared.component.ComponentRead.{ComponentRead}
 use Rattle.parse.specs.declared.application.ApplicationRead.{ApplicationRead}
@@ -78,7 +78,7 @@ module _ (b : Boot) (pbp : Bool) (e : pbp ≡ there (b .pbp)) where
     boot-late h = rw (← e, h, l, g) (late-boot (b .updater) (counted (b .ram)))
 
 pub late-done : (store : List ℕ) (known : Bool) (c : Component) (r name z source y boot x target reserve : ℕ) (pack file : Bool) (s : List ℕ) (a n : ℕ)
-    → r ≡ first name z → z ≡ first source y → y ≡ first boot x → x ≡ first target reserve
+    → r ≡ firstFault name z → z ≡ firstFault source y → y ≡ firstFault boot x → x ≡ firstFault target reserve
     → name ≡ entries.nameFault store (c .head .name) → source ≡ meant.sourceFault pack file → pack ≡ there (c .head .«package») → file ≡ there (c .head .file)
     → boot ≡ entries.bootFault (c .boot) → target ≡ entries.targetFault (eqb (length s) 0) (c .boot .updater) known → reserve ≡ meant.reserveFault (c .load .«ext_reserve»)
     → s ≡ clip a n store → a ≡ startOf (c .role .partition) → n ≡ lengthOf (c .role .partition)
@@ -107,7 +107,7 @@ pub component-done : (store : List ℕ) (fault : ℕ) (c : Component) (items : L
     → a ≡ startOf (c .role .partition) → n ≡ lengthOf (c .role .partition) → s ≡ clip a n store
     → from ≡ startOf (c .head .name) → len ≡ lengthOf (c .head .name) → late ≡ entries.lateFault store (ltb at count) c
     → pair ≡ pairOf store c → front ≡ pick (eqb (length s) 0) false (eqb at 0)
-    → record { fault = fault; mark = record { from = from; len = len; early = 0; late = late }; pair = pair; first = front } ≡ componentEntry store (map (partName store) (take count items)) fault c
+    → record { fault = fault; mark = record { from = from; len = len; early = 0; late = late }; pair = pair; firstFault = front } ≡ componentEntry store (map (partName store) (take count items)) fault c
 unfolding componentEntry
 component-done store fault c items count l m named at a n s from len late pair front f g p q e h k j o i =
     let z : eqb (length s) 0 ≡ nil? (kept store (c .role .partition)) = nil-long s ∙ ap nil? (kept-is store (c .role .partition) a n p q s e) in
@@ -186,7 +186,7 @@ pub application-done : (store : List ℕ) (fault : ℕ) (pair : Pair) (a : Appli
     → at ≡ aim store (map (partName store) (take count items)) (a .partition)
     → from ≡ startOf (a .name) → len ≡ lengthOf (a .name) → early ≡ entries.earlyFault store (ltb at count) a
     → late ≡ meant.addressFault (amount (a .«load_address»))
-    → record { fault = fault; mark = record { from = from; len = len; early = early; late = late }; pair = pair; first = false } ≡ applicationEntry store (map (partName store) (take count items)) fault pair a
+    → record { fault = fault; mark = record { from = from; len = len; early = early; late = late }; pair = pair; firstFault = false } ≡ applicationEntry store (map (partName store) (take count items)) fault pair a
 unfolding applicationEntry
 application-done store fault pair a items count l m at from len early late g h k j o = rw (h, k, j, o, g, parts-long store items count (omega arith))
 

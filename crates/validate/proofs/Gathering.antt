@@ -18,7 +18,7 @@ use Rattle.tree.specs.Laws.{found-below}
 use Rattle.parse.specs.declared.Refusal.{Refusal}
 use Rattle.parse.specs.Refusals.{earlier}
 use Rattle.parse.specs.Entries as parsed
-use Rattle.parse.specs.Entries.{told, walk, eachComponent, applicationFault}
+use Rattle.parse.specs.Entries.{refusalAt, walk, eachComponent, applicationFault}
 use Rattle.parse.proofs.Entering as reading
 use Rattle.layout.specs.declared.Mark.{Mark}
 use Rattle.layout.specs.declared.Fault.{Fault}
@@ -87,13 +87,13 @@ either-none false = refl
 pub record Composed (room store : Seq ℕ) (made : ℕ) (parts : Seq (Seq ℕ)) (place end : ℕ) (marks : Seq Mark) (pairs : Seq Pair) (fault : Refusal) (first : Bool) (i from : ℕ) : Type 0 where
   pub reads : reading.Composed room store made place end 32 i from
   pub few : length (items room end place 0) ≤ 64
-  pub none : fault ≡ told 0 0 0
+  pub none : fault ≡ refusalAt 0 0 0
   pub passed : Passed (componentAt room store made parts) (items room end place 0) (items room end place from) [] marks pairs i i
   pub left : anyOf (λ n. componentAt room store made parts n .first) (items room end place 0)
       ≡ either first (anyOf (λ n. componentAt room store made parts n .first) (items room end place from))
 
 module _ (room store : Seq ℕ) (made : ℕ) (parts : Seq (Seq ℕ)) (place end : ℕ) where
-  pub comps-start : (count : ℕ) (marks : Seq Mark) (pairs : Seq Pair) (fault : Refusal) → Counted room made place end count → marks ≡ noMarks → pairs ≡ replicate 128 blank → fault ≡ told 0 0 0
+  pub comps-start : (count : ℕ) (marks : Seq Mark) (pairs : Seq Pair) (fault : Refusal) → Counted room made place end count → marks ≡ noMarks → pairs ≡ replicate 128 blank → fault ≡ refusalAt 0 0 0
       → Composed room store made parts place end marks pairs fault false 0 0
   comps-start count marks pairs fault h m p f =
       record {
@@ -106,7 +106,7 @@ module _ (room store : Seq ℕ) (made : ℕ) (parts : Seq (Seq ℕ)) (place end 
 
   module _ (marks : Seq Mark) (pairs : Seq Pair) (fault : Refusal) (first : Bool) (i from : ℕ) (k : Composed room store made parts place end marks pairs fault first i from) where
     pub comps-marked : Marked i 51
-    comps-marked = record { fits = omega (arith, k .passed .count, k .few); told = omega arith }
+    comps-marked = record { fits = omega (arith, k .passed .count, k .few); refusalAt = omega arith }
 
     -- behind the loop the fault is one of those that its ways out leave
     module _ (r : Refusal) (own : Fault) (eo : own ≡ judged 51 store (take i marks)) where
@@ -143,10 +143,10 @@ module _ (room store : Seq ℕ) (made : ℕ) (parts : Seq (Seq ℕ)) (place end 
           unfolding componentEntry
           fault-is = ap (λ (x : Entry). x .fault) d
 
-          pub comps-not : (e .fault ≡ 0 → ⊥) → (here r : Refusal) (own : Fault) → here ≡ told 4 (e .fault) i → r ≡ here
+          pub comps-not : (e .fault ≡ 0 → ⊥) → (here r : Refusal) (own : Fault) → here ≡ refusalAt 4 (e .fault) i → r ≡ here
               → Components room store made place end parts (record { fault = r; count = i; first = first; own = own; pairs = pairs })
           comps-not z here r own eh er =
-              let t : r ≡ told 4 (e .fault) i = er ∙ eh in
+              let t : r ≡ refusalAt 4 (e .fault) i = er ∙ eh in
               record {
                 fault = reading.comps-not room store made place end 32 i from (k .reads) r found h n (parsed.componentAt room store made n 32) g refl (rw (← fault-is) z) (rw (← fault-is) t);
                 gathers = λ y. absurd (z (sym (ap (λ (x : Refusal). x .number) t) ∙ y));
@@ -181,7 +181,7 @@ key-stood room store made place end n after found h g r l =
     record { fits = record { fits = omega (arith, r .fits .fits) }; low = omega (arith, r .low) }
 
 module _ (room store : Seq ℕ) (made : ℕ) (parts : Seq (Seq ℕ)) (place end : ℕ) (old : Seq Pair) (behind : ℕ) where
-  pub apps-start : (count : ℕ) (marks : Seq Mark) (fault : Refusal) → Followed room made end count behind → length old ≡ 128 → marks ≡ noMarks → fault ≡ told 0 0 0
+  pub apps-start : (count : ℕ) (marks : Seq Mark) (fault : Refusal) → Followed room made end count behind → length old ≡ 128 → marks ≡ noMarks → fault ≡ refusalAt 0 0 0
       → Applying room store made parts place end old behind marks old fault Nothing 0
   apps-start count marks fault h w m e =
       let z : behind + 0 ≡ behind = omega arith in
@@ -194,7 +194,7 @@ module _ (room store : Seq ℕ) (made : ℕ) (parts : Seq (Seq ℕ)) (place end 
 
   module _ (marks : Seq Mark) (pairs : Seq Pair) (fault : Refusal) (after : Found) (i : ℕ) (k : Applying room store made parts place end old behind marks pairs fault after i) where
     pub apps-marked : Marked i 65
-    apps-marked = record { fits = k .high; told = omega arith }
+    apps-marked = record { fits = k .high; refusalAt = omega arith }
 
     pub apps-all : behind + i ≤ 128
     apps-all = omega (arith, k .low, k .high)
@@ -219,10 +219,10 @@ module _ (room store : Seq ℕ) (made : ℕ) (parts : Seq (Seq ℕ)) (place end 
 
       module _ (n : ℕ) (g : found ≡ At n) where
         -- one more than there may be
-        pub apps-many : 64 ≤ i → (here r : Refusal) (own : Fault) (at : ℕ) → here ≡ told 5 25 64 → r ≡ here
+        pub apps-many : 64 ≤ i → (here r : Refusal) (own : Fault) (at : ℕ) → here ≡ refusalAt 5 25 64 → r ≡ here
             → Applications room store made place end parts (take behind old) (record { fault = r; count = i; own = own; clash = at })
         apps-many l here r own at eh er =
-            let t : r ≡ told 5 25 64 = er ∙ eh in
+            let t : r ≡ refusalAt 5 25 64 = er ∙ eh in
             let w = reading.apps-on room store made 64 32 end place after fault i (k .reads) (k .high) found h n g (earlier fault (applicationFault room store made 32 i n)) refl in
             record {
               fault = reading.apps-many room store made 64 32 (record { fault = 0; place = place; end = end }) (At n) (earlier fault (applicationFault room store made 32 i n)) (i + 1) w r (omega arith) t;
@@ -260,8 +260,8 @@ module _ (fault r : Refusal) (section number place : ℕ) where
   pub fault-so-far : (fault .number ≡ 0 → ⊥) → fault ≡ earlier fault (faultAt section number place)
   fault-so-far z = rw (ne-eqb (fault .number) 0 z)
 
-  pub fault-here : fault .number ≡ 0 → (number ≡ 0 → ⊥) → r ≡ told section number place → r ≡ earlier fault (faultAt section number place)
+  pub fault-here : fault .number ≡ 0 → (number ≡ 0 → ⊥) → r ≡ refusalAt section number place → r ≡ earlier fault (faultAt section number place)
   fault-here z w e = rw (eq-eqb (fault .number) 0 z, ne-eqb number 0 w) e
 
-  pub fault-none : fault .number ≡ 0 → number ≡ 0 → r ≡ told 0 0 0 → r ≡ earlier fault (faultAt section number place)
+  pub fault-none : fault .number ≡ 0 → number ≡ 0 → r ≡ refusalAt 0 0 0 → r ≡ earlier fault (faultAt section number place)
   fault-none z w e = rw (eq-eqb (fault .number) 0 z, eq-eqb number 0 w) e

@@ -13,7 +13,7 @@ use Rattle.tree.specs.Doors.{Rooms, fieldsOf, items}
 use Rattle.schema.specs.declared.Text.the-variants as texts
 use Rattle.schema.specs.declared.Features.the-variants as lists
 use Rattle.parse.specs.declared.Refusal.{Refusal}
-use Rattle.parse.specs.Entries.{walk, told, refusalOf, eachComponent, applicationR}
+use Rattle.parse.specs.Entries.{walk, refusalAt, refusalOf, eachComponent, applicationR}
 use Rattle.parse.specs.Refused.{componentNumbers, applicationNumbers}
 use Rattle.layout.specs.declared.Fault.{Fault}
 use Rattle.layout.specs.Marks.{anyOf, firstHit, judged}
@@ -32,7 +32,7 @@ either a b = pick a true b
 
 -- a fault at a place of a section, 0 for none
 abbrev pub faultAt : ℕ → ℕ → ℕ → Refusal
-faultAt section number place = pick (eqb number 0) (told 0 0 0) (told section number place)
+faultAt section number place = pick (eqb number 0) (refusalAt 0 0 0) (refusalAt section number place)
 
 -- ---- entries that numbers stand for
 

@@ -2,7 +2,7 @@
 
 use crate::Entry;
 use layout::Mark;
-use parse::field::first;
+use parse::field::first_fault;
 use schema::Boot;
 use schema::Component;
 use schema::Number;
@@ -137,13 +137,13 @@ fn late_fault(store: &[u8], c: Component, known: bool) -> u32
     let partition = role.partition;
     let reference = schema::stored(store, partition.start(), partition.length());
     let target = target_fault(reference.len() == 0, boot.updater, known);
-    let late = first(
+    let late = first_fault(
         boot_fault(boot),
-        first(target, reserve_fault(load.ext_reserve)),
+        first_fault(target, reserve_fault(load.ext_reserve)),
     );
-    first(
+    first_fault(
         name_fault(store, name),
-        first(source_fault(there(package), there(file)), late),
+        first_fault(source_fault(there(package), there(file)), late),
     )
 }
 

@@ -60,9 +60,9 @@ fn earlier_in(fault: Refusal, section: u32, number: u32, place: usize) -> Refusa
         return fault;
     }
     if number != 0 {
-        return parse::told(section, number, place);
+        return parse::refusal_at(section, number, place);
     }
-    parse::told(0, 0, 0)
+    parse::refusal_at(0, 0, 0)
 }
 
 // All components of a list that has no more than 64, up to the first with a fault.
@@ -80,7 +80,7 @@ pub fn each_component(
 {
     let mut marks = layout::no_marks();
     let mut pairs = no_pairs();
-    let mut fault = parse::told(0, 0, 0);
+    let mut fault = parse::refusal_at(0, 0, 0);
     let mut first = false;
     let mut i = 0;
     let mut from = 0;
@@ -91,7 +91,7 @@ pub fn each_component(
             Found::At(n) => {
                 let e = crate::component::entry(tree, store, made, n, items, count);
                 if e.fault != 0 {
-                    fault = parse::told(4, e.fault, i);
+                    fault = parse::refusal_at(4, e.fault, i);
                     break;
                 }
                 let mark = e.mark;
@@ -132,7 +132,7 @@ pub fn each_application(
     let low = tree::skip_up(tree, end, place, 0);
     let mut marks = layout::no_marks();
     let mut pairs = old;
-    let mut fault = parse::told(0, 0, 0);
+    let mut fault = parse::refusal_at(0, 0, 0);
     let mut after = Found::Nothing;
     let mut i = 0;
     while i <= 64 {
@@ -141,7 +141,7 @@ pub fn each_application(
             Found::Nothing => break,
             Found::At(n) => {
                 if 64 <= i {
-                    fault = parse::told(5, 25, 64);
+                    fault = parse::refusal_at(5, 25, 64);
                     break;
                 }
                 let e = crate::application::entry(tree, store, made, n, items, count);

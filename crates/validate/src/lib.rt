@@ -38,9 +38,9 @@ fn in_entry(section: u32, f: Fault) -> Refusal
     ensures { λ r. ⌜ r ≡ faults.inEntry section f ⌝ }
 {
     if f.number == 0 {
-        return parse::told(0, 0, 0);
+        return parse::refusal_at(0, 0, 0);
     }
-    parse::told(section, f.number, f.place)
+    parse::refusal_at(section, f.number, f.place)
 }
 
 // 50 to 59.
@@ -48,7 +48,7 @@ fn check_components(own: Fault, count: usize) -> Refusal
     ensures { λ r. ⌜ r ≡ faults.countedFault own count ⌝ }
 {
     if count == 0 {
-        return parse::told(4, 50, 0);
+        return parse::refusal_at(4, 50, 0);
     }
     in_entry(4, own)
 }
@@ -60,12 +60,12 @@ fn check_uses(at: usize, components: usize, applications: usize) -> Refusal
 {
     let all = components + applications;
     if at < components {
-        return parse::told(4, 60, at);
+        return parse::refusal_at(4, 60, at);
     }
     if at < all {
-        return parse::told(5, 60, at - components);
+        return parse::refusal_at(5, 60, at - components);
     }
-    parse::told(0, 0, 0)
+    parse::refusal_at(0, 0, 0)
 }
 
 // 70: no component lies in the first partition.
@@ -73,9 +73,9 @@ fn check_first(first: bool) -> Refusal
     ensures { λ r. ⌜ r ≡ faults.bootFault first ⌝ }
 {
     if first {
-        return parse::told(0, 0, 0);
+        return parse::refusal_at(0, 0, 0);
     }
-    parse::told(4, 70, 0)
+    parse::refusal_at(4, 70, 0)
 }
 
 // 60 to 70: the packages of all entries, the applications' own rules, the first partition.
@@ -129,9 +129,9 @@ fn check_length(section: u32, n: usize) -> Refusal
     ensures { λ r. ⌜ r ≡ faults.lengthFault section n ⌝ }
 {
     if 64 < n {
-        return parse::told(section, 25, 64);
+        return parse::refusal_at(section, 25, 64);
     }
-    parse::told(0, 0, 0)
+    parse::refusal_at(0, 0, 0)
 }
 
 // The components, 50 to 59 beside the rules judged so far, and the applications.
@@ -147,7 +147,7 @@ fn judge_components(
     ensures { λ r. ⌜ r ≡ faults.componentsJudged (now (tree .entry)) (now (store .entry)) made (map (partName (now (store .entry))) (take count items)) rules ⌝ }
 {
     let l = parse::view::component_list(tree, store, made);
-    let n = tree::count(tree, l.end, l.place);
+    let n = tree::count_items(tree, l.end, l.place);
     let a = parse::earlier(parse::in_section(4, l.fault), check_length(4, n));
     if a.number != 0 {
         return a;

@@ -8,7 +8,7 @@ use Rattle.parse.proofs.entry.count_keys.Reads as count-keys-reads
 use Rattle.parse.proofs.view.application_list.Reads as application-list-reads
 use Rattle.parse.proofs.view.component_list.Reads as component-list-reads
 use Rattle.parse.proofs.view.partition_list.Reads as partition-list-reads
-use Rattle.tree.proofs.count.Reads as count-reads
+use Rattle.tree.proofs.count_items.Reads as count-items-reads
 
 partition-list-requires : tie.Need-partition-list-requires
 partition-list-requires c κs = search needs
@@ -19,11 +19,11 @@ component-list-requires c κs = search needs
 application-list-requires : tie.Need-application-list-requires
 application-list-requires c κs = search needs
 
-count-requires : tie.Need-count-requires
-count-requires c κs = search (needs, partitions-hold)
+count-items-requires : tie.Need-count-items-requires
+count-items-requires c κs = search (needs, partitions-hold)
 
-count-requires-2 : tie.Need-count-requires-2
-count-requires-2 c κs = search (needs, components-hold)
+count-items-requires-2 : tie.Need-count-items-requires-2
+count-items-requires-2 c κs = search (needs, components-hold)
 
 count-keys-requires : tie.Need-count-keys-requires
 count-keys-requires c κs = search (needs, applications-hold)
@@ -38,7 +38,7 @@ counts-of-spec =
     partition-list-requires
     component-list-requires
     application-list-requires
-    count-requires
-    count-requires-2
+    count-items-requires
+    count-items-requires-2
     count-keys-requires
     returns)

@@ -4,7 +4,7 @@ use Rattle.plan.proofs.choice.check.Statement.{statement}
 use Rattle.plan.proofs.choice.check.Tie as tie
 use Rattle.plan.proofs.choice.check.Reads as reads
 use Rattle.plan.proofs.choice.check.Lts as lts
-use Rattle.parse.proofs.told.Reads as told-reads
+use Rattle.parse.proofs.refusal_at.Reads as refusal-at-reads
 use Rattle.plan.proofs.choice.check_name.Reads as check-name-reads
 use Rattle.plan.proofs.choice.choose.Reads as choose-reads
 
@@ -14,14 +14,14 @@ choose-requires c κs = search needs
 enum-told : tie.Need-enum-told
 enum-told c = search needs
 
-told-requires : tie.Need-told-requires
-told-requires c κs = search needs
+refusal-at-requires : tie.Need-refusal-at-requires
+refusal-at-requires c κs = search needs
 
 enum-told-2 : tie.Need-enum-told-2
 enum-told-2 c = search needs
 
-told-requires-2 : tie.Need-told-requires-2
-told-requires-2 c κs = search needs
+refusal-at-requires-2 : tie.Need-refusal-at-requires-2
+refusal-at-requires-2 c κs = search needs
 
 enum-known-c : tie.Need-enum-known-c
 enum-known-c c = search needs
@@ -44,9 +44,9 @@ check-spec =
     (tie.spec
     choose-requires
     enum-told
-    told-requires
+    refusal-at-requires
     enum-told-2
-    told-requires-2
+    refusal-at-requires-2
     enum-known-c
     check-name-requires
     returns

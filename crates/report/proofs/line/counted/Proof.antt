@@ -5,13 +5,13 @@ use Rattle.report.proofs.line.counted.Tie as tie
 use Rattle.report.proofs.line.counted.Reads as reads
 use Rattle.report.proofs.line.counted.Lts as lts
 use Rattle.parse.proofs.entry.count_keys.Reads as count-keys-reads
-use Rattle.tree.proofs.count.Reads as count-reads
+use Rattle.tree.proofs.count_items.Reads as count-items-reads
 
-count-requires : tie.Need-count-requires
-count-requires c κs = search (needs, partitions-stand)
+count-items-requires : tie.Need-count-items-requires
+count-items-requires c κs = search (needs, partitions-stand)
 
-count-requires-2 : tie.Need-count-requires-2
-count-requires-2 c κs = search (needs, components-stand)
+count-items-requires-2 : tie.Need-count-items-requires-2
+count-items-requires-2 c κs = search (needs, components-stand)
 
 count-keys-requires : tie.Need-count-keys-requires
 count-keys-requires c κs = search (needs, applications-stand)
@@ -20,4 +20,4 @@ returns : tie.Need-returns
 returns c = search (needs, counts-stand)
 
 pub counted-spec : {M : Type 1} → statement M
-counted-spec = tie.close (tie.spec count-requires count-requires-2 count-keys-requires returns)
+counted-spec = tie.close (tie.spec count-items-requires count-items-requires-2 count-keys-requires returns)

@@ -4,7 +4,7 @@ use Rattle.validate.proofs.front.check.Statement.{statement}
 use Rattle.validate.proofs.front.check.Tie as tie
 use Rattle.validate.proofs.front.check.Reads as reads
 use Rattle.validate.proofs.front.check.Lts as lts
-use Rattle.parse.proofs.told.Reads as told-reads
+use Rattle.parse.proofs.refusal_at.Reads as refusal-at-reads
 use Rattle.validate.proofs.front.device_fault.Reads as device-fault-reads
 use Rattle.validate.proofs.front.size.Reads as size-reads
 use Rattle.validate.proofs.front.target_fault.Reads as target-fault-reads
@@ -12,8 +12,8 @@ use Rattle.validate.proofs.front.target_fault.Reads as target-fault-rea
 device-fault-requires : tie.Need-device-fault-requires
 device-fault-requires c κs = search needs
 
-told-requires : tie.Need-told-requires
-told-requires c κs = search needs
+refusal-at-requires : tie.Need-refusal-at-requires
+refusal-at-requires c κs = search needs
 
 returns : tie.Need-returns
 returns c = search (needs, ruled-device)
@@ -21,8 +21,8 @@ returns c = search (needs, ruled-device)
 size-requires : tie.Need-size-requires
 size-requires c κs = search needs
 
-told-requires-2 : tie.Need-told-requires-2
-told-requires-2 c κs = search needs
+refusal-at-requires-2 : tie.Need-refusal-at-requires-2
+refusal-at-requires-2 c κs = search needs
 
 returns-2 : tie.Need-returns-2
 returns-2 c = search (needs, ruled-profile)
@@ -30,8 +30,8 @@ returns-2 c = search (needs, ruled-profile)
 size-requires-2 : tie.Need-size-requires-2
 size-requires-2 c κs = search needs
 
-told-requires-3 : tie.Need-told-requires-3
-told-requires-3 c κs = search needs
+refusal-at-requires-3 : tie.Need-refusal-at-requires-3
+refusal-at-requires-3 c κs = search needs
 
 returns-3 : tie.Need-returns-3
 returns-3 c = search (needs, ruled-app)
@@ -39,14 +39,14 @@ returns-3 c = search (needs, ruled-app)
 target-fault-requires : tie.Need-target-fault-requires
 target-fault-requires c κs = search needs
 
-told-requires-4 : tie.Need-told-requires-4
-told-requires-4 c κs = search needs
+refusal-at-requires-4 : tie.Need-refusal-at-requires-4
+refusal-at-requires-4 c κs = search needs
 
 returns-4 : tie.Need-returns-4
 returns-4 c = search (needs, ruled-target)
 
-told-requires-5 : tie.Need-told-requires-5
-told-requires-5 c κs = search needs
+refusal-at-requires-5 : tie.Need-refusal-at-requires-5
+refusal-at-requires-5 c κs = search needs
 
 returns-5 : tie.Need-returns-5
 returns-5 c = search (needs, ruled-none)
@@ -56,16 +56,16 @@ check-spec =
     tie.close
     (tie.spec
     device-fault-requires
-    told-requires
+    refusal-at-requires
     returns
     size-requires
-    told-requires-2
+    refusal-at-requires-2
     returns-2
     size-requires-2
-    told-requires-3
+    refusal-at-requires-3
     returns-3
     target-fault-requires
-    told-requires-4
+    refusal-at-requires-4
     returns-4
-    told-requires-5
+    refusal-at-requires-5
     returns-5)

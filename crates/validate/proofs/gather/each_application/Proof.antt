@@ -12,7 +12,7 @@ use Rattle.validate.proofs.gather.each_application.Reads as reads
 use Rattle.validate.proofs.gather.each_application.Lts as lts
 use Rattle.layout.proofs.judge.Reads as judge-reads
 use Rattle.layout.proofs.no_marks.Reads as no-marks-reads
-use Rattle.parse.proofs.told.Reads as told-reads
+use Rattle.parse.proofs.refusal_at.Reads as refusal-at-reads
 use Rattle.tree.proofs.next.Reads as next-reads
 use Rattle.tree.proofs.skip_up.Reads as skip-up-reads
 use Rattle.validate.proofs.application.entry.Reads as entry-reads
@@ -33,8 +33,8 @@ skip-up-requires c κs = search (needs, holds-end)
 no-marks-requires : tie.Need-no-marks-requires Inv-loop μ-loop
 no-marks-requires c κs = search needs
 
-told-requires : tie.Need-told-requires Inv-loop μ-loop
-told-requires c κs = search needs
+refusal-at-requires : tie.Need-refusal-at-requires Inv-loop μ-loop
+refusal-at-requires c κs = search needs
 
 loop-holds : tie.Need-loop-holds Inv-loop μ-loop
 loop-holds c = search (needs, apps-start)
@@ -48,8 +48,8 @@ enum-told c = search needs
 enum-known-found : tie.Need-enum-known-found Inv-loop μ-loop
 enum-known-found c = search needs
 
-told-requires-2 : tie.Need-told-requires-2 Inv-loop μ-loop
-told-requires-2 c κs = search needs
+refusal-at-requires-2 : tie.Need-refusal-at-requires-2 Inv-loop μ-loop
+refusal-at-requires-2 c κs = search needs
 
 entry-requires : tie.Need-entry-requires Inv-loop μ-loop
 entry-requires c κs = search (needs, key-stood)
@@ -101,12 +101,12 @@ each-application-spec =
     μ-loop
     skip-up-requires
     no-marks-requires
-    told-requires
+    refusal-at-requires
     loop-holds
     next-requires
     enum-told
     enum-known-found
-    told-requires-2
+    refusal-at-requires-2
     entry-requires
     add-at
     earlier-in-requires

@@ -12,7 +12,7 @@ use Rattle.validate.proofs.gather.each_component.Reads as reads
 use Rattle.validate.proofs.gather.each_component.Lts as lts
 use Rattle.layout.proofs.judge.Reads as judge-reads
 use Rattle.layout.proofs.no_marks.Reads as no-marks-reads
-use Rattle.parse.proofs.told.Reads as told-reads
+use Rattle.parse.proofs.refusal_at.Reads as refusal-at-reads
 use Rattle.tree.proofs.child.Reads as child-reads
 use Rattle.validate.proofs.component.entry.Reads as entry-reads
 use Rattle.validate.proofs.gather.either.Reads as either-reads
@@ -32,8 +32,8 @@ no-marks-requires c κs = search needs
 no-pairs-requires : tie.Need-no-pairs-requires Inv-loop μ-loop
 no-pairs-requires c κs = search needs
 
-told-requires : tie.Need-told-requires Inv-loop μ-loop
-told-requires c κs = search needs
+refusal-at-requires : tie.Need-refusal-at-requires Inv-loop μ-loop
+refusal-at-requires c κs = search needs
 
 loop-holds : tie.Need-loop-holds Inv-loop μ-loop
 loop-holds c = search (needs, comps-start)
@@ -50,8 +50,8 @@ enum-known-found c = search needs
 entry-requires : tie.Need-entry-requires Inv-loop μ-loop
 entry-requires c κs = search (needs, item-stood)
 
-told-requires-2 : tie.Need-told-requires-2 Inv-loop μ-loop
-told-requires-2 c κs = search needs
+refusal-at-requires-2 : tie.Need-refusal-at-requires-2 Inv-loop μ-loop
+refusal-at-requires-2 c κs = search needs
 
 mul-marks : tie.Need-mul-marks Inv-loop μ-loop
 mul-marks c = search (needs, comps-room)
@@ -95,13 +95,13 @@ each-component-spec =
     μ-loop
     no-marks-requires
     no-pairs-requires
-    told-requires
+    refusal-at-requires
     loop-holds
     child-requires
     enum-told
     enum-known-found
     entry-requires
-    told-requires-2
+    refusal-at-requires-2
     mul-marks
     array-set-from-marks
     mul-pairs

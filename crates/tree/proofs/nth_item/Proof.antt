@@ -1,11 +1,12 @@
+-- What is left to pass from here on gives what all of it gives.
 use Rattle.tree.proofs.Opening.{Passing, pass-start, pass-over, pass-on, pass-hit, pass-end}
 use Rattle.tree.proofs.Walks.{holds-next}
 use Prim.Native.Nat.{_-_}
 use borrow.Author.Needs.{needs}
-use Rattle.tree.proofs.nth.Statement.{statement}
-use Rattle.tree.proofs.nth.Tie as tie
-use Rattle.tree.proofs.nth.Reads as reads
-use Rattle.tree.proofs.nth.Lts as lts
+use Rattle.tree.proofs.nth_item.Statement.{statement}
+use Rattle.tree.proofs.nth_item.Tie as tie
+use Rattle.tree.proofs.nth_item.Reads as reads
+use Rattle.tree.proofs.nth_item.Lts as lts
 use Rattle.tree.proofs.under.Reads as under-reads
 
 abbrev Inv-loop : tie.InvT-loop
@@ -47,8 +48,8 @@ loop-again-2 c = search (needs, pass-over)
 returns-2 : tie.Need-returns-2 Inv-loop μ-loop
 returns-2 c = search (needs, pass-end)
 
-pub nth-spec : {M : Type 1} → statement M
-nth-spec =
+pub nth-item-spec : {M : Type 1} → statement M
+nth-item-spec =
     tie.close
     (tie.spec
     Inv-loop

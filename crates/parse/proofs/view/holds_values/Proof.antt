@@ -1,9 +1,9 @@
 use Rattle.parse.proofs.Judging.{sound-short, sound-many, sound-well}
 use borrow.Author.Needs.{needs}
-use Rattle.parse.proofs.view.sound.Statement.{statement}
-use Rattle.parse.proofs.view.sound.Tie as tie
-use Rattle.parse.proofs.view.sound.Reads as reads
-use Rattle.parse.proofs.view.sound.Lts as lts
+use Rattle.parse.proofs.view.holds_values.Statement.{statement}
+use Rattle.parse.proofs.view.holds_values.Tie as tie
+use Rattle.parse.proofs.view.holds_values.Reads as reads
+use Rattle.parse.proofs.view.holds_values.Lts as lts
 use Rattle.tree.proofs.capacity.Reads as capacity-reads
 
 capacity-requires : tie.Need-capacity-requires
@@ -18,5 +18,5 @@ returns-2 c = search (needs, sound-many)
 returns-3 : tie.Need-returns-3
 returns-3 c = search (needs, sound-well)
 
-pub sound-spec : {M : Type 1} → statement M
-sound-spec = tie.close (tie.spec capacity-requires returns returns-2 returns-3)
+pub holds-values-spec : {M : Type 1} → statement M
+holds-values-spec = tie.close (tie.spec capacity-requires returns returns-2 returns-3)

@@ -1,7 +1,7 @@
 use borrow.Author.Needs.{needs}
 use Rattle.features.proofs.Tallying.{span-in, span-all}
-use Rattle.features.proofs.count.Statement.{statement}
-use Rattle.features.proofs.count.Tie as tie
+use Rattle.features.proofs.count_features.Statement.{statement}
+use Rattle.features.proofs.count_features.Tie as tie
 
 span-requires : tie.Need-span-requires
 span-requires c κs = search needs
@@ -12,5 +12,5 @@ tally-requires c κs = let d = c .before .before .before in span-in _ (d .args .
 returns : tie.Need-returns
 returns c = search (needs, span-all)
 
-pub count-spec : {M : Type 1} → statement M
-count-spec = tie.close (tie.spec span-requires tally-requires returns)
+pub count-features-spec : {M : Type 1} → statement M
+count-features-spec = tie.close (tie.spec span-requires tally-requires returns)

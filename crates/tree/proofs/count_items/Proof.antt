@@ -1,10 +1,11 @@
+-- Of the first i values n hang under the parent.
 use Rattle.tree.proofs.Walks.{Counting, holds-next, count-hit, count-on, count-end}
 use Prim.Native.Nat.{_-_}
 use borrow.Author.Needs.{needs}
-use Rattle.tree.proofs.count.Statement.{statement}
-use Rattle.tree.proofs.count.Tie as tie
-use Rattle.tree.proofs.count.Reads as reads
-use Rattle.tree.proofs.count.Lts as lts
+use Rattle.tree.proofs.count_items.Statement.{statement}
+use Rattle.tree.proofs.count_items.Tie as tie
+use Rattle.tree.proofs.count_items.Reads as reads
+use Rattle.tree.proofs.count_items.Lts as lts
 use Rattle.tree.proofs.under.Reads as under-reads
 
 abbrev Inv-loop : tie.InvT-loop
@@ -43,8 +44,8 @@ loop-again-2 c = search (needs, count-on)
 returns : tie.Need-returns Inv-loop μ-loop
 returns c = search (needs, count-end)
 
-pub count-spec : {M : Type 1} → statement M
-count-spec =
+pub count-items-spec : {M : Type 1} → statement M
+count-items-spec =
     tie.close
     (tie.spec
     Inv-loop

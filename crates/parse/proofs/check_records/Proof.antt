@@ -1,9 +1,9 @@
 use Rattle.parse.proofs.Judging.{front-refused, partitions-refused, components-refused, all-judged}
 use borrow.Author.Needs.{needs}
-use Rattle.parse.proofs.check.Statement.{statement}
-use Rattle.parse.proofs.check.Tie as tie
-use Rattle.parse.proofs.check.Reads as reads
-use Rattle.parse.proofs.check.Lts as lts
+use Rattle.parse.proofs.check_records.Statement.{statement}
+use Rattle.parse.proofs.check_records.Tie as tie
+use Rattle.parse.proofs.check_records.Reads as reads
+use Rattle.parse.proofs.check_records.Lts as lts
 use Rattle.parse.proofs.check_applications.Reads as check-applications-reads
 use Rattle.parse.proofs.check_components.Reads as check-components-reads
 use Rattle.parse.proofs.check_front.Reads as check-front-reads
@@ -33,8 +33,8 @@ check-applications-requires c κs = search needs
 returns-4 : tie.Need-returns-4
 returns-4 c = search (needs, all-judged)
 
-pub check-spec : {M : Type 1} → statement M
-check-spec =
+pub check-records-spec : {M : Type 1} → statement M
+check-records-spec =
     tie.close
     (tie.spec
     check-front-requires

@@ -1,9 +1,10 @@
+-- What is sought is not above i, so it is found among the values below, a block at a time.
 use Rattle.tree.proofs.Skipping.{Looking, look-start, look-room, look-hit, look-on, look-few, look-end}
 use borrow.Author.Needs.{needs}
-use Rattle.tree.proofs.find.Statement.{statement}
-use Rattle.tree.proofs.find.Tie as tie
-use Rattle.tree.proofs.find.Reads as reads
-use Rattle.tree.proofs.find.Lts as lts
+use Rattle.tree.proofs.find_child.Statement.{statement}
+use Rattle.tree.proofs.find_child.Tie as tie
+use Rattle.tree.proofs.find_child.Reads as reads
+use Rattle.tree.proofs.find_child.Lts as lts
 use Rattle.tree.proofs.seek.Reads as seek-reads
 use Rattle.tree.proofs.seek_block.Reads as seek-block-reads
 
@@ -40,8 +41,8 @@ seek-requires c κs = search (needs, look-few)
 returns-2 : tie.Need-returns-2 Inv-loop μ-loop
 returns-2 c = search (needs, look-end)
 
-pub find-spec : {M : Type 1} → statement M
-find-spec =
+pub find-child-spec : {M : Type 1} → statement M
+find-child-spec =
     tie.close
     (tie.spec
     Inv-loop
