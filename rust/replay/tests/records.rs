@@ -273,6 +273,20 @@ fn nothing(rooms: Rooms) -> Result<(), String> {
     absent(rooms.feature(words, None))
 }
 
+fn items_behind(rooms: Rooms, list: FeatureList, mut after: Option<(usize, usize)>) -> Vec<String> {
+    let mut out = Vec::new();
+    // no list here has more items
+    for _ in 0..9 {
+        let item = rooms.feature(list, after);
+        let part = item.from..item.from + item.len;
+        if item.found == 1 {
+            out.push(String::from_utf8_lossy(&rooms.store[part]).into_owned());
+            after = Some((item.from, item.len));
+        }
+    }
+    out
+}
+
 // A walk over features in byte order, from its start and from bytes that are none of its items.
 #[test]
 fn features_in_their_order() {
@@ -296,19 +310,7 @@ fn features_in_their_order() {
         from: 2,
         len: 0,
     };
-    let all = |list, mut after: Option<(usize, usize)>| {
-        let mut out = Vec::new();
-        // no list here has more items
-        for _ in 0..9 {
-            let item = rooms.feature(list, after);
-            let part = item.from..item.from + item.len;
-            if item.found == 1 {
-                out.push(String::from_utf8_lossy(&store[part]).into_owned());
-                after = Some((item.from, item.len));
-            }
-        }
-        out
-    };
+    let all = |list, after| items_behind(rooms, list, after);
     assert_eq!(all(words, None), ["a", "ab", "b"]);
     assert_eq!(all(items, None), ["", "a", "ab", "b"]);
     // behind `aa`, which is no item

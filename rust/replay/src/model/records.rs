@@ -308,10 +308,8 @@ fn component(fields: Fields, most: usize) -> Field<ComponentSpec> {
     let package = fields.text("package")?;
     let bin = fields.text("bin")?;
     let file = fields.path("file")?;
-    let filename = match fields.text("filename")? {
-        Some(filename) => filename,
-        None => filename_for(&bin, &file, &package),
-    };
+    let filename = fields.text("filename")?;
+    let filename = filename.unwrap_or_else(|| filename_for(&bin, &file, &package));
     let features = fields.features("features", most)?;
     let pbp_features = match fields.features("pbp_features", most)? {
         none if none.is_empty() => features.clone(),

@@ -126,8 +126,8 @@ fn partition(p: &Preset, before: &[PartitionSpec], own: &PartitionSpec) -> u32 {
         (42, own.name.is_empty()),
         (43, before.iter().any(|other| other.name == own.name)),
         (44, own.size == 0),
-        (45, own.offset % block != 0),
-        (46, own.size % block != 0),
+        (45, !own.offset.is_multiple_of(block)),
+        (46, !own.size.is_multiple_of(block)),
         (47, u64::from(own.offset) < previous),
         (48, end(own) >= 1 << 32),
     ])
@@ -161,7 +161,7 @@ fn component(p: &Preset, before: &[ComponentSpec], own: &ComponentSpec) -> u32 {
         (56, own.updater && own.ram.is_none()),
         (57, nowhere && !own.updater),
         (58, !nowhere && !known(p, reference(&own.partition))),
-        (59, own.ext_reserve % 512 != 0),
+        (59, !own.ext_reserve.is_multiple_of(512)),
     ])
 }
 
