@@ -25,7 +25,18 @@ const STRING_UNIT: u64 = 65536;
 
 const STRING_MOST: u64 = 4294967295;
 
-// A value. Its kind: 1 string, 2 integer, 3 boolean, 4 array, 5 table, 6 integer with a minus.
+// Reading never makes more values, so that each has a place of two bytes.
+pub const MOST_VALUES: usize = 65000;
+
+// The kinds of values.
+pub const STRING: u8 = 1;
+pub const INTEGER: u8 = 2;
+pub const BOOLEAN: u8 = 3;
+pub const ARRAY: u8 = 4;
+pub const TABLE: u8 = 5;
+pub const MINUS: u8 = 6;
+
+// A value. Its kind is one of those above, MINUS that of an integer with a minus.
 // Its parent: 0 none yet, 1 the root, n + 2 value number n. Its key is len bytes of the text store. Its data: an integer's magnitude; start + 65536 * length of a string; 0 or 1; else 0.
 pub struct Slot {
     pub kind: u8,
@@ -591,15 +602,15 @@ fn classify(v: Slot, size: usize, place: u16) -> Value
     let kind = v.kind;
     let data = v.data;
     match kind {
-        1 => text(data, size),
-        2 => Value::Number {
+        STRING => text(data, size),
+        INTEGER => Value::Number {
             negative: false,
             magnitude: data,
         },
-        3 => Value::Flag(nonzero(data)),
-        4 => Value::Array(place),
-        5 => Value::Table(place),
-        6 => Value::Number {
+        BOOLEAN => Value::Flag(nonzero(data)),
+        ARRAY => Value::Array(place),
+        TABLE => Value::Table(place),
+        MINUS => Value::Number {
             negative: nonzero(data),
             magnitude: data,
         },
