@@ -10,7 +10,7 @@ use lib.ListN.{length, getD}
 use borrow.Author.Tests.{eqb-true, eqb-false, le-leb}
 use Rattle.meaning.specs.Base.{part}
 use Rattle.meaning.specs.Refusal.{numbered}
-use Rattle.meaning.specs.Reading.{Grown, grown, stuck, turn, make}
+use Rattle.meaning.specs.Reading.{Grown, grown, stuck, growMap, make}
 use Rattle.meaning.specs.Tree.{Value, Table, str, int, boolean, array, table, empty, seen, asTable, lookup, hang, Grow, down, enter}
 use Rattle.laws.specs.Cases.{on}
 use Rattle.laws.specs.Never.{same-refl}
@@ -37,7 +37,7 @@ graft x g (grown t m) = grown (setAt x g (table t)) m
 graft x g (stuck e) = stuck e
 
 pub graft-hang : (x : Value) (g : List Key) (t : Table) (k : List ℕ) (r : Grown Table) → find (some x) g ≡ some (table t)
-    → graft x g (turn (hang t k) r) ≡ graft x (name k ∷ g) r
+    → graft x g (growMap (hang t k) r) ≡ graft x (name k ∷ g) r
 graft-hang x g t k (grown w m) e = ap (λ (o : Option Value). grown (setAt x g (put o (name k) (table w))) m) (sym e)
 graft-hang x g t k (stuck f) e = refl
 
@@ -87,7 +87,7 @@ module _ (limit : ℕ) (bytes : List ℕ) (vs : List Slot) (x : Value) (g : List
     (spelt : part (s .at) (s .at + s .len) bytes ≡ k) (lies : s .at + s .len ≤ length bytes) (ks : List (List ℕ)) where
   -- the table is there
   module _ (w : Table) (e : lookup t k ≡ some (table w)) where
-    old-step : (f : Table → Grow Table) → down (enter limit) f (k ∷ ks) t (length vs) ≡ turn (hang t k) (down (enter limit) f ks w (length vs))
+    old-step : (f : Table → Grow Table) → down (enter limit) f (k ∷ ks) t (length vs) ≡ growMap (hang t k) (down (enter limit) f ks w (length vs))
     unfolding enter
     old-step f = rw e
 
@@ -109,7 +109,7 @@ module _ (limit : ℕ) (bytes : List ℕ) (vs : List Slot) (x : Value) (g : List
           calm = λ n h. c .calm n (shift-calm n h);
           closed = c .closed;
         }
-    old-comes (stuckS n) c = (c .0, λ f. old-step f ∙ ap (turn (hang t k)) (c .1 f))
+    old-comes (stuckS n) c = (c .0, λ f. old-step f ∙ ap (growMap (hang t k)) (c .1 f))
 
   -- it is made
   module _ (e : (m : ℕ) → enter limit (lookup t k) m ≡ make limit empty m) where
@@ -127,7 +127,7 @@ module _ (limit : ℕ) (bytes : List ℕ) (vs : List Slot) (x : Value) (g : List
     full-stuck l f = rw (e (length vs), l)
 
     new-step : leb limit (length vs) ≡ false → (f : Table → Grow Table)
-        → down (enter limit) f (k ∷ ks) t (length vs) ≡ turn (hang t k) (down (enter limit) f ks empty (length vs + 1))
+        → down (enter limit) f (k ∷ ks) t (length vs) ≡ growMap (hang t k) (down (enter limit) f ks empty (length vs + 1))
     unfolding make
     new-step l f = rw (e (length vs), l)
 
@@ -172,7 +172,7 @@ module _ (limit : ℕ) (bytes : List ℕ) (vs : List Slot) (x : Value) (g : List
         }
     new-comes l (stuckS n) c =
         let i : length vs + 1 ≡ length made = sym (length-more vs slot) in
-        (c .0, λ f. new-step l f ∙ ap (λ (m : ℕ). turn (hang t k) (down (enter limit) f ks empty m)) i ∙ ap (turn (hang t k)) (c .1 f))
+        (c .0, λ f. new-step l f ∙ ap (λ (m : ℕ). growMap (hang t k) (down (enter limit) f ks empty m)) i ∙ ap (growMap (hang t k)) (c .1 f))
 
     -- within the limit or not
     make-comes : (next : List Slot → ℕ → GrownS) → (Stand bytes made tree (name k ∷ g) empty (length vs + 2) → Comes limit bytes made tree (name k ∷ g) empty ks (next made (length vs + 2)))

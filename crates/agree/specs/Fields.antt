@@ -9,8 +9,8 @@ use lib.Dec.{leb, ltb}
 use lib.IntN.{pos, negsuc}
 use lib.ListN.{length}
 use borrow.Author.Tests.{le-leb}
-use Rattle.meaning.specs.Base.{pick, else, part, ascii, same}
-use Rattle.meaning.specs.Refusal.{R, ok, bad, via}
+use Rattle.meaning.specs.Base.{pick, orDefault, part, ascii, same}
+use Rattle.meaning.specs.Refusal.{R, ok, bad, okThen}
 use Rattle.meaning.specs.Tree.{Value, Items, str, int, boolean, array, table, none′, item, count}
 use Rattle.meaning.specs.Fields.{aText, aNumber, aFlag, inRange, aWord, need, present, values}
 use Rattle.meaning.specs.Features.{words, texts as textsOf, aFeatures}
@@ -34,7 +34,7 @@ use Rattle.parse.specs.Fields.{firstFault, textRead, numberRead, ranged, flagRe
 use Rattle.parse.specs.Meant.{Got, featureList}
 use Rattle.parse.specs.Reads.{Gives, gives-made, Kept, text-kept, else-spelled, clip-none}
 
-else-amount : (n : Number) (d : ℕ) → orNumber n d ≡ else (amount n) d
+else-amount : (n : Number) (d : ℕ) → orNumber n d ≡ orDefault (amount n) d
 else-amount numbers.Absent d = refl
 else-amount (numbers.Of n) d = refl
 
@@ -82,7 +82,7 @@ module _ (store : List ℕ) (name : List ℕ) where
   text-by (some (table t)) v from place e d = rw e (refl, wrong)
 
   text-need-by : (o : Option Value) (v : Read) (from place : ℕ) → v ≡ valueFor from place o → Spelt store from o
-      → Got (via (present aText o) (need 24)) (firstFault (textRead v .fault) (missing v)) (spelled store name (textRead v .text))
+      → Got (okThen (present aText o) (need 24)) (firstFault (textRead v .fault) (missing v)) (spelled store name (textRead v .text))
   unfolding aText
   text-need-by none v from place e d = rw e (refl, omega arith)
   text-need-by (some (str s)) v from place e d = rw e (refl, clip-is store from s (d .0) (d .1))
@@ -100,7 +100,7 @@ module _ (store : List ℕ) (name : List ℕ) where
   spelled-clip (texts.WithAic from len) h = absurd h
 
 -- an integer in its range
-number-pos : (n : ℕ) → Got (via (inRange (pos n)) (λ x. ok (some x))) (ranged false n .fault) (amount (ranged false n .number))
+number-pos : (n : ℕ) → Got (okThen (inRange (pos n)) (λ x. ok (some x))) (ranged false n .fault) (amount (ranged false n .number))
 unfolding inRange ranged
 number-pos n = on (leb n 4294967295) (λ e. rw e (refl, refl)) (λ e. rw e (refl, omega arith))
 
@@ -115,7 +115,7 @@ number-by (some (array a)) v from place e = rw e (refl, wrong)
 number-by (some (table t)) v from place e = rw e (refl, wrong)
 
 number-need-by : (o : Option Value) (v : Read) (from place : ℕ) → v ≡ valueFor from place o
-    → Got (via (present aNumber o) (need 24)) (firstFault (numberRead v .fault) (missing v)) (orNumber (numberRead v .number) 0)
+    → Got (okThen (present aNumber o) (need 24)) (firstFault (numberRead v .fault) (missing v)) (orNumber (numberRead v .number) 0)
 unfolding aNumber inRange ranged
 number-need-by none v from place e = rw e (refl, omega arith)
 number-need-by (some (str s)) v from place e = rw e (refl, wrong)
@@ -126,7 +126,7 @@ number-need-by (some (array a)) v from place e = rw e (refl, wrong)
 number-need-by (some (table t)) v from place e = rw e (refl, wrong)
 
 flag-by : (o : Option Value) (v : Read) (from place : ℕ) → v ≡ valueFor from place o
-    → Got (via (present aFlag o) (λ p. ok (else p false))) (flagRead v .fault) (flagRead v .flag)
+    → Got (okThen (present aFlag o) (λ p. ok (orDefault p false))) (flagRead v .fault) (flagRead v .flag)
 unfolding aFlag
 flag-by none v from place e = rw e (refl, refl)
 flag-by (some (str s)) v from place e = rw e (refl, wrong)
@@ -137,12 +137,12 @@ flag-by (some (array a)) v from place e = rw e (refl, wrong)
 flag-by (some (table t)) v from place e = rw e (refl, wrong)
 
 -- a word, where there is one
-word-got : {X : Type 0} (r : R X) (n : ℕ) (y d : X) → Got r n y → Got (via (via r (λ w. ok (some w))) (λ p. ok (else p d))) n y
+word-got : {X : Type 0} (r : R X) (n : ℕ) (y d : X) → Got r n y → Got (okThen (okThen r (λ w. ok (some w))) (λ p. ok (orDefault p d))) n y
 word-got (ok w) n y d g = g
 word-got (bad b) n y d g = g
 
 kind-by : (store : List ℕ) (o : Option Value) (v : Read) (from place : ℕ) → v ≡ valueFor from place o → Spelt store from o
-    → Got (via (present (aWord meant.kindOf) o) (λ p. ok (else p meant.kindRaw))) (kindOf store (textRead v) (textRead v .text) .fault)
+    → Got (okThen (present (aWord meant.kindOf) o) (λ p. ok (orDefault p meant.kindRaw))) (kindOf store (textRead v) (textRead v .text) .fault)
     (kindMeant (kindOf store (textRead v) (textRead v .text) .kind))
 unfolding aText
 kind-by store none v from place e d = rw e (refl, refl)
@@ -155,7 +155,7 @@ kind-by store (some (array a)) v from place e d = rw e (refl, wrong)
 kind-by store (some (table t)) v from place e d = rw e (refl, wrong)
 
 media-by : (store : List ℕ) (m : Media) (o : Option Value) (v : Read) (from place : ℕ) → v ≡ valueFor from place o → Spelt store from o
-    → Got (via (present (aWord meant.mediaOf) o) (λ p. ok (else p (mediaMeant m)))) (mediaOf store m (textRead v) (textRead v .text) .fault)
+    → Got (okThen (present (aWord meant.mediaOf) o) (λ p. ok (orDefault p (mediaMeant m)))) (mediaOf store m (textRead v) (textRead v .text) .fault)
     (mediaMeant (mediaOf store m (textRead v) (textRead v .text) .media))
 unfolding aText
 media-by store m none v from place e d = rw e (refl, refl)
@@ -173,34 +173,34 @@ module _ (store bytes : List ℕ) (vs : List Slot) (x : Value) (name : List ℕ)
 
   -- with a default
   pub text-or-got : (d : Text) (b : List ℕ) → spelled store name d ≡ b
-      → Gives (via (present aText o) (λ p. ok (else p b))) (textRead v .fault) (spelled store name (orText (textRead v .text) d))
-  text-or-got d b e = rw (else-spelled store name (textRead v .text) d, e) (gives-made (λ p. else p b) text-got)
+      → Gives (okThen (present aText o) (λ p. ok (orDefault p b))) (textRead v .fault) (spelled store name (orText (textRead v .text) d))
+  text-or-got d b e = rw (else-spelled store name (textRead v .text) d, e) (gives-made (λ p. orDefault p b) text-got)
 
   -- one that must be there
-  pub text-need-got : Gives (via (present aText o) (need 24)) (firstFault (textRead v .fault) (missing v)) (spelled store name (textRead v .text))
+  pub text-need-got : Gives (okThen (present aText o) (need 24)) (firstFault (textRead v .fault) (missing v)) (spelled store name (textRead v .text))
   text-need-got = record { got = text-need-by store name o v (s .from) (s .place) (s .is) (s .spelt) }
 
   -- and by where it lies
-  pub text-place-got : Gives (via (present aText o) (need 24)) (firstFault (textRead v .fault) (missing v)) (clip (startOf (textRead v .text)) (lengthOf (textRead v .text)) store)
+  pub text-place-got : Gives (okThen (present aText o) (need 24)) (firstFault (textRead v .fault) (missing v)) (clip (startOf (textRead v .text)) (lengthOf (textRead v .text)) store)
   text-place-got = rw (spelled-clip store name (textRead v .text) (text-kept v)) text-need-got
 
   pub number-got : Gives (present aNumber o) (numberRead v .fault) (amount (numberRead v .number))
   number-got = record { got = number-by o v (s .from) (s .place) (s .is) }
 
-  pub number-or-got : (d : ℕ) → Gives (via (present aNumber o) (λ p. ok (else p d))) (numberRead v .fault) (orNumber (numberRead v .number) d)
-  number-or-got d = rw (else-amount (numberRead v .number) d) (gives-made (λ p. else p d) number-got)
+  pub number-or-got : (d : ℕ) → Gives (okThen (present aNumber o) (λ p. ok (orDefault p d))) (numberRead v .fault) (orNumber (numberRead v .number) d)
+  number-or-got d = rw (else-amount (numberRead v .number) d) (gives-made (λ p. orDefault p d) number-got)
 
-  pub number-need-got : Gives (via (present aNumber o) (need 24)) (firstFault (numberRead v .fault) (missing v)) (orNumber (numberRead v .number) 0)
+  pub number-need-got : Gives (okThen (present aNumber o) (need 24)) (firstFault (numberRead v .fault) (missing v)) (orNumber (numberRead v .number) 0)
   number-need-got = record { got = number-need-by o v (s .from) (s .place) (s .is) }
 
-  pub flag-got : Gives (via (present aFlag o) (λ p. ok (else p false))) (flagRead v .fault) (flagRead v .flag)
+  pub flag-got : Gives (okThen (present aFlag o) (λ p. ok (orDefault p false))) (flagRead v .fault) (flagRead v .flag)
   flag-got = record { got = flag-by o v (s .from) (s .place) (s .is) }
 
-  pub kind-field-got : Gives (via (present (aWord meant.kindOf) o) (λ p. ok (else p meant.kindRaw))) (kindOf store (textRead v) (textRead v .text) .fault)
+  pub kind-field-got : Gives (okThen (present (aWord meant.kindOf) o) (λ p. ok (orDefault p meant.kindRaw))) (kindOf store (textRead v) (textRead v .text) .fault)
       (kindMeant (kindOf store (textRead v) (textRead v .text) .kind))
   kind-field-got = record { got = kind-by store o v (s .from) (s .place) (s .is) (s .spelt) }
 
-  pub media-field-got : (m : Media) → Gives (via (present (aWord meant.mediaOf) o) (λ p. ok (else p (mediaMeant m)))) (mediaOf store m (textRead v) (textRead v .text) .fault)
+  pub media-field-got : (m : Media) → Gives (okThen (present (aWord meant.mediaOf) o) (λ p. ok (orDefault p (mediaMeant m)))) (mediaOf store m (textRead v) (textRead v .text) .fault)
       (mediaMeant (mediaOf store m (textRead v) (textRead v .text) .media))
   media-field-got m = record { got = media-by store m o v (s .from) (s .place) (s .is) (s .spelt) }
 
@@ -249,7 +249,7 @@ module _ (room store bytes : List ℕ) (vs : List Slot) (x : Value) (made : ℕ)
         (λ f. rw f (on (allTexts room store (items room made place 0)) (λ e. rw e (refl, refl)) (λ e. rw e (refl, wrong)))))
 
     features-by : (o : Option Value) (v : Read) (from place : ℕ) → v ≡ valueFor from place o → Spelt store from o → Standing bytes vs x place o
-        → Got (via (present (aFeatures limit) o) (λ p. ok (else p []))) (featuresRead room store made limit v .fault)
+        → Got (okThen (present (aFeatures limit) o) (λ p. ok (orDefault p []))) (featuresRead room store made limit v .fault)
         (featureList room store made (featuresRead room store made limit v .features))
     unfolding featuresRead aFeatures piecesFrom
     features-by none v from place e d g = rw e (refl, refl)
@@ -267,6 +267,6 @@ module _ (room store bytes : List ℕ) (vs : List Slot) (x : Value) (made : ℕ)
     features-by (some (table t)) v from place e d g = rw e (refl, wrong)
 
     pub features-got : (o : Option Value) (v : Read) → Sees store bytes vs x o v
-        → Gives (via (present (aFeatures limit) o) (λ p. ok (else p []))) (featuresRead room store made limit v .fault)
+        → Gives (okThen (present (aFeatures limit) o) (λ p. ok (orDefault p []))) (featuresRead room store made limit v .fault)
         (featureList room store made (featuresRead room store made limit v .features))
     features-got o v s = record { got = features-by o v (s .from) (s .place) (s .is) (s .spelt) (s .stands) }

@@ -5,8 +5,8 @@ use mathlib.Core.Option.{Option, none, some}
 use mathlib.Core.Path.{_≡_, refl}
 use native.Mathlib.Omega.{arith}
 use lib.IntN.{pos, negsuc}
-use Rattle.meaning.specs.Base.{else, ascii}
-use Rattle.meaning.specs.Refusal.{R, ok, bad, via}
+use Rattle.meaning.specs.Base.{orDefault, ascii}
+use Rattle.meaning.specs.Refusal.{R, ok, bad, okThen}
 use Rattle.meaning.specs.Tree.{Value, Table, str, int, boolean, array, table, empty, lookup}
 use Rattle.meaning.specs.Fields.{aTable, present, field, tableAt, outside}
 use Rattle.meaning.specs.Schema as meant
@@ -52,7 +52,7 @@ module _ (room store bytes : Seq ℕ) (vs : Seq Slot) (x : Value) (made : ℕ) (
   one-table p t g = record { it = t; gives = gives-ok; fields = field-sees room store bytes vs x made h p t g }
 
   table-by : (o : Option Value) (v : Read) (from place : ℕ) → v ≡ valueFor from place o → Standing bytes vs x place o
-      → Tabled room store bytes vs x (via (present aTable o) (λ p. ok (else p empty))) (front.tableOf room made v)
+      → Tabled room store bytes vs x (okThen (present aTable o) (λ p. ok (orDefault p empty))) (front.tableOf room made v)
   unfolding aTable
   table-by none v from place e g = rw e (no-table (ok empty) 0 gives-ok)
   table-by (some (str s)) v from place e g = rw e (no-table (bad 20) 20 (record { got = (refl, omega arith) }))

@@ -9,8 +9,8 @@ use borrow.Author.Tests.{le-leb, leb-true}
 use lib.Dec.{leb}
 use lib.ListN.{length, take, drop, length-take, length-drop, take-append-drop}
 use lib.Seq.{take-append-le, drop-append-le, drop-drop}
-use Rattle.meaning.specs.Base.{pick, nil?, else, or, ascii, part}
-use Rattle.meaning.specs.Refusal.{ok, via}
+use Rattle.meaning.specs.Base.{pick, nil?, orDefault, firstGiven, ascii, part}
+use Rattle.meaning.specs.Refusal.{ok, okThen}
 use Rattle.meaning.specs.Tree.{Value, Table, lookup}
 use Rattle.meaning.specs.Fields.{aText, aNumber, aFlag, present, field}
 use Rattle.meaning.specs.Schema as meant
@@ -95,7 +95,7 @@ module _ (store name : List ℕ) (file-named : (s : List ℕ) → pieceOf s (fil
   name-in (texts.Fixed w) h = absurd h
   name-in (texts.WithAic from len) h = absurd h
 
-  else-or : (o p : Option (List ℕ)) (d : List ℕ) → else (or o p) d ≡ else o (else p d)
+  else-or : (o p : Option (List ℕ)) (d : List ℕ) → orDefault (firstGiven o p) d ≡ orDefault o (orDefault p d)
   else-or none p d = refl
   else-or (some b) p d = refl
 
@@ -106,12 +106,12 @@ module _ (store name : List ℕ) (file-named : (s : List ℕ) → pieceOf s (fil
   filename-is bin file pack h =
       let d : Text = texts.Fixed words.Component in
       rw (
-        else-or (optional store name bin) (or (records.nameIn (optional store name file)) (optional store name pack)) (ascii "component.bin"),
+        else-or (optional store name bin) (firstGiven (records.nameIn (optional store name file)) (optional store name pack)) (ascii "component.bin"),
         else-or (records.nameIn (optional store name file)) (optional store name pack) (ascii "component.bin"),
         ← name-in file h,
       )
       (else-spelled store name bin (orText (nameIn store file) (orText pack d))
-      ∙ ap (else (optional store name bin)) (else-spelled store name (nameIn store file) (orText pack d) ∙ ap (else (optional store name (nameIn store file))) (else-spelled store name pack d)))
+      ∙ ap (orDefault (optional store name bin)) (else-spelled store name (nameIn store file) (orText pack d) ∙ ap (orDefault (optional store name (nameIn store file))) (else-spelled store name pack d)))
 
 -- a name that was read, or the key, with `.aic`
 with-aic : (store name : List ℕ) (t : Text) (from len : ℕ) → Kept t
@@ -125,7 +125,7 @@ with-aic store name (texts.WithAic a b) from len h = absurd h
 module _ (room store bytes : List ℕ) (vs : List Slot) (x : Value) (made : ℕ) (h : Told room store bytes vs x made) (name : List ℕ) (t : Table) (f : Fields)
     (fs : (k : List ℕ) → Sees store bytes vs x (lookup t k) (doors.field room store f k)) where
   or-text : (k : List ℕ) (d : Text) (b : List ℕ) → spelled store name d ≡ b
-      → Gives (via (present aText (lookup t k)) (λ p. ok (else p b))) (textAt room store f k .fault) (spelled store name (orText (textAt room store f k .text) d))
+      → Gives (okThen (present aText (lookup t k)) (λ p. ok (orDefault p b))) (textAt room store f k .fault) (spelled store name (orText (textAt room store f k .text) d))
   or-text k d b e = text-or-got store bytes vs x name (lookup t k) (doors.field room store f k) (fs k) d b e
 
   optional-text : (k : List ℕ) → Gives (present aText (lookup t k)) (textAt room store f k .fault) (optional store name (textAt room store f k .text))
@@ -134,10 +134,10 @@ module _ (room store bytes : List ℕ) (vs : List Slot) (x : Value) (made : ℕ)
   optional-number : (k : List ℕ) → Gives (present aNumber (lookup t k)) (numberAt room store f k .fault) (amount (numberAt room store f k .number))
   optional-number k = number-got store bytes vs x name (lookup t k) (doors.field room store f k) (fs k)
 
-  or-number : (k : List ℕ) (d : ℕ) → Gives (via (present aNumber (lookup t k)) (λ p. ok (else p d))) (numberAt room store f k .fault) (orNumber (numberAt room store f k .number) d)
+  or-number : (k : List ℕ) (d : ℕ) → Gives (okThen (present aNumber (lookup t k)) (λ p. ok (orDefault p d))) (numberAt room store f k .fault) (orNumber (numberAt room store f k .number) d)
   or-number k d = number-or-got store bytes vs x name (lookup t k) (doors.field room store f k) (fs k) d
 
-  a-flag : (k : List ℕ) → Gives (via (present aFlag (lookup t k)) (λ p. ok (else p false))) (flagAt room store f k .fault) (flagAt room store f k .flag)
+  a-flag : (k : List ℕ) → Gives (okThen (present aFlag (lookup t k)) (λ p. ok (orDefault p false))) (flagAt room store f k .fault) (flagAt room store f k .flag)
   a-flag k = flag-got store bytes vs x name (lookup t k) (doors.field room store f k) (fs k)
 
   -- ---- board and image
@@ -189,7 +189,7 @@ module _ (room store bytes : List ℕ) (vs : List Slot) (x : Value) (made : ℕ)
       (text-kept (doors.field room store f (ascii "file")))))))))))
 
   a-list : (k : List ℕ) (limit : ℕ)
-      → Gives (via (present (aFeatures limit) (lookup t k)) (λ p. ok (else p []))) (featuresRead room store made limit (doors.field room store f k) .fault)
+      → Gives (okThen (present (aFeatures limit) (lookup t k)) (λ p. ok (orDefault p []))) (featuresRead room store made limit (doors.field room store f k) .fault)
       (featureList room store made (featuresRead room store made limit (doors.field room store f k) .features))
   a-list k limit = features-got room store bytes vs x made h limit (lookup t k) (doors.field room store f k) (fs k)
 

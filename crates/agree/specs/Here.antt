@@ -4,7 +4,7 @@ use mathlib.Core.List.{List, [], _∷_}
 use mathlib.Core.Option.{Option, none, some}
 use mathlib.Core.Path.{_≡_, refl, sym, ap, _∙_}
 use native.Mathlib.Omega.{arith}
-use Rattle.meaning.specs.Reading.{Grown, grown, stuck, then, turn}
+use Rattle.meaning.specs.Reading.{Grown, grown, stuck, growThen, growMap}
 use Rattle.meaning.specs.Tree.{Value, Items, Table, str, int, boolean, array, table, none′, item, seen, lookup, insert, count as many, hang, Grow, down, toLast, known, inLast, underLast}
 use Rattle.meaning.specs.Document.{Under, tables, arrays, here}
 use Rattle.agree.specs.Key.{Key, name, index}
@@ -31,8 +31,8 @@ toLast-is step f k [] t m = refl
 toLast-is step f k (j ∷ ks) t m = go (step (lookup t k) m) (λ u n. toLast-is step f j ks u n)
   where
     go : (r : Grown Table) → ((u : Table) (n : ℕ) → toLast step f (j ∷ ks) u n ≡ down step (f (last j ks)) (init j ks) u n)
-        → then r (λ u n. turn (hang t k) (toLast step f (j ∷ ks) u n)) ≡ then r (λ u n. turn (hang t k) (down step (f (last j ks)) (init j ks) u n))
-    go (grown u n) h = ap (turn (hang t k)) (h u n)
+        → growThen r (λ u n. growMap (hang t k) (toLast step f (j ∷ ks) u n)) ≡ growThen r (λ u n. growMap (hang t k) (down step (f (last j ks)) (init j ks) u n))
+    go (grown u n) h = ap (growMap (hang t k)) (h u n)
     go (stuck e) h = refl
 
 -- ---- tables that are there
@@ -72,21 +72,21 @@ down-known x f (k ∷ ks) q t u m e d =
 
 -- ---- the last item of an array
 
-turn-turn : {X Y Z : Type 0} (f : Y → Z) (g : X → Y) (r : Grown X) → turn f (turn g r) ≡ turn (λ x. f (g x)) r
+turn-turn : {X Y Z : Type 0} (f : Y → Z) (g : X → Y) (r : Grown X) → growMap f (growMap g r) ≡ growMap (λ x. f (g x)) r
 turn-turn f g (grown x m) = refl
 turn-turn f g (stuck e) = refl
 
 inLast-is : (f : Table → Grow Table) (a : Items) (i : ℕ) (u : Table) (m : ℕ) → suc i ≡ many a → nth a i ≡ some (table u)
-    → inLast f a m ≡ turn (λ w. setItem a i (table w)) (f u m)
+    → inLast f a m ≡ growMap (λ w. setItem a i (table w)) (f u m)
 inLast-is f none′ i u m c e = no-value (table u) e
 inLast-is f (item v none′) zero u m c e = let z : v ≡ table u = cc in rw z (turn-turn (λ w. item w none′) table (f u m))
 inLast-is f (item v none′) (suc i) u m c e = no-value (table u) e
 inLast-is f (item v (item w is)) zero u m c e = absurd (omega arith)
 inLast-is f (item v (item w is)) (suc i) u m c e =
-    ap (turn (item v)) (inLast-is f (item w is) i u m (omega arith) e) ∙ turn-turn (item v) (λ y. setItem (item w is) i (table y)) (f u m)
+    ap (growMap (item v)) (inLast-is f (item w is) i u m (omega arith) e) ∙ turn-turn (item v) (λ y. setItem (item w is) i (table y)) (f u m)
 
 graft-item : (x : Value) (q : List Key) (w : Table) (k : List ℕ) (a : Items) (i : ℕ) (r : Grown Table) → find (some x) q ≡ some (table w)
-    → find (some x) (name k ∷ q) ≡ some (array a) → graft x q (turn (λ b. insert w k (array b)) (turn (λ v. setItem a i (table v)) r)) ≡ graft x (index i ∷ name k ∷ q) r
+    → find (some x) (name k ∷ q) ≡ some (array a) → graft x q (growMap (λ b. insert w k (array b)) (growMap (λ v. setItem a i (table v)) r)) ≡ graft x (index i ∷ name k ∷ q) r
 graft-item x q w k a i (grown v m) e d =
     ap (λ (o : Option Value). grown (setAt x q (put o (name k) (array (setItem a i (table v))))) m) (sym e)
     ∙ ap (λ (o : Option Value). grown (setAt x (name k ∷ q) (put o (index i) (table v))) m) (sym d)

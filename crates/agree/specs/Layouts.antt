@@ -11,7 +11,7 @@ use lib.Seq.{take-append-seam, drop-append-seam, getD-append-add}
 use borrow.Author.Tests.{eqb-true, ltb-true, ltb-false}
 use Rattle.meaning.specs.Integers.{numberOf}
 use Rattle.meaning.specs.Refusal.{numbered, unmet}
-use Rattle.meaning.specs.Reading.{Got, got, not}
+use Rattle.meaning.specs.Reading.{Got, got, failed}
 use Rattle.meaning.specs.Tree.{Value, Items, str, int, boolean, array, table, none′, item}
 use Rattle.meaning.specs.Values.{value}
 use Rattle.laws.specs.Cases.{on, never}
@@ -210,8 +210,8 @@ module _ (used made : ℕ) (v : Value) (bs : List ℕ) (m : ℕ) (o : Out) (a : 
 
 value-agrees : (used made : ℕ) (g : Got Value) (o : Out) → Meets (Lays 0 used made) g o → Value-agrees used made g o
 value-agrees used made (got v bs m) o h = value-laid used made v bs m o h
-value-agrees used made (not (numbered n)) o h = (h .is, h .some)
-value-agrees used made (not (unmet u)) o h = h
+value-agrees used made (failed (numbered n)) o h = (h .is, h .some)
+value-agrees used made (failed (unmet u)) o h = h
 
 -- what is asked of values holds
 pub values-agree : Values-agree

@@ -9,7 +9,7 @@ use lib.Seq.{take-append-seam, drop-append-seam}
 use Rattle.meaning.specs.declared.Limits.{Limits}
 use Rattle.meaning.specs.Base.{part, concat}
 use Rattle.meaning.specs.Refusal.{Fault, numbered, unmet, R, ok, bad}
-use Rattle.meaning.specs.Reading.{Grown, grown, stuck, Got, got, not, turn, storing}
+use Rattle.meaning.specs.Reading.{Grown, grown, stuck, Got, got, failed, growMap, storing}
 use Rattle.meaning.specs.Tree.{Value, Items, Table, array, table, empty, seen, count as many, down, enter, pushOne, ensure, push}
 use Rattle.meaning.specs.Values.{value}
 use Rattle.meaning.specs.Document.{Doc, tables, arrays, here}
@@ -38,8 +38,8 @@ pub record Value-laid (used made : ℕ) (v : Value) (bs : List ℕ) (m : ℕ) (o
 
 abbrev pub Value-agrees : ℕ → ℕ → Got Value → Out → Type 0
 Value-agrees used made (got v bs m) o = Value-laid used made v bs m o
-Value-agrees used made (not (numbered n)) o = (o .fault ≡ n) × (n ≡ 0 → ⊥)
-Value-agrees used made (not (unmet u)) o = ⊥
+Value-agrees used made (failed (numbered n)) o = (o .fault ≡ n) × (n ≡ 0 → ⊥)
+Value-agrees used made (failed (unmet u)) o = ⊥
 
 -- the readers of values agree
 abbrev pub Values-agree : Type 0
@@ -117,8 +117,8 @@ pub record Same (d : Doc) (r : DocS) : Type 0 where
 abbrev pub Line-agrees : List ℕ → Got Doc → R DocS → Type 0
 Line-agrees bytes (got d bs m) (ok r) = (r .bytes ≡ bytes ++ bs) × (m ≡ length (r .slots)) × Same d r
 Line-agrees bytes (got d bs m) (bad n) = ⊥
-Line-agrees bytes (not f) (ok r) = ⊥
-Line-agrees bytes (not f) (bad n) = f ≡ numbered n
+Line-agrees bytes (failed f) (ok r) = ⊥
+Line-agrees bytes (failed f) (bad n) = f ≡ numbered n
 
 module _ (lim : Limits) (d : Doc) (r : DocS) (s : Same d r) where
   abbrev x : Value
@@ -145,7 +145,7 @@ module _ (lim : Limits) (d : Doc) (r : DocS) (s : Same d r) where
     spells = spelling-of ks (r .bytes)
 
     head-by : (g : GrownS) → Comes (lim .values) store (r .slots) x [] (d .root) ks g
-        → Line-agrees (r .bytes) (storing (concat ks) (turn (λ t. record { root = t; under = tables ks }) (ensure (lim .values) ks (d .root) m))) (settleS store g (λ p. p))
+        → Line-agrees (r .bytes) (storing (concat ks) (growMap (λ t. record { root = t; under = tables ks }) (ensure (lim .values) ks (d .root) m))) (settleS store g (λ p. p))
     unfolding store
     head-by (grownS vs p) c =
         let e : graft x [] (ensure (lim .values) ks (d .root) m) ≡ grown (c .tree) (length vs) =
@@ -165,7 +165,7 @@ module _ (lim : Limits) (d : Doc) (r : DocS) (s : Same d r) where
         )
     head-by (stuckS n) c = rw (c .1 grown) (ap numbered (sym (c .0)))
 
-    pub head-agrees : Line-agrees (r .bytes) (storing (concat ks) (turn (λ t. record { root = t; under = tables ks }) (ensure (lim .values) ks (d .root) m)))
+    pub head-agrees : Line-agrees (r .bytes) (storing (concat ks) (growMap (λ t. record { root = t; under = tables ks }) (ensure (lim .values) ks (d .root) m)))
         (settleS (r .bytes ++ flat ks) (downS (lim .values) (r .bytes ++ flat ks) (segsOf (length (r .bytes)) (endsOf (length (r .bytes)) ks)) (r .slots) 1) (λ p. p))
     unfolding store segs
     head-agrees =
@@ -183,7 +183,7 @@ module _ (lim : Limits) (d : Doc) (r : DocS) (s : Same d r) where
     key = last k ks
 
     abbrev pushed-line : Got Doc
-    pushed-line = storing (concat (k ∷ ks)) (turn (λ t. record { root = t; under = arrays (k ∷ ks) }) (push (lim .values) (k ∷ ks) (d .root) m))
+    pushed-line = storing (concat (k ∷ ks)) (growMap (λ t. record { root = t; under = arrays (k ∷ ks) }) (push (lim .values) (k ∷ ks) (d .root) m))
 
     push-stuck : (n : ℕ) → down (enter (lim .values)) (pushOne (lim .values) key) front (d .root) m ≡ stuck (numbered n) → Line-agrees (r .bytes) pushed-line (bad n)
     unfolding key front
@@ -232,7 +232,7 @@ module _ (lim : Limits) (d : Doc) (r : DocS) (s : Same d r) where
         (push-comes (lim .values) b vs (c .tree) (onto [] front) (c .tab) p (c .stand) (last g gs) key (z .0) (z .1))
     push-from (stuckS n) c = push-stuck n (c .1 (pushOne (lim .values) key) ∙ ap (λ (i : ℕ). stuck (numbered i)) (sym (c .0)))
 
-    pub push-agrees : Line-agrees (r .bytes) (storing (concat (k ∷ ks)) (turn (λ t. record { root = t; under = arrays (k ∷ ks) }) (push (lim .values) (k ∷ ks) (d .root) m)))
+    pub push-agrees : Line-agrees (r .bytes) (storing (concat (k ∷ ks)) (growMap (λ t. record { root = t; under = arrays (k ∷ ks) }) (push (lim .values) (k ∷ ks) (d .root) m)))
         (settleS b (toLastS (lim .values) b (pushS (lim .values) b) (g ∷ gs) (r .slots) 1) (λ p. p))
     unfolding front
     push-agrees =

@@ -9,9 +9,9 @@ use borrow.Author.Tests.{ltb-true, ltb-false, lt-ltb, le-leb}
 use lib.Dec.{ltb}
 use lib.IntN.{pos, negsuc}
 use lib.ListN.{length}
-use Rattle.meaning.specs.Base.{else, ascii}
+use Rattle.meaning.specs.Base.{orDefault, ascii}
 use Rattle.meaning.specs.declared.Limits.{Limits}
-use Rattle.meaning.specs.Refusal.{R, ok, bad, via, after, inApplication}
+use Rattle.meaning.specs.Refusal.{R, ok, bad, okThen, inApplication}
 use Rattle.meaning.specs.Tree.{Value, Items, Table, none′, str, int, boolean, array, table, empty, asTable, lookup}
 use Rattle.meaning.specs.Order.{sorted}
 use Rattle.meaning.specs.Fields.{anArray, aTable, need, present, field, values, Row, rows, orThen, tableAt, listAt, tabled, listed}
@@ -74,7 +74,7 @@ module _ (room store bytes : Seq ℕ) (vs : Seq Slot) (x : Value) (made : ℕ) (
   wrong = record { got = (refl, omega arith) }
 
   many-by : (o : Option Value) (v : Read) (from place : ℕ) → v ≡ valueFor from place o → Standing bytes vs x place o
-      → Listed room store bytes vs x made (via (present anArray o) (λ found. ok (values (else found none′)))) (entries.listOf made v)
+      → Listed room store bytes vs x made (okThen (present anArray o) (λ found. ok (values (orDefault found none′)))) (entries.listOf made v)
   unfolding anArray
   many-by none v from place e g = rw e (no-list (ok []) 0 gives-ok)
   many-by (some (str s)) v from place e g = rw e (no-list (bad 20) 20 wrong)
@@ -86,7 +86,7 @@ module _ (room store bytes : Seq ℕ) (vs : Seq Slot) (x : Value) (made : ℕ) (
 
   -- "`partitions` and `components` are taken only where the singular is absent."
   list-by : (o q : Option Value) (v w : Read) → Sees store bytes vs x o v → Sees store bytes vs x q w
-      → Listed room store bytes vs x made (via (present anArray o) (λ single. via (orThen (present anArray q) single) (λ found. ok (values (else found none′))))) (entries.listOf made (entries.orOther v w))
+      → Listed room store bytes vs x made (okThen (present anArray o) (λ single. okThen (orThen (present anArray q) single) (λ found. ok (values (orDefault found none′))))) (entries.listOf made (entries.orOther v w))
   unfolding anArray
   list-by none q v w s t = rw (s .is) (many-by q w (t .from) (t .place) (t .is) (t .stands))
   list-by (some (str a)) q v w s t = rw (s .is) (no-list (bad 20) 20 wrong)
@@ -207,7 +207,7 @@ module _ (room store bytes : Seq ℕ) (vs : Seq Slot) (x : Value) (made : ℕ) (
   no-keys m n g = record { it = empty; gives = g; walked = refl }
 
   keys-by : (o : Option Value) (v : Read) (from place : ℕ) → v ≡ valueFor from place o → Standing bytes vs x place o
-      → Keys room store bytes vs x made (via (present aTable o) (λ p. ok (else p empty))) (entries.keysOf made v)
+      → Keys room store bytes vs x made (okThen (present aTable o) (λ p. ok (orDefault p empty))) (entries.keysOf made v)
   unfolding aTable
   keys-by none v from place e g = rw e (no-keys (ok empty) 0 gives-ok)
   keys-by (some (str s)) v from place e g = rw e (no-keys (bad 20) 20 wrong)

@@ -10,7 +10,7 @@ use lib.ListN.{length, getD}
 use borrow.Author.Tests.{eqb-true, eqb-false}
 use Rattle.meaning.specs.Base.{part}
 use Rattle.meaning.specs.Refusal.{numbered}
-use Rattle.meaning.specs.Reading.{grown, stuck, turn, make}
+use Rattle.meaning.specs.Reading.{grown, stuck, growMap, make}
 use Rattle.meaning.specs.Tree.{Value, Items, Table, str, int, boolean, array, table, none′, empty, seen, asArray, lookup, insert, snoc, count as many, pushOne, pushTo}
 use Rattle.laws.specs.Cases.{on}
 use Rattle.tree.specs.declared.Slot.{Slot}
@@ -111,7 +111,7 @@ module _ (limit : ℕ) (bytes : List ℕ) (vs : List Slot) (x : Value) (g : List
 
   -- the array is there
   module _ (is : Items) (e : lookup t k ≡ some (array is)) where
-    there-step : pushOne limit k t (length vs) ≡ turn (λ b. insert t k (array b)) (make limit (longer is) (length vs))
+    there-step : pushOne limit k t (length vs) ≡ growMap (λ b. insert t k (array b)) (make limit (longer is) (length vs))
     unfolding pushTo
     there-step = rw e
 
@@ -121,11 +121,11 @@ module _ (limit : ℕ) (bytes : List ℕ) (vs : List Slot) (x : Value) (g : List
           tree = setAt x (name k ∷ g) (array (longer is));
           items = is;
           agree = c .1 .agree;
-          is = ap (graft x g) (there-step ∙ ap (turn (λ b. insert t k (array b))) (c .0)) ∙ ap (λ (y : Value). grown y (length vs')) (key-tree (longer is));
+          is = ap (graft x g) (there-step ∙ ap (growMap (λ b. insert t k (array b))) (c .0)) ∙ ap (λ (y : Value). grown y (length vs')) (key-tree (longer is));
           found = at (name k ∷ g) x (array (longer is)) takes;
           leads = c .1 .leads;
         }
-    there-pushes (stuckS n) c = there-step ∙ ap (turn (λ b. insert t k (array b))) c
+    there-pushes (stuckS n) c = there-step ∙ ap (growMap (λ b. insert t k (array b))) c
 
   -- it is made
   module _ (e : lookup t k ≡ none) where
@@ -162,7 +162,7 @@ module _ (limit : ℕ) (bytes : List ℕ) (vs : List Slot) (x : Value) (g : List
     unfolding pushTo make
     full-step l = rw (e, l)
 
-    new-step : leb limit (length vs) ≡ false → pushOne limit k t (length vs) ≡ turn (λ b. insert t k (array b)) (make limit (longer none′) (length made))
+    new-step : leb limit (length vs) ≡ false → pushOne limit k t (length vs) ≡ growMap (λ b. insert t k (array b)) (make limit (longer none′) (length made))
     unfolding pushTo make made slot
     new-step l = rw (e, l, length-more vs slot)
 
@@ -174,11 +174,11 @@ module _ (limit : ℕ) (bytes : List ℕ) (vs : List Slot) (x : Value) (g : List
           tree = setAt x (name k ∷ g) (array (longer none′));
           items = none′;
           agree = subst (λ (z : Value). Agree bytes vs' z) y (c .1 .agree);
-          is = ap (graft x g) (new-step l ∙ ap (turn (λ b. insert t k (array b))) (c .0)) ∙ ap (λ (z : Value). grown z (length vs')) (key-tree (longer none′));
+          is = ap (graft x g) (new-step l ∙ ap (growMap (λ b. insert t k (array b))) (c .0)) ∙ ap (λ (z : Value). grown z (length vs')) (key-tree (longer none′));
           found = at (name k ∷ g) x (array (longer none′)) takes;
           leads = c .1 .leads;
         }
-    new-pushes l (stuckS n) c = new-step l ∙ ap (turn (λ b. insert t k (array b))) c
+    new-pushes l (stuckS n) c = new-step l ∙ ap (growMap (λ b. insert t k (array b))) c
 
     none-pushes : Pushes limit bytes vs x g t k (onward (makeS limit vs (keyedSlot 4 p s)) (itemS limit))
     unfolding makeS made slot

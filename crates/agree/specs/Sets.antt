@@ -8,7 +8,7 @@ use lib.ListN.{length, getD, set, length-append, List·getD-append}
 use Rattle.meaning.specs.declared.Limits.{Limits}
 use Rattle.meaning.specs.Base.{part, concat}
 use Rattle.meaning.specs.Refusal.{numbered, bad}
-use Rattle.meaning.specs.Reading.{Grown, grown, stuck, Got, turn, storing, adding}
+use Rattle.meaning.specs.Reading.{Grown, grown, stuck, Got, growMap, storing, adding}
 use Rattle.meaning.specs.Tree.{Value, Table, table, down, enter, put as putIn, assign}
 use Rattle.meaning.specs.Document.{Doc, here}
 use Rattle.tree.specs.declared.Slot.{Slot}
@@ -72,7 +72,7 @@ module _ (lim : Limits) (d : Doc) (r : DocS) (s : Same d r) (v : Value) (ws : Li
 
   abbrev line : Got Doc
   line =
-      adding bs (storing (concat (k ∷ ks)) (turn (λ t. record { root = t; under = d .under }) (here (d .under) (assign (lim .values) (k ∷ ks) v) (d .root) (length all))))
+      adding bs (storing (concat (k ∷ ks)) (growMap (λ t. record { root = t; under = d .under }) (here (d .under) (assign (lim .values) (k ∷ ks) v) (d .root) (length all))))
 
   -- where 01 goes
   here-goes : graft x [] (here (d .under) (assign (lim .values) (k ∷ ks) v) (d .root) (length all))
@@ -177,7 +177,7 @@ module _ (lim : Limits) (d : Doc) (r : DocS) (s : Same d r) (v : Value) (ws : Li
   set-from (stuckS i) c = set-stuck i (c .1 (putIn v key) ∙ ap (λ (j : ℕ). stuck (numbered j)) (sym (c .0)))
 
   pub set-agrees : Line-agrees (r .bytes)
-      (adding bs (storing (concat (k ∷ ks)) (turn (λ t. record { root = t; under = d .under }) (here (d .under) (assign (lim .values) (k ∷ ks) v) (d .root) (length (r .slots ++ ws))))))
+      (adding bs (storing (concat (k ∷ ks)) (growMap (λ t. record { root = t; under = d .under }) (here (d .under) (assign (lim .values) (k ∷ ks) v) (d .root) (length (r .slots ++ ws))))))
       (settleS b (toLastS (lim .values) b (hangS (length (r .slots))) (g ∷ gs) (r .slots ++ ws) (r .here)) (λ _. r .here))
   unfolding front
   set-agrees =

@@ -10,8 +10,8 @@ use lib.ListN.{length, length-append}
 use borrow.Author.Tests.{eq-eqb, ne-eqb}
 use Rattle.meaning.specs.declared.Limits.{Limits}
 use Rattle.meaning.specs.Base.{concat, nil?}
-use Rattle.meaning.specs.Refusal.{numbered, unmet, R, ok, bad, Answer, accepted, refused, after}
-use Rattle.meaning.specs.Reading.{Got, got, not, turn, storing, adding, onward, having}
+use Rattle.meaning.specs.Refusal.{numbered, unmet, R, ok, bad, Answer, accepted, refused, acceptedThen}
+use Rattle.meaning.specs.Reading.{Got, got, failed, growMap, storing, adding, gotThen, okThenGot}
 use Rattle.meaning.specs.Tree.{Value, table, empty, assign, ensure, push}
 use Rattle.meaning.specs.Keys.{keys}
 use Rattle.meaning.specs.Utf8.{valid}
@@ -48,13 +48,13 @@ module _ (values : Values-agree) (lim : Limits) where
     m = length (r .slots)
 
     heads-by : (ks : R (List (List ℕ)))
-        → Line-agrees (r .bytes) (having ks (λ p. storing (concat p) (turn (λ t. record { root = t; under = tables p }) (ensure (lim .values) p (d .root) m))))
+        → Line-agrees (r .bytes) (okThenGot ks (λ p. storing (concat p) (growMap (λ t. record { root = t; under = tables p }) (ensure (lim .values) p (d .root) m))))
         (pathBy (r .bytes) ks (λ bytes gs. settleS bytes (downS (lim .values) bytes gs (r .slots) 1) (λ p. p)))
     heads-by (ok ks) = head-agrees lim d r s ks
     heads-by (bad n) = refl
 
     pushes-by : (ks : R (List (List ℕ))) → Reads NonEmpty ks
-        → Line-agrees (r .bytes) (having ks (λ p. storing (concat p) (turn (λ t. record { root = t; under = arrays p }) (push (lim .values) p (d .root) m))))
+        → Line-agrees (r .bytes) (okThenGot ks (λ p. storing (concat p) (growMap (λ t. record { root = t; under = arrays p }) (push (lim .values) p (d .root) m))))
         (pathBy (r .bytes) ks (λ bytes gs. settleS bytes (toLastS (lim .values) bytes (pushS (lim .values) bytes) gs (r .slots) 1) (λ p. p)))
     pushes-by (ok []) h = absurd h
     pushes-by (ok (k ∷ ks)) h =
@@ -66,7 +66,7 @@ module _ (values : Values-agree) (lim : Limits) where
 
     -- the key behind a value that was read
     key-by : (v : Value) (bs : List ℕ) (n : ℕ) (o : Out) → Value-laid (length (r .bytes)) m v bs n o → (ks : R (List (List ℕ))) → Reads NonEmpty ks
-        → Line-agrees (r .bytes) (adding bs (having ks (λ p. storing (concat p) (turn (λ t. record { root = t; under = d .under }) (here (d .under) (assign (lim .values) p v) (d .root) n)))))
+        → Line-agrees (r .bytes) (adding bs (okThenGot ks (λ p. storing (concat p) (growMap (λ t. record { root = t; under = d .under }) (here (d .under) (assign (lim .values) p v) (d .root) n)))))
         (pathBy (r .bytes ++ o .bytes) ks (λ bytes gs. settleS bytes (toLastS (lim .values) bytes (hangS m) gs (r .slots ++ o .slots) (r .here)) (λ _. r .here)))
     key-by v bs n o a (ok []) h = absurd h
     key-by v bs n o a (ok (k ∷ ks)) h =
@@ -84,11 +84,11 @@ module _ (values : Values-agree) (lim : Limits) where
 
     value-by : (k : List ℕ) (g : Got Value) (o : Out) → Value-agrees (length (r .bytes)) m g o
         → Line-agrees (r .bytes)
-        (onward g (λ v n. path lim k (λ p. turn (λ t. record { root = t; under = d .under }) (here (d .under) (assign (lim .values) p v) (d .root) n))))
+        (gotThen g (λ v n. path lim k (λ p. growMap (λ t. record { root = t; under = d .under }) (here (d .under) (assign (lim .values) p v) (d .root) n))))
         (assignBy lim o k r)
     value-by k (got v bs n) o a = rw (eq-eqb (o .fault) 0 (a .fault)) (key-by v bs n o a (keys (lim .segments) k) (keys-ok (lim .segments) k))
-    value-by k (not (numbered n)) o a = rw (ne-eqb (o .fault) 0 (λ z. a .1 (sym (a .0) ∙ z))) (ap numbered (sym (a .0)))
-    value-by k (not (unmet u)) o a = absurd a
+    value-by k (failed (numbered n)) o a = rw (ne-eqb (o .fault) 0 (λ z. a .1 (sym (a .0) ∙ z))) (ap numbered (sym (a .0)))
+    value-by k (failed (unmet u)) o a = absurd a
 
     line-agrees : (f : Form) → Line-agrees (r .bytes) (act lim f d m) (lineS lim f r)
     unfolding act lineS setting setS
@@ -114,8 +114,8 @@ module _ (values : Values-agree) (lim : Limits) where
   told-agrees bytes at (got d bs n) (ok r) ls h k =
       behind-agrees bytes bs (lines lim d ls n) (linesS lim ls r) (rw (h .1, ← (h .0)) (k d r (h .2)))
   told-agrees bytes at (got d bs n) (bad i) ls h k = absurd h
-  told-agrees bytes at (not f) (ok r) ls h k = absurd h
-  told-agrees bytes at (not f) (bad i) ls h k = (h, refl, refl)
+  told-agrees bytes at (failed f) (ok r) ls h k = absurd h
+  told-agrees bytes at (failed f) (bad i) ls h k = (h, refl, refl)
 
   lines-agree : (ls : List Line) (d : Doc) (r : DocS) → Same d r → Doc-agrees (r .bytes) (lines lim d ls (length (r .slots))) (linesS lim ls r)
   lines-agree [] d r s = (sym (append-nil (r .bytes)), refl, s .agree)
@@ -143,7 +143,7 @@ module _ (values : Values-agree) (lim : Limits) where
         leads = refl;
       }
 
-  whole-agrees : (a : Answer (List Line)) → Doc-agrees [] (after a (λ ls. lines lim (record { root = empty; under = tables [] }) ls 0)) (after a (λ ls. linesS lim ls (emptyS lim)))
+  whole-agrees : (a : Answer (List Line)) → Doc-agrees [] (acceptedThen a (λ ls. lines lim (record { root = empty; under = tables [] }) ls 0)) (acceptedThen a (λ ls. linesS lim ls (emptyS lim)))
   whole-agrees (accepted ls) = lines-agree ls (record { root = empty; under = tables [] }) (emptyS lim) start
   whole-agrees (refused f s q) = (refl, refl, refl)
 

@@ -8,7 +8,7 @@ use mathlib.Core.Path.{_≡_, refl}
 use lib.ListN.{replicate}
 use Rattle.meaning.specs.Base.{ascii}
 use Rattle.meaning.specs.Limits.{of01}
-use Rattle.meaning.specs.Refusal.{Answer, accepted, refused, after, numbered, numberOf, atNoLine, inBoard, inImage, inPartition, inComponent, inApplication}
+use Rattle.meaning.specs.Refusal.{Answer, accepted, refused, acceptedThen, numbered, numberOf, atNoLine, inBoard, inImage, inPartition, inComponent, inApplication}
 use Rattle.meaning.specs.Tree.{Table, table, empty, entry}
 use Rattle.meaning.specs.Document.{document}
 use Rattle.meaning.specs.Schema.{Board, Image, Component, Application, Preset, d13x, d21x, spiNor, spiNand, kindRaw, kindPbp, chips, eraseFor}
@@ -20,7 +20,7 @@ use Rattle.examples.specs.Samples.{lined, words, _≔_⨾_}
 
 -- a preset by 01's limits, to whose board `lent` is lent
 abbrev says : List ℕ → Answer Preset
-says s = after (document of01 s) (λ d. presetOf of01 (ascii "lent") (d .root))
+says s = acceptedThen (document of01 s) (λ d. presetOf of01 (ascii "lent") (d .root))
 
 abbrev reads : String → Answer Preset
 reads s = says (ascii s)
@@ -31,7 +31,7 @@ refuses n section place = refused (numbered n) section place
 
 -- what f sees of a preset
 abbrev seen : {X : Type 0} → (Preset → X) → Answer Preset → Answer X
-seen f a = after a (λ p. accepted (f p))
+seen f a = acceptedThen a (λ p. accepted (f p))
 
 abbrev boards : Answer Preset → Answer Board
 boards a = seen (λ p. p .board) a
@@ -192,7 +192,7 @@ abbrev in-rooms : ℕ → ℕ → List ℕ → Answer whole.Read
 in-rooms store tree s = whole.read of01 32 store tree (ascii "board") s
 
 -- corner 33: `x.aic` is not in the store, which has the segments alone: `[apps.x]`
-pub not-stored : after (in-rooms 32768 65536 (ascii "[apps.x]")) (λ r. accepted (r .parsed .bytes)) ≡ accepted (words ("apps" ∷ "x" ∷ []))
+pub not-stored : acceptedThen (in-rooms 32768 65536 (ascii "[apps.x]")) (λ r. accepted (r .parsed .bytes)) ≡ accepted (words ("apps" ∷ "x" ∷ []))
 unfolding computes
 not-stored = refl
 
@@ -660,7 +660,7 @@ no-stem = refl
 -- ---- corner 46: the lent board name
 
 abbrev lending : List ℕ → String → Answer (List ℕ)
-lending name s = after (document of01 (ascii s)) (λ d. seen (λ p. p .board .name) (presetOf of01 name (d .root)))
+lending name s = acceptedThen (document of01 (ascii s)) (λ d. seen (λ p. p .board .name) (presetOf of01 name (d .root)))
 
 -- empty it stays empty, and `é` is `é`
 pub lent-empty : lending [] "" ≡ accepted []

@@ -8,7 +8,7 @@ use Rattle.meaning.specs.Base.{ascii}
 use Rattle.meaning.specs.Limits.{of01}
 use Rattle.meaning.specs.Refusal.{R, ok, bad, numbered}
 use Rattle.meaning.specs.Integers.{integer, value, clean, computes}
-use Rattle.meaning.specs.Reading.{Got, got, not}
+use Rattle.meaning.specs.Reading.{Got, got, failed}
 use Rattle.meaning.specs.Tree.{Value, array, none′, item}
 use Rattle.meaning.specs.Values as valued
 
@@ -162,7 +162,7 @@ reads s = valued.value (of01 .values) (of01 .arrays) s 0
 
 -- refused by a number
 abbrev refuses : ℕ → Got Value
-refuses n = not (numbered n)
+refuses n = failed (numbered n)
 
 -- an array of nothing, the only value made
 abbrev nothing : Got Value

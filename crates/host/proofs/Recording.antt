@@ -9,7 +9,7 @@ use lib.Dec.{eqb, ltb}
 use lib.ListN.{length}
 use Rattle.meaning.specs.Base.{pick, zeros}
 use Rattle.meaning.specs.Limits.{of01}
-use Rattle.meaning.specs.Refusal.{Fault, Answer, accepted, refused, after, numberOf, numbered, atLine}
+use Rattle.meaning.specs.Refusal.{Fault, Answer, accepted, refused, acceptedThen, numberOf, numbered, atLine}
 use Rattle.meaning.specs.Document.{Parsed, inRooms}
 use Rattle.meaning.specs.Tree.{Table, table}
 use Rattle.meaning.specs.Schema as meant
@@ -84,7 +84,7 @@ few-bytes s n m d e = let k = judged-is s n m d e in omega (arith, bytes-fit of0
 
 -- 01's answer to a text, by its answer to the root of the text's tree
 abbrev pub answer : (Table → Answer meant.Preset) → Answer Parsed → Answer Read
-answer way a = after a (λ p. after (way (p .root)) (λ preset. accepted (record { parsed = p; preset = preset })))
+answer way a = acceptedThen a (λ p. acceptedThen (way (p .root)) (λ preset. accepted (record { parsed = p; preset = preset })))
 
 abbrev presetIn : List ℕ → List ℕ → ℕ → List ℕ → meant.Preset
 presetIn room store made name = presetMeant room store made name (fieldsOf room made 1) of01 (lentText name)
@@ -258,7 +258,7 @@ preset-is text name store tree store' tree' o q r e = rw e (answered-is (verdict
 
 -- a root's preset, where what is asked of it is not refused
 abbrev held : {X : Type 0} → (meant.Preset → Answer X) → (Table → Answer meant.Preset) → Table → Answer meant.Preset
-held rule way root = after (way root) (λ preset. after (rule preset) (λ y. accepted preset))
+held rule way root = acceptedThen (way root) (λ preset. acceptedThen (rule preset) (λ y. accepted preset))
 
 pub judges-next : {X : Type 0} (name : List ℕ) (judge second : List ℕ → List ℕ → ℕ → Refusal) (way : Table → Answer meant.Preset) (rule : meant.Preset → Answer X)
     (given : List ℕ → List ℕ → ℕ → X) → Judges name judge way
@@ -268,23 +268,23 @@ judges-next name judge second way rule given js says =
     record {
       clear = λ room store made z. js .clear room store made (earlier-clear (judge room store made) (second room store made) z .0);
       says = λ room store made root s.
-          says-after (λ preset. after (rule preset) (λ y. accepted preset)) (js .says room store made root s) (says-made (λ y. presetIn room store made name) (says room store made));
+          says-after (λ preset. acceptedThen (rule preset) (λ y. accepted preset)) (js .says room store made root s) (says-made (λ y. presetIn room store made name) (says room store made));
     }
 
 -- of a text's answer
 answer-next : {X : Type 0} (a : Answer Parsed) (way : Table → Answer meant.Preset) (rule : meant.Preset → Answer X)
-    → after {Y = Read} (answer way a) (λ r. after {Y = Read} (rule (r .preset)) (λ y. accepted r)) ≡ answer (held rule way) a
+    → acceptedThen {Y = Read} (answer way a) (λ r. acceptedThen {Y = Read} (rule (r .preset)) (λ y. accepted r)) ≡ answer (held rule way) a
 answer-next (refused f s p) way rule = refl
 answer-next {X} (accepted p) way rule = one (way (p .root))
   where
     two : (m : meant.Preset) (v : Answer X)
-        → after {Y = Read} v (λ y. accepted (record { parsed = p; preset = m })) ≡ after {Y = Read} (after {Y = meant.Preset} v (λ y. accepted m)) (λ preset. accepted (record { parsed = p; preset = preset }))
+        → acceptedThen {Y = Read} v (λ y. accepted (record { parsed = p; preset = m })) ≡ acceptedThen {Y = Read} (acceptedThen {Y = meant.Preset} v (λ y. accepted m)) (λ preset. accepted (record { parsed = p; preset = preset }))
     two m (accepted u) = refl
     two m (refused f s q) = refl
 
     one : (m : Answer meant.Preset)
-        → after {Y = Read} (after {Y = Read} m (λ preset. accepted (record { parsed = p; preset = preset }))) (λ r. after {Y = Read} (rule (r .preset)) (λ y. accepted r))
-        ≡ after {Y = Read} (after {Y = meant.Preset} m (λ preset. after {Y = meant.Preset} (rule preset) (λ y. accepted preset))) (λ preset. accepted (record { parsed = p; preset = preset }))
+        → acceptedThen {Y = Read} (acceptedThen {Y = Read} m (λ preset. accepted (record { parsed = p; preset = preset }))) (λ r. acceptedThen {Y = Read} (rule (r .preset)) (λ y. accepted r))
+        ≡ acceptedThen {Y = Read} (acceptedThen {Y = meant.Preset} m (λ preset. acceptedThen {Y = meant.Preset} (rule preset) (λ y. accepted preset))) (λ preset. accepted (record { parsed = p; preset = preset }))
     one (refused f s q) = refl
     one (accepted m) = two m (rule m)
 

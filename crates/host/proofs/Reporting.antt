@@ -10,7 +10,7 @@ use lib.Dec.{ltb, leb}
 use lib.ListN.{length}
 use Rattle.meaning.specs.Base.{pick}
 use Rattle.meaning.specs.Limits.{of01}
-use Rattle.meaning.specs.Refusal.{Answer, accepted, refused, numbered, after, Fault}
+use Rattle.meaning.specs.Refusal.{Answer, accepted, refused, numbered, acceptedThen, Fault}
 use Rattle.meaning.specs.Preset.{Read}
 use Rattle.meaning.specs.Schema as schemas
 use Rattle.meaning.specs.Plan as plans
@@ -45,7 +45,7 @@ abbrev shown : lists.Listed → Listed
 shown r = record { number = r .number; section = r .section; place = r .place; written = r .written % 4294967296 }
 
 -- what was refused was refused by planning
-refused-read : (x : Answer plans.Planned) (f : Fault) (section place : ℕ) → after x (λ q. accepted (q .read)) ≡ refused f section place → x ≡ refused f section place
+refused-read : (x : Answer plans.Planned) (f : Fault) (section place : ℕ) → acceptedThen x (λ q. accepted (q .read)) ≡ refused f section place → x ≡ refused f section place
 refused-read (accepted q) f section place e = let z : _≡_ {A = ℕ} 0 1 = cc in absurd (omega arith)
 refused-read (refused g s n) f section place e = let a : g ≡ f = cc in let b : s ≡ section = cc in let c : n ≡ place = cc in rw (a, b, c)
 
@@ -68,7 +68,7 @@ module _ (text name store tree out store' tree' out' : List ℕ) (r : lists.List
         no : true ≡ false → ⊥
         no f = let z : _≡_ {A = ℕ} 1 0 = ap (λ (x : Bool). pick x 1 0) f in omega arith
 
-    answer : listing text name store tree out ≡ after (plan text name 0 [] store tree) (λ x. accepted (meant.listed x))
+    answer : listing text name store tree out ≡ acceptedThen (plan text name 0 [] store tree) (λ x. accepted (meant.listed x))
     unfolding meant.listing
     answer = rw t
 

@@ -5,7 +5,7 @@ use mathlib.Core.Path.{_≡_, sym, _∙_}
 use lib.ListN.{length}
 use Rattle.meaning.specs.Base.{zeros}
 use Rattle.meaning.specs.Limits.{of01}
-use Rattle.meaning.specs.Refusal.{Answer, accepted, refused, numberOf, after}
+use Rattle.meaning.specs.Refusal.{Answer, accepted, refused, numberOf, acceptedThen}
 use Rattle.meaning.specs.Preset.{Read}
 use Rattle.meaning.specs.Listing as meant
 use Rattle.scalar.specs.Stores.{over}
@@ -24,7 +24,7 @@ outBy out (refused f section place) = zeros (length out)
 
 -- what was read for it
 abbrev pub readBy : Answer meant.Listed → Answer Read
-readBy a = after a (λ l. accepted (l .planned .read))
+readBy a = acceptedThen a (λ l. accepted (l .planned .read))
 
 -- 01's answer to a text, a lent name and rooms of these lengths: its listing
 abbrev pub listing : List ℕ → List ℕ → List ℕ → List ℕ → List ℕ → Answer meant.Listed

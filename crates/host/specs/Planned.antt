@@ -9,7 +9,7 @@ use lib.Dec.{ltb}
 use lib.ListN.{length, getD, length-map}
 use Rattle.meaning.specs.Base.{nil?}
 use Rattle.meaning.specs.Limits.{of01}
-use Rattle.meaning.specs.Refusal.{Answer, accepted, refused, after}
+use Rattle.meaning.specs.Refusal.{Answer, accepted, refused, acceptedThen}
 use Rattle.meaning.specs.Fields.{each, listed}
 use Rattle.meaning.specs.Schema as schemas
 use Rattle.meaning.specs.Preset.{Read}
@@ -56,18 +56,18 @@ module _ (text name : List ℕ) (app : ℕ) (key store tree : List ℕ) where
   plan = meant.plan of01 32 (length store) (length tree) name (selection app key) text
 
   -- the records of a plan are those of what was read
-  pub planned-read : planned text name app key store tree ≡ after plan (λ x. accepted (x .read))
+  pub planned-read : planned text name app key store tree ≡ acceptedThen plan (λ x. accepted (x .read))
   unfolding meant.plan
   planned-read = go (validated text name store tree)
     where
       made : (r : Read) (a : Answer meant.Plan)
-          → after {Y = Read} a (λ p. accepted r) ≡ after {Y = Read} (after {Y = meant.Planned} a (λ p. accepted (record { read = r; plan = p }))) (λ x. accepted (x .read))
+          → acceptedThen {Y = Read} a (λ p. accepted r) ≡ acceptedThen {Y = Read} (acceptedThen {Y = meant.Planned} a (λ p. accepted (record { read = r; plan = p }))) (λ x. accepted (x .read))
       made r (accepted p) = refl
       made r (refused f s n) = refl
 
       go : (v : Answer Read)
-          → after {Y = Read} v (λ r. after {Y = Read} (meant.planOf (r .preset) (selection app key)) (λ p. accepted r))
-          ≡ after {Y = Read} (after {Y = meant.Planned} v (λ r. after {Y = meant.Planned} (meant.planOf (r .preset) (selection app key)) (λ p. accepted (record { read = r; plan = p })))) (λ x. accepted (x .read))
+          → acceptedThen {Y = Read} v (λ r. acceptedThen {Y = Read} (meant.planOf (r .preset) (selection app key)) (λ p. accepted r))
+          ≡ acceptedThen {Y = Read} (acceptedThen {Y = meant.Planned} v (λ r. acceptedThen {Y = meant.Planned} (meant.planOf (r .preset) (selection app key)) (λ p. accepted (record { read = r; plan = p })))) (λ x. accepted (x .read))
       go (accepted r) = made r (meant.planOf (r .preset) (selection app key))
       go (refused f s n) = refl
 
@@ -79,7 +79,7 @@ module _ (text name : List ℕ) (app : ℕ) (key store tree : List ℕ) where
   pub planned-made : (p : Read) → planned text name app key store tree ≡ accepted p
       → (q : meant.Plan) × (meant.planOf (p .preset) (selection app key) ≡ accepted q) × (plan ≡ accepted (record { read = p; plan = q }))
   planned-made p e =
-      let r = after-accepted (λ (r : Read). after {Y = Read} (meant.planOf (r .preset) (selection app key)) (λ q. accepted r)) (validated text name store tree) p e in
+      let r = after-accepted (λ (r : Read). acceptedThen {Y = Read} (meant.planOf (r .preset) (selection app key)) (λ q. accepted r)) (validated text name store tree) p e in
       let q = after-accepted {Y = Read} (λ (q : meant.Plan). accepted (r .0)) (meant.planOf (r .0 .preset) (selection app key)) p (r .2) in
       let d : r .0 ≡ p = accepted-one (r .0) p (q .2) in
       let v : validated text name store tree ≡ accepted p = r .1 ∙ ap accepted d in

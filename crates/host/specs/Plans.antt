@@ -3,7 +3,7 @@ use Prim.Native.Nat.{ℕ}
 use mathlib.Core.List.{List}
 use lib.ListN.{length}
 use Rattle.meaning.specs.Base.{pick}
-use Rattle.meaning.specs.Refusal.{Answer, accepted, after}
+use Rattle.meaning.specs.Refusal.{Answer, accepted, acceptedThen}
 use Rattle.meaning.specs.Preset.{Read}
 use Rattle.meaning.specs.Plan as meant
 use Rattle.schema.specs.declared.Text.the-variants as texts
@@ -35,7 +35,7 @@ use Rattle.host.specs.Presets.{validated}
 
 -- 01's answer to a text, a lent name, a selection and rooms of these lengths: its records, where a plan can be made of them
 abbrev pub planned : List ℕ → List ℕ → ℕ → List ℕ → List ℕ → List ℕ → Answer Read
-planned text name app key store tree = after (validated text name store tree) (λ r. after (meant.planOf (r .preset) (selection app key)) (λ p. accepted r))
+planned text name app key store tree = acceptedThen (validated text name store tree) (λ r. acceptedThen (meant.planOf (r .preset) (selection app key)) (λ p. accepted r))
 
 -- ---- a planned component
 

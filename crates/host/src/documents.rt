@@ -45,7 +45,7 @@ pub extern "C" fn document_read(text: &[u8], store: &mut [u8], tree: &mut [u8]) 
             made: st.made as u32,
         },
         Read::Fault { number, line } => Outcome {
-            number: number,
+            number,
             section: 0,
             place: line as u32,
             made: 0,

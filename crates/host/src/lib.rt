@@ -77,7 +77,7 @@ pub extern "C" fn text_valid(s: &[u8]) -> bool
 pub extern "C" fn text_kept(line: &[u8]) -> usize
     ensures { λ r. ⌜ r ≡ quotes.upTo 35 0 (now (line .entry)) ⌝ }
 {
-    text::outside(line, 35)
+    text::outside(line, b'#')
 }
 
 // The string state and the brackets of s.
@@ -132,8 +132,8 @@ pub extern "C" fn text_next(laid: &[u8], at: usize, line: u32) -> Line
         } => Line {
             kind: 1,
             line: n,
-            from: from,
-            end: end,
+            from,
+            end,
             next: p.at,
             next_line: p.line,
         },
@@ -144,9 +144,9 @@ fn refused(number: u32, place: u32) -> Lines
     ensures { λ r. ⌜ r ≡ refusedAt number place ⌝ }
 {
     Lines {
-        number: number,
+        number,
         section: 0,
-        place: place,
+        place,
         lines: 0,
         used: 0,
     }
@@ -158,7 +158,7 @@ pub extern "C" fn text_lines(text: &[u8], scratch: &mut [u8]) -> Lines
     ensures { λ r. ⌜ Exported (now (text .entry)) (now (scratch .entry)) (now (scratch .exit)) r ⌝ }
 {
     slices::zero(scratch);
-    if scratch.len() < 32769 {
+    if scratch.len() < toml_lite::SCRATCH_BYTES {
         return refused(17, 0);
     }
     let r = text::lines(text, scratch, meaning::of01());
@@ -168,7 +168,7 @@ pub extern "C" fn text_lines(text: &[u8], scratch: &mut [u8]) -> Lines
             section: 0,
             place: 0,
             lines: lines as u32,
-            used: used,
+            used,
         },
         Reading::TooLong => {
             slices::zero(scratch);

@@ -187,8 +187,8 @@ pub fn bytes_of(t: Text) -> Bytes
         Text::Stored { from, len } => Bytes {
             kind: 1,
             word: 0,
-            from: from,
-            len: len,
+            from,
+            len,
         },
         Text::Lent => Bytes {
             kind: 2,
@@ -205,8 +205,8 @@ pub fn bytes_of(t: Text) -> Bytes
         Text::WithAic { from, len } => Bytes {
             kind: 4,
             word: 0,
-            from: from,
-            len: len,
+            from,
+            len,
         },
     }
 }
@@ -229,11 +229,7 @@ pub fn list_of(f: Features) -> FeatureList
             from: 0,
             len: 0,
         },
-        Features::Words { from, len } => FeatureList {
-            kind: 1,
-            from: from,
-            len: len,
-        },
+        Features::Words { from, len } => FeatureList { kind: 1, from, len },
         Features::Items(place) => FeatureList {
             kind: 2,
             from: place as usize,
@@ -680,10 +676,7 @@ fn features_by(kind: u32, from: usize, len: usize) -> Features
     ensures { λ r. ⌜ r ≡ records.featuresBy kind from len ⌝ }
 {
     if kind == 1 {
-        return Features::Words {
-            from: from,
-            len: len,
-        };
+        return Features::Words { from, len };
     }
     if kind == 2 {
         if from < 65536 {

@@ -60,10 +60,10 @@ fn misspelt(number: u32, at: usize) -> Spelling
     ensures { λ r. ⌜ r ≡ record { number = number; used = 0; written = 0; at = at } ⌝ }
 {
     Spelling {
-        number: number,
+        number,
         used: 0,
         written: 0,
-        at: at,
+        at,
     }
 }
 
@@ -80,8 +80,8 @@ pub extern "C" fn value_string(src: &[u8], out: &mut [u8]) -> Spelling
     match d {
         Decoded::Done { used, written } => Spelling {
             number: 0,
-            used: used,
-            written: written,
+            used,
+            written,
             at: 0,
         },
         Decoded::Escape { at, written: _ } => {
@@ -131,7 +131,7 @@ fn unsplit(number: u32) -> Segments
     ensures { λ r. ⌜ r ≡ record { number = number; count = 0; used = 0 } ⌝ }
 {
     Segments {
-        number: number,
+        number,
         count: 0,
         used: 0,
     }
@@ -208,7 +208,7 @@ fn unread(number: u32) -> ValueRead
     ensures { λ r. ⌜ r ≡ record { number = number; used = 0; made = 0 } ⌝ }
 {
     ValueRead {
-        number: number,
+        number,
         used: 0,
         made: 0,
     }
@@ -218,7 +218,7 @@ fn unread(number: u32) -> ValueRead
 fn sized(text: &[u8], store: &[u8], tree: &[u8]) -> u32
     ensures { λ r. ⌜ r ≡ sizedOf (now (text .entry)) (now (store .entry)) (now (tree .entry)) ⌝ }
 {
-    if toml_lite::large(store, tree) {
+    if toml_lite::rooms_suffice(store, tree) {
         if 32768 < text.len() {
             return 1;
         }

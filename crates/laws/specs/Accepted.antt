@@ -10,7 +10,7 @@ use lib.ListN.{length, getD, length-map, List·getD-map}
 use Rattle.meaning.specs.Base.{pick, nil?, same}
 use Rattle.meaning.specs.Refusal.{accepted, refused, Fault}
 use Rattle.meaning.specs.Schema.{Chip, Partition, Component, Preset, eraseFor}
-use Rattle.meaning.specs.Verdict.{Verdict, fine, and, judged, orElse, long, among, inTurn, behind}
+use Rattle.meaning.specs.Verdict.{Verdict, fine, firstRefusal, judged, orElse, long, among, inTurn, behind}
 use Rattle.meaning.specs.Layout.{Before, nothingBefore, endOf, passed, nameFault, blockFault, spanFault, partitionFault, startFault, layout}
 use Rattle.meaning.specs.Rules.{partitionNames, given, nameOf, componentName, sourceFault, bootFault, targetFault, reserveFault, componentFault, componentRules, frontRules, featureRules, applicationRules, bootRule, rules}
 use Rattle.laws.specs.Cases.{on, never}
@@ -21,15 +21,15 @@ use Rattle.laws.specs.Order.{same-eq, eq-same}
 refusal-never {κ} : {G : Type κ} (f : Fault) (s p : ℕ) → _≡_ {A = Verdict} (refused f s p) fine → G
 refusal-never f s p e = let z : _≡_ {A = ℕ} 0 1 = cc in absurd (omega arith)
 
-pub and-first : (v w : Verdict) → and v w ≡ fine → v ≡ fine
+pub and-first : (v w : Verdict) → firstRefusal v w ≡ fine → v ≡ fine
 and-first (accepted u) w e = refl
 and-first (refused f s p) w e = e
 
-pub and-second : (v w : Verdict) → and v w ≡ fine → w ≡ fine
+pub and-second : (v w : Verdict) → firstRefusal v w ≡ fine → w ≡ fine
 and-second (accepted u) w e = e
 and-second (refused f s p) w e = refusal-never f s p e
 
-pub and-fine : (v w : Verdict) → v ≡ fine → w ≡ fine → and v w ≡ fine
+pub and-fine : (v w : Verdict) → v ≡ fine → w ≡ fine → firstRefusal v w ≡ fine
 and-fine (accepted u) w e g = g
 and-fine (refused f s p) w e g = e
 

@@ -7,7 +7,7 @@ use native.Mathlib.Omega.{arith}
 use Rattle.meaning.specs.declared.Fate.{Fate}
 use Rattle.meaning.specs.declared.Fate.the-variants.{Over, Unended, Whole}
 use Rattle.meaning.specs.Base.{nil?}
-use Rattle.meaning.specs.Refusal.{Answer, accepted, refused, after}
+use Rattle.meaning.specs.Refusal.{Answer, accepted, refused, acceptedThen}
 use Rattle.meaning.specs.Utf8.{Char, chars}
 use Rattle.meaning.specs.Space.{whiteChar, trimHead, blank}
 use Rattle.meaning.specs.Quote.{fresh, scan}
@@ -59,12 +59,12 @@ join-held closed n [] h = tt
 join-held (open′ at t) n [] h = tt
 join-held p n (l ∷ ls) h = go (joinOne p n l) (one-held p n l h) (λ q k. join-held q (n + 1) ls k)
   where
-    behind : (o : List Line) (a : Answer (List Line)) → NonBlank o → Joins a → Joins (after a (λ r. accepted (o ++ r)))
+    behind : (o : List Line) (a : Answer (List Line)) → NonBlank o → Joins a → Joins (acceptedThen a (λ r. accepted (o ++ r)))
     behind o (accepted r) h k = both o r h k
     behind o (refused f i q) h k = tt
 
     go : (a : Answer Step) → Steps a → ((q : Pending) → Held q → Joins (join q (n + 1) ls))
-        → Joins (after a (λ s. after (join (s .pending) (n + 1) ls) (λ r. accepted (s .out ++ r))))
+        → Joins (acceptedThen a (λ s. acceptedThen (join (s .pending) (n + 1) ls) (λ r. accepted (s .out ++ r))))
     go (accepted s) h k = behind (s .out) (join (s .pending) (n + 1) ls) (h .0) (k (s .pending) (h .1))
     go (refused f i q) h k = tt
 

@@ -8,8 +8,8 @@ use lib.Dec.{eqb, ltb, leb}
 use lib.ListN.{length, getD, take, drop}
 use Rattle.meaning.specs.declared.Limits.{Limits}
 use Rattle.meaning.specs.Base.{nil?, final, concat}
-use Rattle.meaning.specs.Refusal.{R, ok, bad, Answer, accepted, refused, after}
-use Rattle.meaning.specs.Reading.{Grown, grown, stuck, Got, got, not, then, turn, storing, adding, onward, change, having, grows, make}
+use Rattle.meaning.specs.Refusal.{R, ok, bad, Answer, accepted, refused, acceptedThen}
+use Rattle.meaning.specs.Reading.{Grown, grown, stuck, Got, got, failed, growThen, growMap, storing, adding, gotThen, gotMap, okThenGot, growThenGot, make}
 use Rattle.meaning.specs.Tree.{Value, Items, Table, str, array, table, none′, item, empty, Grow, lookup, insert, snoc, hang, down, toLast, known, stands, within, inLast, atArray, atKey, underLast, put, enter, orMake, ensure, pushTo, addTo, pushOne, push, assign, asTable, asArray, seen}
 use Rattle.meaning.specs.Keys.{keys}
 use Rattle.meaning.specs.Space.{trim}
@@ -27,17 +27,17 @@ module _ (limit : ℕ) where
 
   abbrev Gets : {X : Type 0} → Got X → Type 0
   Gets (got x bs m) = m ≤ limit
-  Gets (not e) = Unit {0}
+  Gets (failed e) = Unit {0}
 
   make-to : {X : Type 0} (x : X) (m : ℕ) → Grows (make limit x m)
   unfolding make
   make-to x m = on (leb limit m) (λ e. rw e tt) (λ e. rw e (omega (arith, leb-false limit m e)))
 
-  then-to : {X Y : Type 0} (a : Grown X) (f : X → ℕ → Grown Y) → Grows a → ((x : X) (m : ℕ) → m ≤ limit → Grows (f x m)) → Grows (then a f)
+  then-to : {X Y : Type 0} (a : Grown X) (f : X → ℕ → Grown Y) → Grows a → ((x : X) (m : ℕ) → m ≤ limit → Grows (f x m)) → Grows (growThen a f)
   then-to (grown x m) f h k = k x m h
   then-to (stuck e) f h k = tt
 
-  turn-to : {X Y : Type 0} (f : X → Y) (a : Grown X) → Grows a → Grows (turn f a)
+  turn-to : {X Y : Type 0} (f : X → Y) (a : Grown X) → Grows a → Grows (growMap f a)
   turn-to f (grown x m) h = h
   turn-to f (stuck e) h = tt
 
@@ -45,23 +45,23 @@ module _ (limit : ℕ) where
   storing-to bs (grown x m) h = h
   storing-to bs (stuck e) h = tt
 
-  change-to : {X Y : Type 0} (f : X → Y) (a : Got X) → Gets a → Gets (change f a)
+  change-to : {X Y : Type 0} (f : X → Y) (a : Got X) → Gets a → Gets (gotMap f a)
   change-to f (got x bs m) h = h
-  change-to f (not e) h = tt
+  change-to f (failed e) h = tt
 
   adding-to : {X : Type 0} (bs : List ℕ) (a : Got X) → Gets a → Gets (adding bs a)
   adding-to bs (got x cs m) h = h
-  adding-to bs (not e) h = tt
+  adding-to bs (failed e) h = tt
 
-  onward-to : {X Y : Type 0} (a : Got X) (f : X → ℕ → Got Y) → Gets a → ((x : X) (m : ℕ) → m ≤ limit → Gets (f x m)) → Gets (onward a f)
+  onward-to : {X Y : Type 0} (a : Got X) (f : X → ℕ → Got Y) → Gets a → ((x : X) (m : ℕ) → m ≤ limit → Gets (f x m)) → Gets (gotThen a f)
   onward-to (got x bs m) f h k = adding-to bs (f x m) (k x m h)
-  onward-to (not e) f h k = tt
+  onward-to (failed e) f h k = tt
 
-  grows-to : {X Y : Type 0} (a : Grown X) (f : X → ℕ → Got Y) → Grows a → ((x : X) (m : ℕ) → m ≤ limit → Gets (f x m)) → Gets (grows a f)
+  grows-to : {X Y : Type 0} (a : Grown X) (f : X → ℕ → Got Y) → Grows a → ((x : X) (m : ℕ) → m ≤ limit → Gets (f x m)) → Gets (growThenGot a f)
   grows-to (grown x m) f h k = k x m h
   grows-to (stuck e) f h k = tt
 
-  having-to : {X Y : Type 0} (a : R X) (f : X → Got Y) → ((x : X) → Gets (f x)) → Gets (having a f)
+  having-to : {X Y : Type 0} (a : R X) (f : X → Got Y) → ((x : X) → Gets (f x)) → Gets (okThenGot a f)
   having-to (ok x) f k = k x
   having-to (bad n) f k = tt
 
@@ -178,17 +178,17 @@ module _ (lim : Limits) where
   unfolding act setting
   act-to (pushes k) d m h =
       having-to (lim .values) (keys (lim .segments) k) _
-      (λ p. storing-to (lim .values) (concat p) (turn (λ t. record { root = t; under = arrays p }) (push (lim .values) p (d .root) m))
+      (λ p. storing-to (lim .values) (concat p) (growMap (λ t. record { root = t; under = arrays p }) (push (lim .values) p (d .root) m))
       (turn-to (lim .values) (λ t. record { root = t; under = arrays p }) (push (lim .values) p (d .root) m) (push-to (lim .values) p (d .root) m h)))
   act-to (heads k) d m h =
       having-to (lim .values) (keys (lim .segments) k) _
-      (λ p. storing-to (lim .values) (concat p) (turn (λ t. record { root = t; under = tables p }) (ensure (lim .values) p (d .root) m))
+      (λ p. storing-to (lim .values) (concat p) (growMap (λ t. record { root = t; under = tables p }) (ensure (lim .values) p (d .root) m))
       (turn-to (lim .values) (λ t. record { root = t; under = tables p }) (ensure (lim .values) p (d .root) m) (ensure-to (lim .values) p (d .root) m h)))
   act-to (sets k v) d m h =
       on (nil? (trim k)) (λ e. rw e tt)
       (λ e. rw e (onward-to (lim .values) (value (lim .values) (lim .arrays) v m) _ (value-to (lim .values) (lim .arrays) v m h)
       (λ x n j. having-to (lim .values) (keys (lim .segments) (trim k)) _
-      (λ p. storing-to (lim .values) (concat p) (turn (λ t. record { root = t; under = d .under }) (here (d .under) (assign (lim .values) p x) (d .root) n))
+      (λ p. storing-to (lim .values) (concat p) (growMap (λ t. record { root = t; under = d .under }) (here (d .under) (assign (lim .values) p x) (d .root) n))
       (turn-to (lim .values) (λ t. record { root = t; under = d .under }) (here (d .under) (assign (lim .values) p x) (d .root) n)
       (here-to (lim .values) (assign (lim .values) p x) (λ t. assign-to (lim .values) p x t) (d .under) (d .root) n j))))))
   act-to neither d m h = tt
@@ -200,14 +200,14 @@ module _ (lim : Limits) where
   reading-to : (at : ℕ) (g : Got Doc) (f : Doc → ℕ → Answer Parsed) → Gets (lim .values) g → ((e : Doc) (m : ℕ) → m ≤ lim .values → Within counted (lim .values) (f e m))
       → Within counted (lim .values) (reading at g f)
   reading-to at (got e bs m) f h s = behind-to bs (f e m) (s e m h)
-  reading-to at (not e) f h s = tt
+  reading-to at (failed e) f h s = tt
 
   lines-to : (d : Doc) (ls : List Line) (m : ℕ) → m ≤ lim .values → Within counted (lim .values) (lines lim d ls m)
   lines-to d [] m h = h
   lines-to d (l ∷ ls) m h =
       reading-to (l .at) (act lim (form (trim (l .text))) d m) _ (act-to (form (trim (l .text))) d m h) (λ e n j. lines-to e ls n j)
 
-  lines-of : (a : Answer (List Line)) → Within counted (lim .values) (after a (λ ls. lines lim (record { root = empty; under = tables [] }) ls 0))
+  lines-of : (a : Answer (List Line)) → Within counted (lim .values) (acceptedThen a (λ ls. lines lim (record { root = empty; under = tables [] }) ls 0))
   lines-of (accepted ls) = lines-to (record { root = empty; under = tables [] }) ls 0 (omega arith)
   lines-of (refused e s p) = tt
 

@@ -8,7 +8,7 @@ use mathlib.Core.Path.{_≡_, refl, sym, ap, _∙_, subst}
 use native.Mathlib.Omega.{arith}
 use lib.ListN.{getD}
 use Rattle.meaning.specs.Base.{pick, nil?, same}
-use Rattle.meaning.specs.Refusal.{Fault, numbered, Answer, accepted, refused, after, inApplication}
+use Rattle.meaning.specs.Refusal.{Fault, numbered, Answer, accepted, refused, acceptedThen, inApplication}
 use Rattle.meaning.specs.Schema.{Partition, Component, Application, Preset}
 use Rattle.meaning.specs.Verdict.{fine, among}
 use Rattle.meaning.specs.Layout.{endOf}
@@ -108,7 +108,7 @@ says-why r (app key) = go (declared 0 key (r .applications)) refl
         let k : d .0 ≡ e .place = omega (arith, d .1) in
         subst (λ (i : ℕ). Why r (app key) (numbered 81) inApplication i) k (why-81 key (d .0) (e .application) (d .2) (among-taken (r .components) (e .application .name) t))
 
-    go : (o : Option Entry) → declared 0 key (r .applications) ≡ o → Says r (app key) (after (admitted (r .components) o) (λ a. accepted (composed r (app key) a)))
+    go : (o : Option Entry) → declared 0 key (r .applications) ≡ o → Says r (app key) (acceptedThen (admitted (r .components) o) (λ a. accepted (composed r (app key) a)))
     go none h = why-80 key (none-undeclared key 0 (r .applications) h)
     go (some e) h = on (among (e .application .name) (componentNames (r .components))) (λ t. rw t (found e h t)) (λ t. rw t tt)
 

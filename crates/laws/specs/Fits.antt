@@ -12,8 +12,8 @@ use Rattle.meaning.specs.declared.Fate.the-variants.{Over, Unended, Whole}
 use Rattle.meaning.specs.declared.Act.{Act}
 use Rattle.meaning.specs.declared.Act.the-variants.{End, Fault, Hold, Put}
 use Rattle.meaning.specs.Base.{cut, split, onFirst, nil?, final, concat}
-use Rattle.meaning.specs.Refusal.{R, ok, bad, via, Answer, accepted, refused, after}
-use Rattle.meaning.specs.Reading.{Grown, grown, stuck, Got, got, not, turn, storing, adding, onward, change, having, grows, make}
+use Rattle.meaning.specs.Refusal.{R, ok, bad, okThen, Answer, accepted, refused, acceptedThen}
+use Rattle.meaning.specs.Reading.{Grown, grown, stuck, Got, got, failed, growMap, storing, adding, gotThen, gotMap, okThenGot, growThenGot, make}
 use Rattle.meaning.specs.Tree.{Value, str, array, none′, item, empty, assign, push, ensure}
 use Rattle.meaning.specs.Keys.{keys, segments, segment, quoted, nonempty}
 use Rattle.meaning.specs.Space.{trim, blank}
@@ -133,7 +133,7 @@ segment-fits s =
 abbrev bytesIn : List (List ℕ) → ℕ
 bytesIn ks = length (concat ks)
 
-joined-fits : (a : R (List ℕ)) (b : R (List (List ℕ))) (n m : ℕ) → FitsR length n a → FitsR bytesIn m b → FitsR bytesIn (n + m) (via a (λ k. via b (λ ks. ok (k ∷ ks))))
+joined-fits : (a : R (List ℕ)) (b : R (List (List ℕ))) (n m : ℕ) → FitsR length n a → FitsR bytesIn m b → FitsR bytesIn (n + m) (okThen a (λ k. okThen b (λ ks. ok (k ∷ ks))))
 joined-fits (ok k) (ok ks) n m h g = simp length-append (omega arith)
 joined-fits (ok k) (bad e) n m h g = tt
 joined-fits (bad e) b n m h g = tt
@@ -158,34 +158,34 @@ keys-fit n s =
 
 abbrev Fits : {X : Type 0} → ℕ → Got X → Type 0
 Fits n (got x bs m) = length bs ≤ n
-Fits n (not e) = Unit {0}
+Fits n (failed e) = Unit {0}
 
 grow : {X : Type 0} (a : Got X) (n m : ℕ) → n ≤ m → Fits n a → Fits m a
 grow (got x bs k) n m h g = omega arith
-grow (not e) n m h g = tt
+grow (failed e) n m h g = tt
 
 stored-fits : {X : Type 0} (n : ℕ) (bs : List ℕ) (a : Grown X) → length bs ≤ n → Fits n (storing bs a)
 stored-fits n bs (grown x m) h = h
 stored-fits n bs (stuck e) h = tt
 
-change-fits : {X Y : Type 0} (f : X → Y) (n : ℕ) (a : Got X) → Fits n a → Fits n (change f a)
+change-fits : {X Y : Type 0} (f : X → Y) (n : ℕ) (a : Got X) → Fits n a → Fits n (gotMap f a)
 change-fits f n (got x bs m) h = h
-change-fits f n (not e) h = tt
+change-fits f n (failed e) h = tt
 
 added-fits : {X : Type 0} (n k : ℕ) (bs : List ℕ) (a : Got X) → length bs ≤ n → Fits k a → Fits (n + k) (adding bs a)
 added-fits n k bs (got x cs m) h g = simp length-append (omega arith)
-added-fits n k bs (not e) h g = tt
+added-fits n k bs (failed e) h g = tt
 
-onward-fits : {X Y : Type 0} (n k : ℕ) (a : Got X) (f : X → ℕ → Got Y) → Fits n a → ((x : X) (m : ℕ) → Fits k (f x m)) → Fits (n + k) (onward a f)
+onward-fits : {X Y : Type 0} (n k : ℕ) (a : Got X) (f : X → ℕ → Got Y) → Fits n a → ((x : X) (m : ℕ) → Fits k (f x m)) → Fits (n + k) (gotThen a f)
 onward-fits n k (got x bs m) f h g = added-fits n k bs (f x m) h (g x m)
-onward-fits n k (not e) f h g = tt
+onward-fits n k (failed e) f h g = tt
 
 each-fits : (f : List ℕ → Reader Value) → ((l : List ℕ) (m : ℕ) → Fits (length l) (f l m)) → (ls : List (List ℕ)) (m : ℕ) → Fits (total ls) (each f ls m)
 each-fits f h [] m = omega arith
 each-fits f h (l ∷ ls) m = onward-fits (length l) (total ls) (f l m) _ (h l m) (λ v n. change-fits (item v) (total ls) (each f ls n) (each-fits f h ls n))
 
 module _ (limit : ℕ) where
-  said-fits : (a : R (List ℕ)) (m n : ℕ) → FitsR length n a → Fits n (having a (λ b. storing b (make limit (str b) m)))
+  said-fits : (a : R (List ℕ)) (m n : ℕ) → FitsR length n a → Fits n (okThenGot a (λ b. storing b (make limit (str b) m)))
   said-fits (ok d) m n h = stored-fits n d (make limit (str d) m) h
   said-fits (bad e) m n h = tt
 
@@ -198,7 +198,7 @@ module _ (limit : ℕ) where
   unfolding aString
   string-fits s m = said-fits (stringOf s) m (length s) (stringOf-fits s)
 
-  had-fits : (a : R Value) (m n : ℕ) → Fits n (having a (λ v. storing [] (make limit v m)))
+  had-fits : (a : R Value) (m n : ℕ) → Fits n (okThenGot a (λ v. storing [] (make limit v m)))
   had-fits (ok v) m n = stored-fits n [] (make limit v m) (omega arith)
   had-fits (bad e) m n = tt
 
@@ -212,7 +212,7 @@ module _ (limit : ℕ) where
       on (eqb (getD s 0 0) 34) (λ e. rw e (grow (aString limit (drop 1 s) m) (length (drop 1 s)) (length s) (drop-fits 1 s) (string-fits (drop 1 s) m)))
       (λ e. rw e (on (eqb (getD s 0 0) 91) (λ g. rw g (grow (b (drop 1 s) m) (length (drop 1 s)) (length s) (drop-fits 1 s) (h (drop 1 s) m))) (λ g. rw g (plain-fits s m))))
 
-  grown-fits : {X : Type 0} (a : Grown X) (n : ℕ) (f : X → ℕ → Got Value) → ((x : X) (m : ℕ) → Fits n (f x m)) → Fits n (grows a f)
+  grown-fits : {X : Type 0} (a : Grown X) (n : ℕ) (f : X → ℕ → Got Value) → ((x : X) (m : ℕ) → Fits n (f x m)) → Fits n (growThenGot a f)
   grown-fits (grown x m) n f h = h x m
   grown-fits (stuck e) n f h = tt
 
@@ -259,7 +259,7 @@ form-fits l =
     (λ f. rw f (on (ltb (upTo 61 0 l) (length l)) (λ g. rw g (halves-fit (upTo 61 0 l) l)) (λ g. rw g (omega arith))))))
 
 module _ (lim : Limits) where
-  path-fits : (s : List ℕ) (a : R (List (List ℕ))) (f : List (List ℕ) → Grown Doc) → FitsR bytesIn (length s) a → Fits (length s) (having a (λ p. storing (concat p) (f p)))
+  path-fits : (s : List ℕ) (a : R (List (List ℕ))) (f : List (List ℕ) → Grown Doc) → FitsR bytesIn (length s) a → Fits (length s) (okThenGot a (λ p. storing (concat p) (f p)))
   path-fits s (ok p) f h = stored-fits (length s) (concat p) (f p) h
   path-fits s (bad e) f h = tt
 
@@ -268,15 +268,15 @@ module _ (lim : Limits) where
   setting-fits k v d m =
       on (nil? k) (λ e. rw e tt)
       (λ e. rw e (onward-fits (length v) (length k) (value (lim .values) (lim .arrays) v m) _ (value-fits (lim .values) (lim .arrays) v m)
-      (λ x n. path-fits k (keys (lim .segments) k) (λ p. turn (λ t. record { root = t; under = d .under }) (here (d .under) (assign (lim .values) p x) (d .root) n))
+      (λ x n. path-fits k (keys (lim .segments) k) (λ p. growMap (λ t. record { root = t; under = d .under }) (here (d .under) (assign (lim .values) p x) (d .root) n))
       (keys-fit (lim .segments) k))))
 
   act-fits : (f : Form) (d : Doc) (m : ℕ) → Fits (read f) (act lim f d m)
   unfolding act
   act-fits (pushes k) d m =
-      path-fits k (keys (lim .segments) k) (λ p. turn (λ t. record { root = t; under = arrays p }) (push (lim .values) p (d .root) m)) (keys-fit (lim .segments) k)
+      path-fits k (keys (lim .segments) k) (λ p. growMap (λ t. record { root = t; under = arrays p }) (push (lim .values) p (d .root) m)) (keys-fit (lim .segments) k)
   act-fits (heads k) d m =
-      path-fits k (keys (lim .segments) k) (λ p. turn (λ t. record { root = t; under = tables p }) (ensure (lim .values) p (d .root) m)) (keys-fit (lim .segments) k)
+      path-fits k (keys (lim .segments) k) (λ p. growMap (λ t. record { root = t; under = tables p }) (ensure (lim .values) p (d .root) m)) (keys-fit (lim .segments) k)
   act-fits (sets k v) d m =
       grow (setting lim (trim k) v d m) (length v + length (trim k)) (length k + length v) (omega (arith, trim-fits k)) (setting-fits (trim k) v d m)
   act-fits neither d m = tt
@@ -302,7 +302,7 @@ behind-fits n k bs (refused e s p) h g = tt
 
 reading-fits : (at n k : ℕ) (g : Got Doc) (f : Doc → ℕ → Answer Parsed) → Fits n g → ((e : Doc) (m : ℕ) → Within stored k (f e m)) → Within stored (n + k) (reading at g f)
 reading-fits at n k (got e bs m) f h s = behind-fits n k bs (f e m) h (s e m)
-reading-fits at n k (not e) f h s = tt
+reading-fits at n k (failed e) f h s = tt
 
 lines-fit : (lim : Limits) (d : Doc) (ls : List Line) (m : ℕ) → Within stored (texts ls) (lines lim d ls m)
 lines-fit lim d [] m = omega arith
@@ -347,11 +347,11 @@ ends-append : (a b : List Line) → ends-in (a ++ b) ≡ ends-in a + ends-in b
 ends-append [] b = omega arith
 ends-append (l ∷ a) b = omega (arith, ends-append a b)
 
-rest-fits : (out : List Line) (n k : ℕ) (a : Answer (List Line)) → ends-in out + n ≤ k → Within ends-in n a → Within ends-in k (after a (λ r. accepted (out ++ r)))
+rest-fits : (out : List Line) (n k : ℕ) (a : Answer (List Line)) → ends-in out + n ≤ k → Within ends-in n a → Within ends-in k (acceptedThen a (λ r. accepted (out ++ r)))
 rest-fits out n k (accepted r) h g = omega (arith, ends-append out r)
 rest-fits out n k (refused e s p) h g = tt
 
-step-fits : (k w : ℕ) (a : Answer Step) (f : Step → Answer (List Line)) → Within after-step k a → ((s : Step) → Within ends-in (held (s .pending) + w) (f s)) → Within ends-in (k + w) (after a (λ s. after (f s) (λ r. accepted (s .out ++ r))))
+step-fits : (k w : ℕ) (a : Answer Step) (f : Step → Answer (List Line)) → Within after-step k a → ((s : Step) → Within ends-in (held (s .pending) + w) (f s)) → Within ends-in (k + w) (acceptedThen a (λ s. acceptedThen (f s) (λ r. accepted (s .out ++ r))))
 step-fits k w (accepted s) f h g = rest-fits (s .out) (held (s .pending) + w) (k + w) (f s) (omega arith) (g s)
 step-fits k w (refused e x y) f h g = tt
 
@@ -409,7 +409,7 @@ texts-fit (l ∷ ls) n h = omega (arith, less ls)
     less [] = omega arith
     less (k ∷ ks) = omega (arith, less ks)
 
-lines-in : (lim : Limits) (n : ℕ) (a : Answer (List Line)) → Within ends-in (n + 1) a → Within stored n (after a (λ ls. lines lim (record { root = empty; under = tables [] }) ls 0))
+lines-in : (lim : Limits) (n : ℕ) (a : Answer (List Line)) → Within ends-in (n + 1) a → Within stored n (acceptedThen a (λ ls. lines lim (record { root = empty; under = tables [] }) ls 0))
 lines-in lim n (accepted ls) h =
     within-more stored (texts ls) n (lines lim (record { root = empty; under = tables [] }) ls 0) (texts-fit ls n h) (lines-fit lim (record { root = empty; under = tables [] }) ls 0)
 lines-in lim n (refused e s p) h = tt

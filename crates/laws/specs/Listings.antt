@@ -8,10 +8,10 @@ use native.Mathlib.Omega.{arith}
 use borrow.Author.Tests.{ltb-false}
 use lib.Dec.{ltb}
 use lib.ListN.{length, length-append}
-use Rattle.meaning.specs.Base.{pick, ascii, nil?, else}
+use Rattle.meaning.specs.Base.{pick, ascii, nil?, orDefault}
 use Rattle.meaning.specs.declared.Limits.{Limits}
 use Rattle.meaning.specs.Limits.{of01}
-use Rattle.meaning.specs.Refusal.{accepted, after}
+use Rattle.meaning.specs.Refusal.{accepted, acceptedThen}
 use Rattle.meaning.specs.Tree.{Table}
 use Rattle.meaning.specs.Utf8.{valid}
 use Rattle.meaning.specs.Schema.{Chip, Media, Kind, d13x, d21x, spiNor, spiNand, kindApp, kindPbp, kindRaw, chipWord, mediaWord, kindWord, Partition, Component, Application, Preset}
@@ -195,7 +195,7 @@ stem-fits : (n : ℕ) (r : Preset) → sum stemSize (r .components) ≤ n → le
 unfolding stemFor
 stem-fits n r h g = go (ownStem (firstApp (r .components))) (first-stem (r .components))
   where
-    go : (o : Option (List ℕ)) → size length o ≤ sum stemSize (r .components) → length (else o (r .board .name)) ≤ n
+    go : (o : Option (List ℕ)) → size length o ≤ sum stemSize (r .components) → length (orDefault o (r .board .name)) ≤ n
     go none k = g
     go (some s) k = omega arith
 
@@ -218,7 +218,7 @@ module _ (lim : Limits) where
     valid-read : validate lim width store tree name text ≡ accepted x → read lim width store tree name text ≡ accepted x
     unfolding validate
     valid-read e =
-        let y = after-accepted (λ (r : Read). after (rules (r .preset)) (λ u. accepted r)) (read lim width store tree name text) x e in
+        let y = after-accepted (λ (r : Read). acceptedThen (rules (r .preset)) (λ u. accepted r)) (read lim width store tree name text) x e in
         let u = after-accepted (λ u. accepted (y .0)) (rules (y .0 .preset)) x (y .2) in
         y .1 ∙ u .2
 
@@ -231,7 +231,7 @@ module _ (lim : Limits) where
     read-parts : read lim width store tree name text ≡ accepted x → (document lim text ≡ accepted (x .parsed)) × (presetOf lim name (x .parsed .root) ≡ accepted (x .preset))
     unfolding read
     read-parts e =
-        let y = after-accepted (λ (p : Parsed). after (presetOf lim name (p .root)) (λ r. accepted (record { parsed = p; preset = r }))) (inRooms lim width store tree text) x e in
+        let y = after-accepted (λ (p : Parsed). acceptedThen (presetOf lim name (p .root)) (λ r. accepted (record { parsed = p; preset = r }))) (inRooms lim width store tree text) x e in
         let z = after-accepted (λ r. accepted (record { parsed = y .0; preset = r })) (presetOf lim name (y .0 .root)) x (y .2) in
         subst (λ (q : Read). (document lim text ≡ accepted (q .parsed)) × (presetOf lim name (q .parsed .root) ≡ accepted (q .preset))) (accepted-one (record { parsed = y .0; preset = z .0 }) x (z .2)) (rooms-document (y .0) (y .1), z .1)
 

@@ -11,8 +11,8 @@ use Rattle.meaning.specs.declared.Limits.{Limits}
 use Rattle.meaning.specs.declared.Fate.{Fate}
 use Rattle.meaning.specs.declared.Fate.the-variants.{Over, Unended, Whole}
 use Rattle.meaning.specs.Base.{same, cut, onFirst, nil?, final, concat}
-use Rattle.meaning.specs.Refusal.{R, ok, bad, via, Answer, accepted, refused, after, Fault, numbered, Unmet, unmet}
-use Rattle.meaning.specs.Reading.{Grown, grown, stuck, Got, got, not, then, turn, storing, adding, onward, change, having, grows, make}
+use Rattle.meaning.specs.Refusal.{R, ok, bad, okThen, Answer, accepted, refused, acceptedThen, Fault, numbered, Unmet, unmet}
+use Rattle.meaning.specs.Reading.{Grown, grown, stuck, Got, got, failed, growThen, growMap, storing, adding, gotThen, gotMap, okThenGot, growThenGot, make}
 use Rattle.meaning.specs.Tree.{Value, Items, Table, str, int, boolean, array, table, none′, item, empty, entry, Grow, lookup, insert, snoc, hang, down, toLast, known, inLast, underLast, enter, ensure, pushTo, push, assign, asTable}
 use Rattle.meaning.specs.Keys.{keys, segments, segment}
 use Rattle.meaning.specs.Space.{trim, blank}
@@ -41,7 +41,7 @@ Grows P (stuck e) = Numbered e
 
 abbrev pub Gets : {X : Type 0} → (X → Type 0) → Got X → Type 0
 Gets P (got x bs m) = P x
-Gets P (not e) = Numbered e
+Gets P (failed e) = Numbered e
 
 abbrev pub Answers : {X : Type 0} → Answer X → Type 0
 Answers (accepted x) = Unit {0}
@@ -50,39 +50,39 @@ Answers (refused f s p) = Numbered f
 -- ---- the steps
 
 module _ {X Y : Type 0} (P : X → Type 0) (Q : Y → Type 0) where
-  then-ok : (a : Grown X) (f : X → ℕ → Grown Y) → Grows P a → ((x : X) (m : ℕ) → P x → Grows Q (f x m)) → Grows Q (then a f)
+  then-ok : (a : Grown X) (f : X → ℕ → Grown Y) → Grows P a → ((x : X) (m : ℕ) → P x → Grows Q (f x m)) → Grows Q (growThen a f)
   then-ok (grown x m) f h k = k x m h
   then-ok (stuck e) f h k = h
 
-  turn-ok : (f : X → Y) (a : Grown X) → Grows P a → ((x : X) → P x → Q (f x)) → Grows Q (turn f a)
+  turn-ok : (f : X → Y) (a : Grown X) → Grows P a → ((x : X) → P x → Q (f x)) → Grows Q (growMap f a)
   turn-ok f (grown x m) h k = k x h
   turn-ok f (stuck e) h k = h
 
-  kept-ok : (f : X → Y) (bs : List ℕ) (a : Grown X) → Grows P a → ((x : X) → P x → Q (f x)) → Gets Q (storing bs (turn f a))
+  kept-ok : (f : X → Y) (bs : List ℕ) (a : Grown X) → Grows P a → ((x : X) → P x → Q (f x)) → Gets Q (storing bs (growMap f a))
   kept-ok f bs (grown x m) h k = k x h
   kept-ok f bs (stuck e) h k = h
 
-  grows-ok : (a : Grown X) (f : X → ℕ → Got Y) → Grows P a → ((x : X) (m : ℕ) → P x → Gets Q (f x m)) → Gets Q (grows a f)
+  grows-ok : (a : Grown X) (f : X → ℕ → Got Y) → Grows P a → ((x : X) (m : ℕ) → P x → Gets Q (f x m)) → Gets Q (growThenGot a f)
   grows-ok (grown x m) f h k = k x m h
   grows-ok (stuck e) f h k = h
 
-  having-ok : (a : R X) (f : X → Got Y) → Reads P a → ((x : X) → P x → Gets Q (f x)) → Gets Q (having a f)
+  having-ok : (a : R X) (f : X → Got Y) → Reads P a → ((x : X) → P x → Gets Q (f x)) → Gets Q (okThenGot a f)
   having-ok (ok x) f h k = k x h
   having-ok (bad n) f h k = tt
 
-  onward-ok : (a : Got X) (f : X → ℕ → Got Y) → Gets P a → ((x : X) (m : ℕ) → P x → Gets Q (f x m)) → Gets Q (onward a f)
+  onward-ok : (a : Got X) (f : X → ℕ → Got Y) → Gets P a → ((x : X) (m : ℕ) → P x → Gets Q (f x m)) → Gets Q (gotThen a f)
   onward-ok (got x bs m) f h k = added (f x m) (k x m h)
     where
       added : (b : Got Y) → Gets Q b → Gets Q (adding bs b)
       added (got y cs n) g = g
-      added (not e) g = g
-  onward-ok (not e) f h k = h
+      added (failed e) g = g
+  onward-ok (failed e) f h k = h
 
-  change-ok : (f : X → Y) (a : Got X) → Gets P a → ((x : X) → P x → Q (f x)) → Gets Q (change f a)
+  change-ok : (f : X → Y) (a : Got X) → Gets P a → ((x : X) → P x → Q (f x)) → Gets Q (gotMap f a)
   change-ok f (got x bs m) h k = k x h
-  change-ok f (not e) h k = h
+  change-ok f (failed e) h k = h
 
-  after-ok : (a : Answer X) (f : X → Answer Y) → Answers a → ((x : X) → Answers (f x)) → Answers (after a f)
+  after-ok : (a : Answer X) (f : X → Answer Y) → Answers a → ((x : X) → Answers (f x)) → Answers (acceptedThen a f)
   after-ok (accepted x) f h k = k x
   after-ok (refused e s p) f h k = h
 
@@ -193,7 +193,7 @@ module _ (f : Table → Grow Table) (fine : (t : Table) (m : ℕ) → Grows Any 
   inLast-ok none′ m h = absurd h
   inLast-ok (item v none′) m h =
       rw (h .1)
-      (turn-ok (λ w. HasLast (item w none′)) HasLast (λ w. item w none′) (turn table (f (h .0) m))
+      (turn-ok (λ w. HasLast (item w none′)) HasLast (λ w. item w none′) (growMap table (f (h .0) m))
       (turn-ok Any (λ w. HasLast (item w none′)) table (f (h .0) m) (fine (h .0) m) (λ u _. (u, refl)))
       (λ w g. g))
   inLast-ok (item v (item w is)) m h =
@@ -226,11 +226,11 @@ segments-ok n [] h = absurd h
 segments-ok zero (p ∷ ps) h = tt
 segments-ok (suc n) (p ∷ ps) h = put-first (segment (trim p)) (segments n ps)
   where
-    put-second : (k : List ℕ) (r : R (List (List ℕ))) → Reads NonEmpty (via r (λ ks. ok (k ∷ ks)))
+    put-second : (k : List ℕ) (r : R (List (List ℕ))) → Reads NonEmpty (okThen r (λ ks. ok (k ∷ ks)))
     put-second k (ok ks) = tt
     put-second k (bad e) = tt
 
-    put-first : (q : R (List ℕ)) (r : R (List (List ℕ))) → Reads NonEmpty (via q (λ k. via r (λ ks. ok (k ∷ ks))))
+    put-first : (q : R (List ℕ)) (r : R (List (List ℕ))) → Reads NonEmpty (okThen q (λ k. okThen r (λ ks. ok (k ∷ ks))))
     put-first (ok k) r = put-second k r
     put-first (bad e) r = tt
 
@@ -324,7 +324,7 @@ module _ (lim : Limits) where
 
   reading-ok : (at : ℕ) (g : Got Doc) (k : Doc → ℕ → Answer Parsed) → Gets Sound g → ((e : Doc) (n : ℕ) → Sound e → Answers (k e n)) → Answers (reading at g k)
   reading-ok at (got e bs n) k s h = after-ok Any Any (k e n) _ (h e n s) (λ r. tt)
-  reading-ok at (not f) k s h = s
+  reading-ok at (failed f) k s h = s
 
   lines-ok : (d : Doc) (ls : List Line) (m : ℕ) → Sound d → Answers (lines lim d ls m)
   lines-ok d [] m h = tt

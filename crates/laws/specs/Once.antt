@@ -8,8 +8,8 @@ use lib.IntN.{ℤ}
 use lib.ListN.{length, getD, take, drop}
 use Rattle.meaning.specs.declared.Limits.{Limits}
 use Rattle.meaning.specs.Base.{same, ascii, nil?, final, concat}
-use Rattle.meaning.specs.Refusal.{R, ok, bad, via, Answer, accepted, refused, after}
-use Rattle.meaning.specs.Reading.{Grown, grown, stuck, Got, got, not, then, turn, storing, adding, onward, change, having, grows, make}
+use Rattle.meaning.specs.Refusal.{R, ok, bad, okThen, Answer, accepted, refused, acceptedThen}
+use Rattle.meaning.specs.Reading.{Grown, grown, stuck, Got, got, failed, growThen, growMap, storing, adding, gotThen, gotMap, okThenGot, growThenGot, make}
 use Rattle.meaning.specs.Tree.{Value, Items, Table, str, int, boolean, array, table, none′, item, empty, entry, Grow, lookup, insert, snoc, hang, down, toLast, known, stands, within, inLast, atArray, atKey, underLast, put, enter, orMake, ensure, pushTo, addTo, pushOne, push, assign, asTable, asArray, seen}
 use Rattle.meaning.specs.Integers.{integer}
 use Rattle.meaning.specs.Keys.{keys}
@@ -53,7 +53,7 @@ Grew P (stuck e) = Unit {0}
 
 abbrev Gave : {X : Type 0} → (X → Type 0) → Got X → Type 0
 Gave P (got x bs m) = P x
-Gave P (not e) = Unit {0}
+Gave P (failed e) = Unit {0}
 
 abbrev Read : {X : Type 0} → (X → Type 0) → R X → Type 0
 Read P (ok x) = P x
@@ -62,35 +62,35 @@ Read P (bad n) = Unit {0}
 -- ---- the steps
 
 module _ {X Y : Type 0} (P : X → Type 0) (Q : Y → Type 0) where
-  then-once : (a : Grown X) (f : X → ℕ → Grown Y) → Grew P a → ((x : X) (m : ℕ) → P x → Grew Q (f x m)) → Grew Q (then a f)
+  then-once : (a : Grown X) (f : X → ℕ → Grown Y) → Grew P a → ((x : X) (m : ℕ) → P x → Grew Q (f x m)) → Grew Q (growThen a f)
   then-once (grown x m) f h k = k x m h
   then-once (stuck e) f h k = tt
 
-  turn-once : (f : X → Y) (a : Grown X) → Grew P a → ((x : X) → P x → Q (f x)) → Grew Q (turn f a)
+  turn-once : (f : X → Y) (a : Grown X) → Grew P a → ((x : X) → P x → Q (f x)) → Grew Q (growMap f a)
   turn-once f (grown x m) h k = k x h
   turn-once f (stuck e) h k = tt
 
-  kept-once : (f : X → Y) (bs : List ℕ) (a : Grown X) → Grew P a → ((x : X) → P x → Q (f x)) → Gave Q (storing bs (turn f a))
+  kept-once : (f : X → Y) (bs : List ℕ) (a : Grown X) → Grew P a → ((x : X) → P x → Q (f x)) → Gave Q (storing bs (growMap f a))
   kept-once f bs (grown x m) h k = k x h
   kept-once f bs (stuck e) h k = tt
 
-  having-once : (a : R X) (f : X → Got Y) → Read P a → ((x : X) → P x → Gave Q (f x)) → Gave Q (having a f)
+  having-once : (a : R X) (f : X → Got Y) → Read P a → ((x : X) → P x → Gave Q (f x)) → Gave Q (okThenGot a f)
   having-once (ok x) f h k = k x h
   having-once (bad n) f h k = tt
 
-  onward-once : (a : Got X) (f : X → ℕ → Got Y) → Gave P a → ((x : X) (m : ℕ) → P x → Gave Q (f x m)) → Gave Q (onward a f)
+  onward-once : (a : Got X) (f : X → ℕ → Got Y) → Gave P a → ((x : X) (m : ℕ) → P x → Gave Q (f x m)) → Gave Q (gotThen a f)
   onward-once (got x bs m) f h k = added (f x m) (k x m h)
     where
       added : (b : Got Y) → Gave Q b → Gave Q (adding bs b)
       added (got y cs n) g = g
-      added (not e) g = tt
-  onward-once (not e) f h k = tt
+      added (failed e) g = tt
+  onward-once (failed e) f h k = tt
 
-  change-once : (f : X → Y) (a : Got X) → Gave P a → ((x : X) → P x → Q (f x)) → Gave Q (change f a)
+  change-once : (f : X → Y) (a : Got X) → Gave P a → ((x : X) → P x → Q (f x)) → Gave Q (gotMap f a)
   change-once f (got x bs m) h k = k x h
-  change-once f (not e) h k = tt
+  change-once f (failed e) h k = tt
 
-  grows-once : (a : Grown X) (f : X → ℕ → Got Y) → Grew P a → ((x : X) (m : ℕ) → P x → Gave Q (f x m)) → Gave Q (grows a f)
+  grows-once : (a : Grown X) (f : X → ℕ → Got Y) → Grew P a → ((x : X) (m : ℕ) → P x → Gave Q (f x m)) → Gave Q (growThenGot a f)
   grows-once (grown x m) f h k = k x m h
   grows-once (stuck e) f h k = tt
 
@@ -247,7 +247,7 @@ module _ (limit : ℕ) where
   unfolding plain
   plain-once s = picked (Read Once) (same s (ascii "true")) (λ _. tt) (λ _. picked (Read Once) (same s (ascii "false")) (λ _. tt) (λ _. go (integer s)))
     where
-      go : (r : R ℤ) → Read Once (via r (λ i. ok (int i)))
+      go : (r : R ℤ) → Read Once (okThen r (λ i. ok (int i)))
       go (ok i) = tt
       go (bad n) = tt
 
@@ -306,14 +306,14 @@ module _ (lim : Limits) where
 
   reading-once : (at : ℕ) (g : Got Doc) (k : Doc → ℕ → Answer Parsed) → Gave Sound g → ((e : Doc) (n : ℕ) → Sound e → Rooted (k e n)) → Rooted (reading at g k)
   reading-once at (got e bs n) k s h = behind-once bs (k e n) (h e n s)
-  reading-once at (not f) k s h = tt
+  reading-once at (failed f) k s h = tt
 
   lines-once : (ls : List Line) (d : Doc) (m : ℕ) → Sound d → Rooted (lines lim d ls m)
   lines-once [] d m h = h
   lines-once (l ∷ ls) d m h =
       reading-once (l .at) (act lim (form (trim (l .text))) d m) _ (act-once (form (trim (l .text))) d m h) (λ e n s. lines-once ls e n s)
 
-  joined-once : (a : Answer (List Line)) → Rooted (after a (λ ls. lines lim (record { root = empty; under = tables [] }) ls 0))
+  joined-once : (a : Answer (List Line)) → Rooted (acceptedThen a (λ ls. lines lim (record { root = empty; under = tables [] }) ls 0))
   joined-once (accepted ls) = lines-once ls (record { root = empty; under = tables [] }) 0 tt
   joined-once (refused e s p) = tt
 

@@ -6,7 +6,7 @@ use mathlib.Core.Option.{Option, none, some}
 use mathlib.Core.Path.{_≡_, refl, sym, ap, _∙_, subst}
 use native.Mathlib.Omega.{arith}
 use lib.ListN.{length, getD}
-use Rattle.meaning.specs.Base.{else}
+use Rattle.meaning.specs.Base.{orDefault}
 use Rattle.laws.specs.Accepted.{All}
 
 -- x stands at place i
@@ -78,7 +78,7 @@ pub none-some {κ} : {X : Type 0} {G : Type κ} (x : X) → _≡_ {A = Option X}
 none-some x e = let z : _≡_ {A = ℕ} 0 1 = cc in absurd (omega arith)
 
 pub some-one : {X : Type 0} (x y : X) → _≡_ {A = Option X} (some x) (some y) → x ≡ y
-some-one {X} x y e = ap (λ (o : Option X). else o x) e
+some-one {X} x y e = ap (λ (o : Option X). orDefault o x) e
 
 -- ---- images
 

@@ -6,7 +6,7 @@ use mathlib.Core.Path.{_≡_, refl, sym, ap, subst}
 use lib.ListN.{length, take, length-map}
 use Rattle.meaning.specs.declared.Limits.{Limits}
 use Rattle.meaning.specs.Base.{before}
-use Rattle.meaning.specs.Refusal.{Fault, Answer, accepted, refused, after}
+use Rattle.meaning.specs.Refusal.{Fault, Answer, accepted, refused, acceptedThen}
 use Rattle.meaning.specs.Schema.{Preset}
 use Rattle.meaning.specs.Space.{trim}
 use Rattle.meaning.specs.Verdict.{fine}
@@ -53,7 +53,7 @@ module _ (lim : Limits) (width store tree : ℕ) (name text : List ℕ) where
   pub valid-rules : (x : Read) → validate lim width store tree name text ≡ accepted x → rules (x .preset) ≡ fine
   unfolding validate
   valid-rules x e =
-      let y = after-accepted (λ (r : Read). after (rules (r .preset)) (λ u. accepted r)) (read lim width store tree name text) x e in
+      let y = after-accepted (λ (r : Read). acceptedThen (rules (r .preset)) (λ u. accepted r)) (read lim width store tree name text) x e in
       let u = after-accepted (λ u. accepted (y .0)) (rules (y .0 .preset)) x (y .2) in
       subst (λ (r : Read). rules (r .preset) ≡ fine) (accepted-one (y .0) x (u .2)) (u .1)
 
@@ -65,7 +65,7 @@ module _ (lim : Limits) (width store tree : ℕ) (name text : List ℕ) where
     validated = validate lim width store tree name text
 
     abbrev ending : Read → Answer Planned
-    ending x = after (planOf (x .preset) s) (λ p. accepted (record { read = x; plan = p }))
+    ending x = acceptedThen (planOf (x .preset) s) (λ p. accepted (record { read = x; plan = p }))
 
     -- a plan is made of a preset that is validated
     pub text-planned : (q : Planned) → answer ≡ accepted q → (validated ≡ accepted (q .read)) × (planOf (q .read .preset) s ≡ accepted (q .plan))

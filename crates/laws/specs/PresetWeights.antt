@@ -8,8 +8,8 @@ use borrow.Author.Tests.{ltb-false}
 use lib.Dec.{ltb}
 use lib.ListN.{length}
 use Rattle.meaning.specs.declared.Limits.{Limits}
-use Rattle.meaning.specs.Base.{ascii, same, less, else}
-use Rattle.meaning.specs.Refusal.{R, ok, bad, Answer, accepted, refused, after, told, inBoard, inImage, inPartition, inComponent, inApplication}
+use Rattle.meaning.specs.Base.{ascii, same, less, orDefault}
+use Rattle.meaning.specs.Refusal.{R, ok, bad, Answer, accepted, refused, acceptedThen, told, inBoard, inImage, inPartition, inComponent, inApplication}
 use Rattle.meaning.specs.Tree.{Value, Items, Table, none′, item, empty, entry, asTable}
 use Rattle.meaning.specs.Order.{ranked, sorted}
 use Rattle.meaning.specs.Schema.{Partition, Component, Application, Preset}
@@ -27,12 +27,12 @@ Tells P (accepted x) = P x
 Tells P (refused f s p) = Unit {0}
 
 module _ {X : Type 0} where
-  after-tells : {Y : Type 0} (P : X → Type 0) (Q : Y → Type 0) (a : Answer X) (k : X → Answer Y) → Tells P a → ((x : X) → P x → Tells Q (k x)) → Tells Q (after a k)
+  after-tells : {Y : Type 0} (P : X → Type 0) (Q : Y → Type 0) (a : Answer X) (k : X → Answer Y) → Tells P a → ((x : X) → P x → Tells Q (k x)) → Tells Q (acceptedThen a k)
   after-tells P Q (accepted x) k h g = g x h
   after-tells P Q (refused f s p) k h g = tt
 
   -- nothing is known of what comes first
-  pass : {Y : Type 0} (Q : Y → Type 0) (a : Answer X) (k : X → Answer Y) → ((x : X) → Tells Q (k x)) → Tells Q (after a k)
+  pass : {Y : Type 0} (Q : Y → Type 0) (a : Answer X) (k : X → Answer Y) → ((x : X) → Tells Q (k x)) → Tells Q (acceptedThen a k)
   pass Q (accepted x) k g = g x
   pass Q (refused f s p) k g = tt
 
@@ -121,12 +121,12 @@ module _ (root : Table) where
       first none h = weaker (λ p. size weightAll p ≤ held root many) (λ p. size weightAll p ≤ eitherHeld one many) (field anArray root many) (arrayed many) (λ p g. omega arith)
       first (some is) h = omega arith
 
-      got : (o : Option Items) → size weightAll o ≤ eitherHeld one many → sum weight (values (else o none′)) ≤ eitherHeld one many
+      got : (o : Option Items) → size weightAll o ≤ eitherHeld one many → sum weight (values (orDefault o none′)) ≤ eitherHeld one many
       got none h = omega arith
       got (some is) h = omega (arith, values-weigh is)
 
   list-tells : {X : Type 0} (c limit section : ℕ) (f : X → ℕ) (read : Table → R X) → ((t : Table) → Says (λ x. f x ≤ c + weightIn t) (read t)) → (one many : List ℕ)
-      → Tells (λ xs. sum f xs ≤ limit * c + eitherHeld one many) (after (outside section (listAt root one many)) (listed (tabled read) section limit))
+      → Tells (λ xs. sum f xs ≤ limit * c + eitherHeld one many) (acceptedThen (outside section (listAt root one many)) (listed (tabled read) section limit))
   list-tells c limit section f read h one many =
       after-tells (λ vs. sum weight vs ≤ eitherHeld one many) (λ xs. sum f xs ≤ limit * c + eitherHeld one many) (outside section (listAt root one many)) _
       (told-tells (λ vs. sum weight vs ≤ eitherHeld one many) section 0 (listAt root one many) (list-says one many))

@@ -7,8 +7,8 @@ use mathlib.Core.Path.{_≡_, refl, sym, subst}
 use native.Mathlib.Omega.{arith}
 use lib.Dec.{eqb}
 use lib.ListN.{length, length-take}
-use Rattle.meaning.specs.Base.{pick, ascii, same, else, or, cut, onFirst}
-use Rattle.meaning.specs.Refusal.{R, ok, bad, via}
+use Rattle.meaning.specs.Base.{pick, ascii, same, orDefault, firstGiven, cut, onFirst}
+use Rattle.meaning.specs.Refusal.{R, ok, bad, okThen}
 use Rattle.meaning.specs.Tree.{Value, Table, empty, entry, lookup, asString, asTable, asArray}
 use Rattle.meaning.specs.Schema.{Chip, Board, Partition, Head, Role, Boot, Component, Application, kindOf, kindRaw, targetFor}
 use Rattle.meaning.specs.Verdict.{among}
@@ -62,12 +62,12 @@ Says P (ok x) = P x
 Says P (bad n) = Unit {0}
 
 module _ {X : Type 0} where
-  pub via-says : {Y : Type 0} (P : X → Type 0) (Q : Y → Type 0) (a : R X) (k : X → R Y) → Says P a → ((x : X) → P x → Says Q (k x)) → Says Q (via a k)
+  pub via-says : {Y : Type 0} (P : X → Type 0) (Q : Y → Type 0) (a : R X) (k : X → R Y) → Says P a → ((x : X) → P x → Says Q (k x)) → Says Q (okThen a k)
   via-says P Q (ok x) k h g = g x h
   via-says P Q (bad n) k h g = tt
 
   -- nothing is known of what comes first
-  skip : {Y : Type 0} (Q : Y → Type 0) (a : R X) (k : X → R Y) → ((x : X) → Says Q (k x)) → Says Q (via a k)
+  skip : {Y : Type 0} (Q : Y → Type 0) (a : R X) (k : X → R Y) → ((x : X) → Says Q (k x)) → Says Q (okThen a k)
   skip Q (ok x) k g = g x
   skip Q (bad n) k g = tt
 
@@ -105,7 +105,7 @@ module _ {X : Type 0} (f : X → ℕ) (way : Value → R X) (says : (v : Value) 
   pub defaulted-says : (d : X) → Says (λ x. f x ≤ f d + held t k) (defaulted way d t k)
   defaulted-says d = via-says (λ o. size f o ≤ held t k) (λ x. f x ≤ f d + held t k) (field way t k) _ field-says go
     where
-      go : (o : Option X) → size f o ≤ held t k → f (else o d) ≤ f d + held t k
+      go : (o : Option X) → size f o ≤ held t k → f (orDefault o d) ≤ f d + held t k
       go none h = omega arith
       go (some x) h = omega arith
 
@@ -143,7 +143,7 @@ file-short none = omega arith
 file-short (some s) =
     omega (arith, stemmed-short (notUp (lastPiece none (cut 47 s))), up-short (lastPiece none (cut 47 s)), last-short (length s) (cut 47 s) none (omega arith) (pieces-short 47 s))
 
-or-short : (n : ℕ) (o p : Option (List ℕ)) → size length o ≤ n → size length p ≤ n → size length (or o p) ≤ n
+or-short : (n : ℕ) (o p : Option (List ℕ)) → size length o ≤ n → size length p ≤ n → size length (firstGiven o p) ≤ n
 or-short n none p h g = g
 or-short n (some x) p h g = h
 
@@ -237,7 +237,7 @@ module _ (t : Table) where
       three : held t (ascii "package") + (held t (ascii "bin") + (held t (ascii "file") + 0)) ≤ weightIn t
       three = held-weighs t (ascii "package" ∷ ascii "bin" ∷ ascii "file" ∷ []) (refl, (refl, (refl, tt)))
 
-      stem : (head : Head) → Headed t head → size length (or (head .pack) (or (head .bin) (stemOfFile (head .file)))) ≤ weightIn t
+      stem : (head : Head) → Headed t head → size length (firstGiven (head .pack) (firstGiven (head .bin) (stemOfFile (head .file)))) ≤ weightIn t
       stem head h =
           or-short (weightIn t) (head .pack) _ (omega (arith, h .pack, three))
           (or-short (weightIn t) (head .bin) _ (omega (arith, h .bin, three)) (omega (arith, file-short (head .file), h .file, three)))

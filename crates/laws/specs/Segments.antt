@@ -8,7 +8,7 @@ use lib.ListN.{length, getD, take, drop}
 use Rattle.meaning.specs.declared.Act.{Act}
 use Rattle.meaning.specs.declared.Act.the-variants.{End, Hold, Put, Fault}
 use Rattle.meaning.specs.Base.{nil?, cut, onFirst, final}
-use Rattle.meaning.specs.Refusal.{R, ok, bad, via}
+use Rattle.meaning.specs.Refusal.{R, ok, bad, okThen}
 use Rattle.meaning.specs.Space.{trim}
 use Rattle.meaning.specs.Strings.{Ending, closed, escape, unended, Said, act, go, decode, byEnd}
 use Rattle.meaning.specs.Keys.{nonempty, quoted, segment, segments, keys}
@@ -121,11 +121,11 @@ segments-named n [] h = tt
 segments-named zero (p ∷ ps) h = tt
 segments-named (suc n) (p ∷ ps) h = one (segment (trim p)) (segments n ps) (segment-named (trim p) (trim-without 46 p (h .0))) (segments-named n ps (h .1))
   where
-    others : (k : List ℕ) (r : R (List (List ℕ))) → Named k → Reads AllNamed r → Reads AllNamed (via r (λ ks. ok (k ∷ ks)))
+    others : (k : List ℕ) (r : R (List (List ℕ))) → Named k → Reads AllNamed r → Reads AllNamed (okThen r (λ ks. ok (k ∷ ks)))
     others k (ok ks) a b = (a, b)
     others k (bad e) a b = tt
 
-    one : (q : R (List ℕ)) (r : R (List (List ℕ))) → Reads Named q → Reads AllNamed r → Reads AllNamed (via q (λ k. via r (λ ks. ok (k ∷ ks))))
+    one : (q : R (List ℕ)) (r : R (List (List ℕ))) → Reads Named q → Reads AllNamed r → Reads AllNamed (okThen q (λ k. okThen r (λ ks. ok (k ∷ ks))))
     one (ok k) r a b = others k r a b
     one (bad e) r a b = tt
 

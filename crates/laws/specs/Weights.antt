@@ -9,8 +9,8 @@ use lib.IntN.{ℤ}
 use lib.ListN.{length, getD, take, drop, length-append}
 use Rattle.meaning.specs.declared.Limits.{Limits}
 use Rattle.meaning.specs.Base.{same, ascii, nil?, final, concat}
-use Rattle.meaning.specs.Refusal.{R, ok, bad, via, Answer, accepted, refused, after}
-use Rattle.meaning.specs.Reading.{Grown, grown, stuck, Got, got, not, then, turn, storing, adding, onward, change, having, grows, make}
+use Rattle.meaning.specs.Refusal.{R, ok, bad, okThen, Answer, accepted, refused, acceptedThen}
+use Rattle.meaning.specs.Reading.{Grown, grown, stuck, Got, got, failed, growThen, growMap, storing, adding, gotThen, gotMap, okThenGot, growThenGot, make}
 use Rattle.meaning.specs.Tree.{Value, Items, Table, str, int, boolean, array, table, none′, item, empty, entry, Grow, lookup, insert, snoc, hang, down, toLast, known, stands, within, inLast, atArray, atKey, underLast, put, enter, orMake, ensure, pushTo, addTo, pushOne, push, assign, asString, asTable, asArray}
 use Rattle.meaning.specs.Integers.{integer}
 use Rattle.meaning.specs.Keys.{keys}
@@ -53,14 +53,14 @@ Grew P (stuck e) = Unit {0}
 -- the measure f of what is read is at most n and the bytes added
 abbrev Paid : {X : Type 0} → (X → ℕ) → ℕ → Got X → Type 0
 Paid f n (got x bs m) = f x ≤ n + length bs
-Paid f n (not e) = Unit {0}
+Paid f n (failed e) = Unit {0}
 
 module _ {X : Type 0} (P : X → Type 0) where
-  then-grew : {Y : Type 0} (Q : Y → Type 0) (a : Grown X) (k : X → ℕ → Grown Y) → Grew P a → ((x : X) (m : ℕ) → P x → Grew Q (k x m)) → Grew Q (then a k)
+  then-grew : {Y : Type 0} (Q : Y → Type 0) (a : Grown X) (k : X → ℕ → Grown Y) → Grew P a → ((x : X) (m : ℕ) → P x → Grew Q (k x m)) → Grew Q (growThen a k)
   then-grew Q (grown x m) k h g = g x m h
   then-grew Q (stuck e) k h g = tt
 
-  turn-grew : {Y : Type 0} (Q : Y → Type 0) (f : X → Y) (a : Grown X) → Grew P a → ((x : X) → P x → Q (f x)) → Grew Q (turn f a)
+  turn-grew : {Y : Type 0} (Q : Y → Type 0) (f : X → Y) (a : Grown X) → Grew P a → ((x : X) → P x → Q (f x)) → Grew Q (growMap f a)
   turn-grew Q f (grown x m) h g = g x h
   turn-grew Q f (stuck e) h g = tt
 
@@ -75,23 +75,23 @@ module _ {X : Type 0} (f : X → ℕ) (n : ℕ) where
 
   added-paid : (k : ℕ) (bs : List ℕ) (a : Got X) → k ≤ n + length bs → Paid f k a → Paid f n (adding bs a)
   added-paid k bs (got x cs m) h g = omega (arith, length-append bs cs)
-  added-paid k bs (not e) h g = tt
+  added-paid k bs (failed e) h g = tt
 
 module _ {X Y : Type 0} (f : X → ℕ) (g : Y → ℕ) (n : ℕ) where
-  onward-paid : (a : Got X) (k : X → ℕ → Got Y) → Paid f n a → ((x : X) (m : ℕ) → Paid g (f x) (k x m)) → Paid g n (onward a k)
+  onward-paid : (a : Got X) (k : X → ℕ → Got Y) → Paid f n a → ((x : X) (m : ℕ) → Paid g (f x) (k x m)) → Paid g n (gotThen a k)
   onward-paid (got x bs m) k h p = added-paid g n (f x) bs (k x m) h (p x m)
-  onward-paid (not e) k h p = tt
+  onward-paid (failed e) k h p = tt
 
-  change-paid : (h : X → Y) (a : Got X) → Paid f n a → ((x : X) → g (h x) ≤ f x) → Paid g n (change h a)
+  change-paid : (h : X → Y) (a : Got X) → Paid f n a → ((x : X) → g (h x) ≤ f x) → Paid g n (gotMap h a)
   change-paid h (got x bs m) p l = omega (arith, l x)
-  change-paid h (not e) p l = tt
+  change-paid h (failed e) p l = tt
 
 module _ {X Y : Type 0} (g : Y → ℕ) (n : ℕ) where
-  having-paid : (a : R X) (k : X → Got Y) → ((x : X) → Paid g n (k x)) → Paid g n (having a k)
+  having-paid : (a : R X) (k : X → Got Y) → ((x : X) → Paid g n (k x)) → Paid g n (okThenGot a k)
   having-paid (ok x) k p = p x
   having-paid (bad e) k p = tt
 
-  grows-paid : (a : Grown X) (k : X → ℕ → Got Y) → ((x : X) (m : ℕ) → Paid g n (k x m)) → Paid g n (grows a k)
+  grows-paid : (a : Grown X) (k : X → ℕ → Got Y) → ((x : X) (m : ℕ) → Paid g n (k x m)) → Paid g n (growThenGot a k)
   grows-paid (grown x m) k p = p x m
   grows-paid (stuck e) k p = tt
 
@@ -159,7 +159,7 @@ abbrev Goes : (List ℕ → ℕ) → Table → List ℕ → Table → Type 0
 Goes price t k u = (w : Table) → weightIn (hang t k w) + weightIn u ≤ weightIn t + price k + weightIn w
 
 module _ (price : List ℕ → ℕ) (step : Option Value → Grow Table) (goes : (t : Table) (k : List ℕ) (m : ℕ) → Grew (Goes price t k) (step (lookup t k) m)) where
-  deeper : (n : ℕ) (f : Table → Grow Table) (k : List ℕ) → Adds n f → Adds (price k + n) (λ t m. then (step (lookup t k) m) (λ u i. turn (hang t k) (f u i)))
+  deeper : (n : ℕ) (f : Table → Grow Table) (k : List ℕ) → Adds n f → Adds (price k + n) (λ t m. growThen (step (lookup t k) m) (λ u i. growMap (hang t k) (f u i)))
   deeper n f k h t m =
       then-grew (Goes price t k) (λ u. weightIn u ≤ weightIn t + (price k + n)) (step (lookup t k) m) _ (goes t k m)
       (λ u i g. turn-grew (λ w. weightIn w ≤ weightIn u + n) (λ w. weightIn w ≤ weightIn t + (price k + n)) (hang t k) (f u i) (h u i) (λ w l. omega (arith, g w)))
@@ -233,12 +233,12 @@ module _ (n : ℕ) (f : Table → Grow Table) (adds : Adds n f) where
   inLast-adds none′ m = tt
   inLast-adds (item v none′) m = go (asTable v) (table-weighs v)
     where
-      in-table : (t : Table) → weightIn t ≤ weight v → Grew (λ w. weight w ≤ weight v + n) (turn table (f t m))
+      in-table : (t : Table) → weightIn t ≤ weight v → Grew (λ w. weight w ≤ weight v + n) (growMap table (f t m))
       in-table t l = turn-grew (λ u. weightIn u ≤ weightIn t + n) (λ w. weight w ≤ weight v + n) table (f t m) (adds t m) (λ u h. omega arith)
 
-      go : (q : Option Table) → size weightIn q ≤ weight v → Grew (λ js. weightAll js ≤ weight v + 0 + n) (turn (λ w. item w none′) (within f q m))
+      go : (q : Option Table) → size weightIn q ≤ weight v → Grew (λ js. weightAll js ≤ weight v + 0 + n) (growMap (λ w. item w none′) (within f q m))
       go none l = tt
-      go (some t) l = turn-grew (λ w. weight w ≤ weight v + n) (λ js. weightAll js ≤ weight v + 0 + n) (λ w. item w none′) (turn table (f t m)) (in-table t l) (λ w h. omega arith)
+      go (some t) l = turn-grew (λ w. weight w ≤ weight v + n) (λ js. weightAll js ≤ weight v + 0 + n) (λ w. item w none′) (growMap table (f t m)) (in-table t l) (λ w h. omega arith)
   inLast-adds (item v (item w is)) m =
       turn-grew (λ js. weightAll js ≤ weightAll (item w is) + n) (λ js. weightAll js ≤ weight v + weightAll (item w is) + n) (item v) (inLast f (item w is) m)
       (inLast-adds (item w is) m) (λ js h. omega arith)
@@ -286,11 +286,11 @@ module _ (limit : ℕ) where
   unfolding aPlain plain
   plain-paid s n m = light (plain s) (picked Light (same s (ascii "true")) (λ _. omega arith) (λ _. picked Light (same s (ascii "false")) (λ _. omega arith) (λ _. number (integer s))))
     where
-      number : (r : R ℤ) → Light (via r (λ i. ok (int i)))
+      number : (r : R ℤ) → Light (okThen r (λ i. ok (int i)))
       number (ok i) = omega arith
       number (bad e) = tt
 
-      light : (a : R Value) → Light a → Paid (λ v. n + weight v) n (having a (λ v. storing [] (make limit v m)))
+      light : (a : R Value) → Light a → Paid (λ v. n + weight v) n (okThenGot a (λ v. storing [] (make limit v m)))
       light (ok v) h = made-paid n m [] v h
       light (bad e) h = tt
 
@@ -331,10 +331,10 @@ Weighed n (refused f s p) = Unit {0}
 module _ (lim : Limits) where
   -- a path's segments are stored and pay for themselves; i is what stands at its end
   path-paid : (n i b : ℕ) → n + i ≤ b → (u : List (List ℕ) → Under) (k : List ℕ) (f : List (List ℕ) → Grown Table) → ((p : List (List ℕ)) → Grew (λ t. weightIn t ≤ n + along length i p) (f p))
-      → Paid rootOf b (having (keys (lim .segments) k) (λ p. storing (concat p) (turn (λ t. record { root = t; under = u p }) (f p))))
+      → Paid rootOf b (okThenGot (keys (lim .segments) k) (λ p. storing (concat p) (growMap (λ t. record { root = t; under = u p }) (f p))))
   path-paid n i b l u k f h =
       having-paid rootOf b (keys (lim .segments) k) _
-      (λ p. stored-paid rootOf b (concat p) (turn (λ t. record { root = t; under = u p }) (f p))
+      (λ p. stored-paid rootOf b (concat p) (growMap (λ t. record { root = t; under = u p }) (f p))
       (turn-grew (λ t. weightIn t ≤ n + along length i p) (λ d. rootOf d ≤ b + length (concat p)) (λ t. record { root = t; under = u p }) (f p) (h p) (λ t g. omega (arith, along-stored i p))))
 
   act-paid : (f : Form) (d : Doc) (m : ℕ) → Paid rootOf (rootOf d) (act lim f d m)
@@ -354,14 +354,14 @@ module _ (lim : Limits) where
 
   reading-weighs : (at n : ℕ) (g : Got Doc) (k : Doc → ℕ → Answer Parsed) → Paid rootOf n g → ((e : Doc) (i : ℕ) → Weighed (rootOf e) (k e i)) → Weighed n (reading at g k)
   reading-weighs at n (got e bs i) k h w = behind-weighs n (rootOf e) bs (k e i) h (w e i)
-  reading-weighs at n (not f) k h w = tt
+  reading-weighs at n (failed f) k h w = tt
 
   lines-weigh : (ls : List Line) (d : Doc) (m : ℕ) → Weighed (rootOf d) (lines lim d ls m)
   lines-weigh [] d m = omega arith
   lines-weigh (l ∷ ls) d m =
       reading-weighs (l .at) (rootOf d) (act lim (form (trim (l .text))) d m) _ (act-paid (form (trim (l .text))) d m) (λ e i. lines-weigh ls e i)
 
-  joined-weigh : (a : Answer (List Line)) → Weighed 0 (after a (λ ls. lines lim (record { root = empty; under = tables [] }) ls 0))
+  joined-weigh : (a : Answer (List Line)) → Weighed 0 (acceptedThen a (λ ls. lines lim (record { root = empty; under = tables [] }) ls 0))
   joined-weigh (accepted ls) = lines-weigh ls (record { root = empty; under = tables [] }) 0
   joined-weigh (refused e s p) = tt
 

@@ -13,7 +13,7 @@ use Rattle.meaning.specs.Refusal.{accepted, refused, numbered, inPartition}
 use Rattle.meaning.specs.Schema as schemas
 use Rattle.meaning.specs.Layout as meant
 use Rattle.meaning.specs.Verdict as verdicts
-use Rattle.meaning.specs.Verdict.{Verdict, fine, and, orElse, among, behind, inTurn}
+use Rattle.meaning.specs.Verdict.{Verdict, fine, firstRefusal, orElse, among, behind, inTurn}
 use Rattle.laws.specs.Cases.{on}
 use Rattle.schema.specs.declared.Partition.{Partition}
 use Rattle.layout.specs.declared.Mark.{Mark}
@@ -72,7 +72,7 @@ module _ (section : ℕ) (r : Fault) (v : Verdict) (h : Says section r v) where
 said-judged : (section place n : ℕ) → Says section (faultOf (verdicts.judged section place n)) (verdicts.judged section place n)
 said-judged section place n = on (eqb n 0) (λ e. rw e) (λ e. rw (e, e))
 
-said-and : (section : ℕ) (v w : Verdict) → Says section (faultOf v) v → Says section (faultOf w) w → Says section (faultOf (and v w)) (and v w)
+said-and : (section : ℕ) (v w : Verdict) → Says section (faultOf v) v → Says section (faultOf w) w → Says section (faultOf (firstRefusal v w)) (firstRefusal v w)
 said-and section (accepted u) w a b = b
 said-and section (refused f s p) w a b = a
 
@@ -113,7 +113,7 @@ layout-verdict chip ps r e = rw e (layout-said chip ps)
 -- ---- the twin first
 
 module _ (section i f : ℕ) (r : Fault) (v : Verdict) where
-  step-fault : (f ≡ 0 → r ≡ faultOf v) → pick (eqb f 0) r (record { number = f; place = i }) ≡ faultOf (and (verdicts.judged section i f) v)
+  step-fault : (f ≡ 0 → r ≡ faultOf v) → pick (eqb f 0) r (record { number = f; place = i }) ≡ faultOf (firstRefusal (verdicts.judged section i f) v)
   step-fault h = on (eqb f 0) (λ e. rw e (h (eqb-true f 0 e))) (λ e. rw e)
 
 any-among : (bytes : List ℕ) (m : Mark) (es : List Mark) → anyOf (sameName bytes m) es ≡ among (named bytes m) (map (named bytes) es)

@@ -2,7 +2,19 @@
 
 use libc::STDIN_FILENO;
 use libc::STDOUT_FILENO;
+use meaning::TEXT_BYTES;
 use preset::listing::Listed;
+
+// The name that a preset without one is given.
+const NAME: &[u8; 5] = b"board";
+// One byte more than a text may have, so that a longer one is told from it.
+const INPUT_BYTES: usize = TEXT_BYTES + 1;
+
+const TREE_BYTES: usize = tree::VALUE_BYTES * meaning::VALUES;
+
+const OUTPUT_BYTES: usize = preset::listing::LISTING_BYTES + 5;
+// `refused` and three numbers need no more.
+const REFUSAL_BYTES: usize = 96;
 
 // The first n bytes of a room.
 fn print(room: &[u8], n: usize) {
@@ -13,7 +25,7 @@ fn print(room: &[u8], n: usize) {
 
 // `refused`, number, section, place.
 fn refuse(r: Listed) {
-    let mut room = [0u8; 96];
+    let mut room = [0u8; REFUSAL_BYTES];
     let n = report::line::refused(&mut room, 0, r.number, r.section, r.place);
     print(&room, n);
 }
@@ -31,15 +43,15 @@ fn drain() {
 }
 
 fn main() {
-    let mut input = [0u8; 32769];
+    let mut input = [0u8; INPUT_BYTES];
     let n = io::read_full(STDIN_FILENO, &mut input);
-    if n == 32769 {
+    if n == INPUT_BYTES {
         drain();
     }
-    let mut store = [0u8; 32768];
-    let mut tree = [0u8; 65536];
-    let mut out = [0u8; 73733];
-    let r = preset::listing::listing(&input[..n], b"board", &mut store, &mut tree, &mut out);
+    let mut store = [0u8; TEXT_BYTES];
+    let mut tree = [0u8; TREE_BYTES];
+    let mut out = [0u8; OUTPUT_BYTES];
+    let r = preset::listing::listing(&input[..n], NAME, &mut store, &mut tree, &mut out);
     if r.number == 0 {
         print(&out, r.written);
     } else {

@@ -23,14 +23,14 @@ nil? [] = true
 nil? (x ∷ xs) = false
 
 -- what is there, or d
-abbrev pub else {ℓ} : {X : Type ℓ} → Option X → X → X
-else none d = d
-else (some x) d = x
+abbrev pub orDefault {ℓ} : {X : Type ℓ} → Option X → X → X
+orDefault none d = d
+orDefault (some x) d = x
 
 -- the first of two that is there
-abbrev pub or {ℓ} : {X : Type ℓ} → Option X → Option X → Option X
-or none p = p
-or (some x) p = some x
+abbrev pub firstGiven {ℓ} : {X : Type ℓ} → Option X → Option X → Option X
+firstGiven none p = p
+firstGiven (some x) p = some x
 
 -- two byte strings are the same
 abbrev pub same : List ℕ → List ℕ → Bool

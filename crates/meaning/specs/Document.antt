@@ -6,13 +6,13 @@ use lib.Dec.{eqb, ltb}
 use lib.ListN.{length, getD, take, drop}
 use Rattle.meaning.specs.Base.{pick, nil?, final, concat}
 use Rattle.meaning.specs.Limits.{Limits}
-use Rattle.meaning.specs.Refusal.{Answer, accepted, refused, after, numbered, inText, atNoLine}
+use Rattle.meaning.specs.Refusal.{Answer, accepted, refused, acceptedThen, numbered, inText, atNoLine}
 use Rattle.meaning.specs.Utf8.{valid}
 use Rattle.meaning.specs.Space.{trim}
 use Rattle.meaning.specs.Quote.{upTo}
 use Rattle.meaning.specs.Lines.{Line, joined}
 use Rattle.meaning.specs.Keys.{keys}
-use Rattle.meaning.specs.Reading.{Grown, Got, got, not, storing, onward, having, turn}
+use Rattle.meaning.specs.Reading.{Grown, Got, got, failed, storing, gotThen, okThenGot, growMap}
 use Rattle.meaning.specs.Tree.{Table, empty, Grow, down, toLast, known, underLast, ensure, push, assign}
 use Rattle.meaning.specs.Values.{value, Reader}
 
@@ -67,31 +67,31 @@ pub record Parsed : Type 0 where
 
 -- bytes bs before
 abbrev pub behind : List ℕ → Answer Parsed → Answer Parsed
-behind bs a = after a (λ r. accepted (record { root = r .root; bytes = bs ++ r .bytes; made = r .made }))
+behind bs a = acceptedThen a (λ r. accepted (record { root = r .root; bytes = bs ++ r .bytes; made = r .made }))
 
 -- one line's outcome, then the rest's; a fault is told at the line where the joined line starts
 abbrev pub reading : ℕ → Got Doc → (Doc → ℕ → Answer Parsed) → Answer Parsed
 reading at (got d bs m) k = behind bs (k d m)
-reading at (not f) k = refused f inText at
+reading at (failed f) k = refused f inText at
 
 module _ (lim : Limits) where
   -- a key or a header: its segments go to the store from left to right, and f goes on with them
   abbrev pub path : List ℕ → (List (List ℕ) → Grown Doc) → Got Doc
-  path s f = having (keys (lim .segments) s) (λ p. storing (concat p) (f p))
+  path s f = okThenGot (keys (lim .segments) s) (λ p. storing (concat p) (f p))
 
   -- "an assignment stores its value's strings first, then its key's segments"; 6: "nothing before `=`"
   unfoldable pub setting : List ℕ → List ℕ → Doc → Reader Doc
   setting k v d made =
-      pick (nil? k) (not (numbered 6))
-      (onward (value (lim .values) (lim .arrays) v made) (λ x m.
-      path k (λ p. turn (λ t. record { root = t; under = d .under }) (here (d .under) (assign (lim .values) p x) (d .root) m))))
+      pick (nil? k) (failed (numbered 6))
+      (gotThen (value (lim .values) (lim .arrays) v made) (λ x m.
+      path k (λ p. growMap (λ t. record { root = t; under = d .under }) (here (d .under) (assign (lim .values) p x) (d .root) m))))
 
   -- one line; 5: "neither header nor assignment"
   unfoldable pub act : Form → Doc → Reader Doc
-  act (pushes k) d made = path k (λ p. turn (λ t. record { root = t; under = arrays p }) (push (lim .values) p (d .root) made))
-  act (heads k) d made = path k (λ p. turn (λ t. record { root = t; under = tables p }) (ensure (lim .values) p (d .root) made))
+  act (pushes k) d made = path k (λ p. growMap (λ t. record { root = t; under = arrays p }) (push (lim .values) p (d .root) made))
+  act (heads k) d made = path k (λ p. growMap (λ t. record { root = t; under = tables p }) (ensure (lim .values) p (d .root) made))
   act (sets k v) d made = setting (trim k) v d made
-  act neither d made = not (numbered 5)
+  act neither d made = failed (numbered 5)
 
   -- "then line by line"
   abbrev pub lines : Doc → List Line → ℕ → Answer Parsed
@@ -102,7 +102,7 @@ module _ (lim : Limits) where
   unfoldable pub document : List ℕ → Answer Parsed
   document s =
       pick (ltb (lim .text) (length s)) (atNoLine 1)
-      (pick (valid s) (after (joined s) (λ ls. lines (record { root = empty; under = tables [] }) ls 0))
+      (pick (valid s) (acceptedThen (joined s) (λ ls. lines (record { root = empty; under = tables [] }) ls 0))
       (atNoLine 2))
 
   -- 17: "a lent room is too small", by its length alone: a store for the longest text, and a tree room for the most values of so many bytes each

@@ -5,7 +5,7 @@ use mathlib.Core.List.{List, [], _∷_}
 use lib.Dec.{eqb, ltb}
 use lib.ListN.{length}
 use Rattle.meaning.specs.Base.{pick, nil?, same, less, split}
-use Rattle.meaning.specs.Refusal.{R, ok, bad, via}
+use Rattle.meaning.specs.Refusal.{R, ok, bad, okThen}
 use Rattle.meaning.specs.Tree.{Value, Items, str, int, boolean, array, table, none′, item, count}
 use Rattle.meaning.specs.Fields.{aText}
 
@@ -25,7 +25,7 @@ words s = filled (split (tt {0}) (λ u b. u) (λ u b. gap b) (tt {0}) s)
 -- "an array of strings, empty ones kept"; 20: "feature item, of the wrong kind"
 abbrev pub texts : Items → R (List (List ℕ))
 texts none′ = ok []
-texts (item v is) = via (aText v) (λ s. via (texts is) (λ ss. ok (s ∷ ss)))
+texts (item v is) = okThen (aText v) (λ s. okThen (texts is) (λ ss. ok (s ∷ ss)))
 
 -- x among items in byte order: before the first above it, or in the place of the same
 abbrev pub placed : List ℕ → List (List ℕ) → List (List ℕ)
@@ -39,7 +39,7 @@ ordered (x ∷ xs) = placed x (ordered xs)
 
 -- 25: "Items in one feature list, before duplicates drop", n of them; "List length is checked before entries."
 abbrev pub counted : ℕ → ℕ → R (List (List ℕ)) → R (List (List ℕ))
-counted limit n r = pick (ltb limit n) (bad 25) (via r (λ ss. ok (ordered ss)))
+counted limit n r = pick (ltb limit n) (bad 25) (okThen r (λ ss. ok (ordered ss)))
 
 -- a feature list, where limit items are allowed
 unfoldable pub aFeatures : ℕ → Value → R (List (List ℕ))

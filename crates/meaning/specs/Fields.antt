@@ -6,8 +6,8 @@ use mathlib.Core.Option.{Option, none, some}
 use lib.Dec.{leb, ltb}
 use lib.IntN.{ℤ, pos, negsuc}
 use lib.ListN.{length}
-use Rattle.meaning.specs.Base.{pick, else}
-use Rattle.meaning.specs.Refusal.{R, ok, bad, via, Answer, accepted, refused, after, told, numbered}
+use Rattle.meaning.specs.Base.{pick, orDefault}
+use Rattle.meaning.specs.Refusal.{R, ok, bad, okThen, Answer, accepted, refused, acceptedThen, told, numbered}
 use Rattle.meaning.specs.Tree.{Value, Items, Table, none′, item, empty, entry, asString, asInt, asBool, asArray, asTable, lookup}
 
 -- ---- a value of a kind
@@ -37,18 +37,18 @@ inRange (negsuc n) = bad 21
 
 -- an integer of the right kind, then in its range
 unfoldable pub aNumber : Value → R ℕ
-aNumber v = via (need 20 (asInt v)) inRange
+aNumber v = okThen (need 20 (asInt v)) inRange
 
 -- a text, then one of some words: 20 before 22
 abbrev pub aWord : {X : Type 0} → (List ℕ → R X) → Value → R X
-aWord of v = via (aText v) of
+aWord of v = okThen (aText v) of
 
 -- ---- a field
 
 -- a value read in one way; none where there is none
 abbrev pub present : {X : Type 0} → (Value → R X) → Option Value → R (Option X)
 present way none = ok none
-present way (some v) = via (way v) (λ x. ok (some x))
+present way (some v) = okThen (way v) (λ x. ok (some x))
 
 -- the field k of a table, read in one way; none where it is absent. Every field is read by this
 unfoldable pub field : {X : Type 0} → (Value → R X) → Table → List ℕ → R (Option X)
@@ -56,11 +56,11 @@ field way t k = present way (lookup t k)
 
 -- "Defaults are the source's."
 abbrev pub defaulted : {X : Type 0} → (Value → R X) → X → Table → List ℕ → R X
-defaulted way d t k = via (field way t k) (λ o. ok (else o d))
+defaulted way d t k = okThen (field way t k) (λ o. ok (orDefault o d))
 
 -- 24: "missing `name`, `offset` or `size`". "A missing field is told at its turn."
 abbrev pub required : {X : Type 0} → (Value → R X) → Table → List ℕ → R X
-required way t k = via (field way t k) (need 24)
+required way t k = okThen (field way t k) (need 24)
 
 -- ---- tables and lists at the root
 
@@ -91,18 +91,18 @@ orThen r (some x) = ok (some x)
 -- "`partitions` and `components` are taken only where the singular is absent."
 unfoldable pub listAt : Table → List ℕ → List ℕ → R (List Value)
 listAt root one many =
-    via (field anArray root one) (λ single. via (orThen (field anArray root many) single) (λ found. ok (values (else found none′))))
+    okThen (field anArray root one) (λ single. okThen (orThen (field anArray root many) single) (λ found. ok (values (orDefault found none′))))
 
 -- ---- entries
 
 -- 23: "list entry or application not a table"
 unfoldable pub tabled : {X : Type 0} → (Table → R X) → Value → R X
-tabled read v = via (need 23 (asTable v)) read
+tabled read v = okThen (need 23 (asTable v)) read
 
 -- one entry after the other, the first of which is entry n; a refusal is told at its entry
 abbrev pub each : {A X : Type 0} → (A → R X) → ℕ → ℕ → List A → Answer (List X)
 each read section n [] = accepted []
-each read section n (a ∷ rest) = after (told section n (read a)) (λ x. after (each read section (n + 1) rest) (λ xs. accepted (x ∷ xs)))
+each read section n (a ∷ rest) = acceptedThen (told section n (read a)) (λ x. acceptedThen (each read section (n + 1) rest) (λ xs. accepted (x ∷ xs)))
 
 -- 25: "list too long (place: first entry over ..)". "List length is checked before entries."
 unfoldable pub listed : {A X : Type 0} → (A → R X) → ℕ → ℕ → List A → Answer (List X)

@@ -7,7 +7,7 @@ use lib.IntN.{ℤ, pos, negℤ}
 use lib.ListN.{getD, drop}
 pub use Rattle.meaning.specs.declared.Signed.{Signed}
 use Rattle.meaning.specs.Base.{pick, nil?}
-use Rattle.meaning.specs.Refusal.{R, ok, bad, via}
+use Rattle.meaning.specs.Refusal.{R, ok, bad, okThen}
 
 -- what a digit 0 to 9, A to F or a to f counts; 99, which is over every base, for no digit
 unfoldable pub digit : ℕ → ℕ
@@ -31,11 +31,11 @@ most false = 2 ^ 63 - 1
 
 -- "within .. range"
 unfoldable pub within : ℕ → R ℕ → R ℕ
-within limit r = via r (λ n. pick (ltb limit n) (bad 12) (ok n))
+within limit r = okThen r (λ n. pick (ltb limit n) (bad 12) (ok n))
 
 -- "at least one digit, within 64-bit signed range"
 unfoldable pub magnitude : Bool → ℕ → List ℕ → R Signed
-magnitude neg base s = pick (nil? s) (bad 12) (via (within (most neg) (value base 0 s)) (λ n. ok (record { neg = neg; mag = n })))
+magnitude neg base s = pick (nil? s) (bad 12) (okThen (within (most neg) (value base 0 s)) (λ n. ok (record { neg = neg; mag = n })))
 
 -- "then an optional sign": `-` or `+`
 unfoldable pub sign : ℕ → List ℕ → R Signed
@@ -60,7 +60,7 @@ numberOf false n = pos n
 
 -- the integer that s is, or 12
 unfoldable pub integer : List ℕ → R ℤ
-integer s = via (signed s) (λ x. ok (numberOf (x .neg) (x .mag)))
+integer s = okThen (signed s) (λ x. ok (numberOf (x .neg) (x .mag)))
 
 unfoldable pub computes : Unit {0}
 unfolding digit most within magnitude sign body signed integer

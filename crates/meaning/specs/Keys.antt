@@ -4,7 +4,7 @@ use mathlib.Core.List.{List, [], _∷_}
 use lib.Dec.{eqb}
 use lib.ListN.{getD, drop}
 use Rattle.meaning.specs.Base.{pick, nil?, final, cut}
-use Rattle.meaning.specs.Refusal.{R, ok, bad, via}
+use Rattle.meaning.specs.Refusal.{R, ok, bad, okThen}
 use Rattle.meaning.specs.Space.{trim}
 use Rattle.meaning.specs.Strings.{decode, byEnd}
 
@@ -24,7 +24,7 @@ segment s = pick (eqb (getD s 0 0) 34) (quoted (drop 1 s)) (nonempty s)
 abbrev pub segments : ℕ → List (List ℕ) → R (List (List ℕ))
 segments n [] = ok []
 segments zero (p ∷ ps) = bad 15
-segments (suc n) (p ∷ ps) = via (segment (trim p)) (λ k. via (segments n ps) (λ ks. ok (k ∷ ks)))
+segments (suc n) (p ∷ ps) = okThen (segment (trim p)) (λ k. okThen (segments n ps) (λ ks. ok (k ∷ ks)))
 
 -- the segments of a key or header, at most n
 unfoldable pub keys : ℕ → List ℕ → R (List (List ℕ))

@@ -6,7 +6,7 @@ use lib.Dec.{eqb, ltb}
 use Rattle.meaning.specs.Base.{pick, nil?}
 use Rattle.meaning.specs.Refusal.{Answer, refused, numbered, inPartition}
 use Rattle.meaning.specs.Schema.{Chip, Partition, eraseFor}
-use Rattle.meaning.specs.Verdict.{Verdict, and, judged, orElse, among, inTurn, behind}
+use Rattle.meaning.specs.Verdict.{Verdict, firstRefusal, judged, orElse, among, inTurn, behind}
 
 -- what the partitions before one leave: their names and the previous end
 pub record Before : Type 0 where
@@ -46,7 +46,7 @@ startFault p = pick (eqb (p .offset) 0) 0 41
 -- 40: "no partitions"
 unfoldable pub layout : Chip → List Partition → Verdict
 layout chip [] = refused (numbered 40) inPartition 0
-layout chip (p ∷ ps) = and (judged inPartition 0 (startFault p)) (inTurn (partitionFault (eraseFor chip)) passed inPartition 0 nothingBefore (p ∷ ps))
+layout chip (p ∷ ps) = firstRefusal (judged inPartition 0 (startFault p)) (inTurn (partitionFault (eraseFor chip)) passed inPartition 0 nothingBefore (p ∷ ps))
 
 unfoldable pub computes : Unit {0}
 unfolding nameFault blockFault spanFault partitionFault startFault layout Rattle.meaning.specs.Schema.computes

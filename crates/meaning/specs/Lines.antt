@@ -8,7 +8,7 @@ use Rattle.meaning.specs.declared.Limits.{Limits}
 use Rattle.meaning.specs.declared.Fate.{Fate}
 use Rattle.meaning.specs.declared.Fate.the-variants.{Over, Unended, Whole}
 use Rattle.meaning.specs.Base.{pick, nil?, final, cut}
-use Rattle.meaning.specs.Refusal.{Answer, accepted, refused, after, atLine, atNoLine}
+use Rattle.meaning.specs.Refusal.{Answer, accepted, refused, acceptedThen, atLine, atNoLine}
 use Rattle.meaning.specs.Utf8.{valid}
 use Rattle.meaning.specs.Space.{blank}
 use Rattle.meaning.specs.Quote.{Scan, fresh, scan, upTo}
@@ -76,7 +76,7 @@ atClose (open′ at t) = atLine 4 at
 -- the joined lines of kept lines, the first of which is number n
 abbrev pub join : Pending → ℕ → List (List ℕ) → Answer (List Line)
 join p n [] = atClose p
-join p n (l ∷ ls) = after (joinOne p n l) (λ s. after (join (s .pending) (n + 1) ls) (λ r. accepted (s .out ++ r)))
+join p n (l ∷ ls) = acceptedThen (joinOne p n l) (λ s. acceptedThen (join (s .pending) (n + 1) ls) (λ r. accepted (s .out ++ r)))
 
 -- "then 3 and 4 over the whole text before any line is read"
 unfoldable pub joined : List ℕ → Answer (List Line)

@@ -6,7 +6,7 @@ use lib.Dec.{ltb, leb}
 use lib.ListN.{length}
 use Rattle.meaning.specs.Base.{pick, ascii, nil?, concat}
 use Rattle.meaning.specs.Limits.{Limits}
-use Rattle.meaning.specs.Refusal.{Answer, accepted, refused, numbered, inText, numberOf, after}
+use Rattle.meaning.specs.Refusal.{Answer, accepted, refused, numbered, inText, numberOf, acceptedThen}
 use Rattle.meaning.specs.Schema.{Partition, Component, Application, Preset, chipWord, mediaWord, kindWord}
 use Rattle.meaning.specs.Plan.{Build, Plan, Planned, bootChain, plan}
 
@@ -98,7 +98,7 @@ listed x = record { planned = x; lines = linesOf (x .read .parsed .made) (x .rea
 -- "plans the boot chain"; 17 where the output is too small, as for any lent room
 unfoldable pub listing : Limits → ℕ → ℕ → ℕ → ℕ → List ℕ → List ℕ → Answer Listed
 listing lim width store tree out name text =
-    pick (short out name) (refused (numbered 17) inText 0) (after (plan lim width store tree name bootChain text) (λ x. accepted (listed x)))
+    pick (short out name) (refused (numbered 17) inText 0) (acceptedThen (plan lim width store tree name bootChain text) (λ x. accepted (listed x)))
 
 -- what the program prints
 unfoldable pub printed : Answer Listed → List ℕ

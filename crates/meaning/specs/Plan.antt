@@ -3,9 +3,9 @@ use Prim.Native.Nat.{ℕ, _+_}
 use mathlib.Core.Bool.{Bool, true, false}
 use mathlib.Core.List.{List, [], _∷_, _++_, map}
 use mathlib.Core.Option.{Option, none, some}
-use Rattle.meaning.specs.Base.{pick, nil?, else, or, same}
+use Rattle.meaning.specs.Base.{pick, nil?, orDefault, firstGiven, same}
 use Rattle.meaning.specs.Limits.{Limits}
-use Rattle.meaning.specs.Refusal.{Answer, accepted, refused, numbered, inApplication, after as _>>=_}
+use Rattle.meaning.specs.Refusal.{Answer, accepted, refused, numbered, inApplication, acceptedThen as _>>=_}
 use Rattle.meaning.specs.Schema.{Kind, kindApp, kindPbp, kindRaw, Board, Image, Partition, Head, Boot, Component, Application, Preset}
 use Rattle.meaning.specs.Files.{fileStem}
 use Rattle.meaning.specs.Verdict.{among, behind}
@@ -49,12 +49,12 @@ pub record Plan : Type 0 where
 
 -- a package with the features of one use, and the bin: the package itself where none is given
 abbrev pub built : List ℕ → Option (List ℕ) → List (List ℕ) → Build
-built p bin fs = record { pack = p; bin = else bin p; features = fs }
+built p bin fs = record { pack = p; bin = orDefault bin p; features = fs }
 
 -- document 004, `planned`: the package, else the file; 54 refuses neither
 abbrev pub payload : Option (List ℕ) → Option (List ℕ) → List (List ℕ) → Option (List ℕ) → Source
 payload (some p) bin fs file = fromPackage (built p bin fs)
-payload none bin fs file = fromFile (else file [])
+payload none bin fs file = fromFile (orDefault file [])
 
 -- document 004, `planned`: the file of the PBP, else its package, whose bin is the package itself
 abbrev pub pbpPayload : Option (List ℕ) → Option (List ℕ) → List (List ℕ) → Option Source
@@ -180,11 +180,11 @@ stemOfFile (some path) = fileStem path
 -- "the package, else `bin`, else file stem"
 abbrev pub ownStem : Option Component → Option (List ℕ)
 ownStem none = none
-ownStem (some c) = or (c .head .pack) (or (c .head .bin) (stemOfFile (c .head .file)))
+ownStem (some c) = firstGiven (c .head .pack) (firstGiven (c .head .bin) (stemOfFile (c .head .file)))
 
 -- "The stem is the selected package; for the boot chain it is .. of the first `app` component with a partition, else the board name."
 unfoldable pub stemFor : Preset → Selection → List ℕ
-stemFor r bootChain = else (ownStem (firstApp (r .components))) (r .board .name)
+stemFor r bootChain = orDefault (ownStem (firstApp (r .components))) (r .board .name)
 stemFor r (app key) = key
 
 -- ---- the partition of a reference

@@ -2,7 +2,7 @@
 use Prim.Native.Nat.{ℕ}
 use mathlib.Core.List.{List}
 use Rattle.meaning.specs.Limits.{Limits}
-use Rattle.meaning.specs.Refusal.{Answer, accepted, after as _>>=_}
+use Rattle.meaning.specs.Refusal.{Answer, accepted, acceptedThen as _>>=_}
 use Rattle.meaning.specs.Document.{Parsed, inRooms}
 use Rattle.meaning.specs.Schema as schema
 use Rattle.meaning.specs.Records.{presetOf}

@@ -3,9 +3,9 @@ use Prim.Native.Nat.{ℕ}
 use mathlib.Core.Bool.{false}
 use mathlib.Core.List.{List, [], _++_}
 use mathlib.Core.Option.{Option, none, some}
-use Rattle.meaning.specs.Base.{pick, nil?, ascii, else, or}
+use Rattle.meaning.specs.Base.{pick, nil?, ascii, orDefault, firstGiven}
 use Rattle.meaning.specs.Limits.{Limits}
-use Rattle.meaning.specs.Refusal.{R, ok, via as _>>=_, Answer, accepted, after, inBoard, inImage, inPartition, inComponent, inApplication}
+use Rattle.meaning.specs.Refusal.{R, ok, okThen as _>>=_, Answer, accepted, acceptedThen, inBoard, inImage, inPartition, inComponent, inApplication}
 use Rattle.meaning.specs.Utf8.{valid}
 use Rattle.meaning.specs.Tree.{Table}
 use Rattle.meaning.specs.Order.{sorted}
@@ -25,7 +25,7 @@ chosen none none = accepted d13x
 -- "board `chip` and image `platform`; the chip word"
 unfoldable pub chipFrom : Table → Table → Answer Chip
 chipFrom board image =
-    after (outside inBoard (field aText board (ascii "chip"))) (λ chip. after (outside inImage (field aText image (ascii "platform"))) (chosen chip))
+    acceptedThen (outside inBoard (field aText board (ascii "chip"))) (λ chip. acceptedThen (outside inImage (field aText image (ascii "platform"))) (chosen chip))
 
 -- "board `name`, `target`, `profile`"
 unfoldable pub boardFrom : List ℕ → Chip → Table → R Board
@@ -55,11 +55,11 @@ pub record Front : Type 0 where
 -- "Order: `board`, `image`; board `chip` and image `platform`; the chip word; .."
 unfoldable pub frontOf : List ℕ → Table → Answer Front
 frontOf lent root =
-    after (outside inBoard (tableAt root (ascii "board"))) (λ b.
-    after (outside inImage (tableAt root (ascii "image"))) (λ i.
-    after (chipFrom b i) (λ chip.
-    after (outside inBoard (boardFrom lent chip b)) (λ board.
-    after (outside inImage (imageFrom chip i)) (λ image. accepted (record { board = board; image = image }))))))
+    acceptedThen (outside inBoard (tableAt root (ascii "board"))) (λ b.
+    acceptedThen (outside inImage (tableAt root (ascii "image"))) (λ i.
+    acceptedThen (chipFrom b i) (λ chip.
+    acceptedThen (outside inBoard (boardFrom lent chip b)) (λ board.
+    acceptedThen (outside inImage (imageFrom chip i)) (λ image. accepted (record { board = board; image = image }))))))
 
 -- ---- partitions
 
@@ -73,7 +73,7 @@ partitionFrom f = do
 
 -- "Partitions 32"
 unfoldable pub partitionsOf : Limits → Table → Answer (List Partition)
-partitionsOf lim root = after (outside inPartition (listAt root (ascii "partition") (ascii "partitions"))) (listed (tabled partitionFrom) inPartition (lim .partitions))
+partitionsOf lim root = acceptedThen (outside inPartition (listAt root (ascii "partition") (ascii "partitions"))) (listed (tabled partitionFrom) inPartition (lim .partitions))
 
 -- ---- components
 
@@ -84,7 +84,7 @@ nameIn (some f) = fileName f
 
 -- document 001: `bin`, else the file's name, else `package`, else `component.bin`
 unfoldable pub filenameFor : Option (List ℕ) → Option (List ℕ) → Option (List ℕ) → List ℕ
-filenameFor bin file pack = else (or bin (or (nameIn file) pack)) (ascii "component.bin")
+filenameFor bin file pack = orDefault (firstGiven bin (firstGiven (nameIn file) pack)) (ascii "component.bin")
 
 -- "Component fields are read as `kind`, `name`, `package`, `bin`, `file`, `filename`, .."
 unfoldable pub headFrom : Table → R Head
@@ -155,7 +155,7 @@ componentFrom limit f = do
 -- "components 64"; "Items in one feature list ..: 32"
 unfoldable pub componentsOf : Limits → Table → Answer (List Component)
 componentsOf lim root =
-    after (outside inComponent (listAt root (ascii "component") (ascii "components"))) (listed (tabled (componentFrom (lim .features))) inComponent (lim .components))
+    acceptedThen (outside inComponent (listAt root (ascii "component") (ascii "components"))) (listed (tabled (componentFrom (lim .features))) inComponent (lim .components))
 
 -- ---- applications
 
@@ -187,7 +187,7 @@ applicationAt limit r = tabled (applicationFrom limit (r .key)) (r .value)
 -- "applications 64", "in byte order of key"
 unfoldable pub applicationsOf : Limits → Table → Answer (List Application)
 applicationsOf lim root =
-    after (outside inApplication (tableAt root (ascii "apps"))) (λ apps. listed (applicationAt (lim .features)) inApplication (lim .applications) (rows (sorted apps)))
+    acceptedThen (outside inApplication (tableAt root (ascii "apps"))) (λ apps. listed (applicationAt (lim .features)) inApplication (lim .applications) (rows (sorted apps)))
 
 -- ---- all
 
@@ -198,10 +198,10 @@ lentName name = pick (valid name) name (ascii "board")
 -- ".. partitions ..; components; applications." Each group is read from the root by itself
 unfoldable pub presetOf : Limits → List ℕ → Table → Answer Preset
 presetOf lim name root =
-    after (frontOf (lentName name) root) (λ front.
-    after (partitionsOf lim root) (λ partitions.
-    after (componentsOf lim root) (λ components.
-    after (applicationsOf lim root) (λ applications.
+    acceptedThen (frontOf (lentName name) root) (λ front.
+    acceptedThen (partitionsOf lim root) (λ partitions.
+    acceptedThen (componentsOf lim root) (λ components.
+    acceptedThen (applicationsOf lim root) (λ applications.
     accepted (record { board = front .board; image = front .image; partitions = partitions; components = components; applications = applications })))))
 
 unfoldable pub computes : Unit {0}

@@ -31,18 +31,18 @@ pub data R (X : Type 0) : Type 0 where
   ok : X → R X
   bad : ℕ → R X
 
-abbrev pub via : {X Y : Type 0} → R X → (X → R Y) → R Y
-via (ok x) f = f x
-via (bad n) f = bad n
+abbrev pub okThen : {X Y : Type 0} → R X → (X → R Y) → R Y
+okThen (ok x) f = f x
+okThen (bad n) f = bad n
 
 -- "A refusal returns its number, a section and a place"
 pub data Answer (X : Type 0) : Type 0 where
   accepted : X → Answer X
   refused : Fault → ℕ → ℕ → Answer X
 
-abbrev pub after : {X Y : Type 0} → Answer X → (X → Answer Y) → Answer Y
-after (accepted x) f = f x
-after (refused f s p) k = refused f s p
+abbrev pub acceptedThen : {X Y : Type 0} → Answer X → (X → Answer Y) → Answer Y
+acceptedThen (accepted x) f = f x
+acceptedThen (refused f s p) k = refused f s p
 
 -- "a section (0 text, 1 board, 2 image, 3 partition, 4 component, 5 application)"
 abbrev pub inText : ℕ

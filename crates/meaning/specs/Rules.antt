@@ -10,7 +10,7 @@ use Rattle.meaning.specs.Refusal.{Answer, refused, numbered, inBoard, in
 use Rattle.meaning.specs.Space.{trim}
 use Rattle.meaning.specs.Schema.{Chip, d13x, d21x, Media, spiNor, spiNand, chipWord, mediaFor, Board, Image, Partition, Component, Application, Preset}
 use Rattle.meaning.specs.Layout.{layout}
-use Rattle.meaning.specs.Verdict.{Verdict, fine, and, judged, orElse, long, among, inTurn, behind}
+use Rattle.meaning.specs.Verdict.{Verdict, fine, firstRefusal, judged, orElse, long, among, inTurn, behind}
 
 -- ---- 30 to 35
 
@@ -53,9 +53,9 @@ deviceFault b i = pick (sameMedia (mediaFor (b .chip)) (i .media)) (pick (same (
 -- 32: "empty profile"; 33: "boot app over 32 bytes". "Refusals 30, 31, 33 .. are in section 2; 32, 34 and 35 in section 1."
 unfoldable pub frontRules : Board → Image → Verdict
 frontRules b i =
-    and (judged inImage 0 (deviceFault b i))
-    (and (judged inBoard 0 (pick (nil? (b .profile)) 32 0))
-    (and (judged inImage 0 (pick (long (i .bootApp)) 33 0)) (judged inBoard 0 (widthFault (b .chip) (chipFor (b .target))))))
+    firstRefusal (judged inImage 0 (deviceFault b i))
+    (firstRefusal (judged inBoard 0 (pick (nil? (b .profile)) 32 0))
+    (firstRefusal (judged inImage 0 (pick (long (i .bootApp)) 33 0)) (judged inBoard 0 (widthFault (b .chip) (chipFor (b .target))))))
 
 -- ---- 50 to 59
 
@@ -162,7 +162,7 @@ useFault earlier us = pick (clashes earlier us) 60 0
 -- "(section 4 or 5)"
 unfoldable pub featureRules : List Component → List Application → Verdict
 featureRules cs apps =
-    and (inTurn (λ earlier c. useFault earlier (usesOf c)) (λ earlier c. earlier ++ usesOf c) inComponent 0 [] cs)
+    firstRefusal (inTurn (λ earlier c. useFault earlier (usesOf c)) (λ earlier c. earlier ++ usesOf c) inComponent 0 [] cs)
     (inTurn (λ earlier a. useFault earlier (useOf a)) (λ earlier a. earlier ++ useOf a) inApplication 0 (allUses cs) apps)
 
 -- ---- 61 to 66
@@ -198,11 +198,11 @@ bootRule (p ∷ ps) cs = pick (targets p cs) fine (refused (numbered 70) inCompo
 
 unfoldable pub rules : Preset → Verdict
 rules r =
-    and (frontRules (r .board) (r .image))
-    (and (layout (r .board .chip) (r .partitions))
-    (and (componentRules (partitionNames (r .partitions)) (r .components))
-    (and (featureRules (r .components) (r .applications))
-    (and (applicationRules (partitionNames (r .partitions)) (r .applications)) (bootRule (partitionNames (r .partitions)) (r .components))))))
+    firstRefusal (frontRules (r .board) (r .image))
+    (firstRefusal (layout (r .board .chip) (r .partitions))
+    (firstRefusal (componentRules (partitionNames (r .partitions)) (r .components))
+    (firstRefusal (featureRules (r .components) (r .applications))
+    (firstRefusal (applicationRules (partitionNames (r .partitions)) (r .applications)) (bootRule (partitionNames (r .partitions)) (r .components))))))
 
 unfoldable pub computes : Unit {0}
 unfolding chipFor widthFault deviceFault frontRules nameOf componentName sourceFault bootFault targetFault reserveFault componentFault componentRules usesOf differ featureRules addressFault applicationFault applicationRules bootRule rules Rattle.meaning.specs.Space.computes Rattle.meaning.specs.Layout.computes

@@ -5,12 +5,12 @@ use mathlib.Core.List.{List, [], _∷_}
 use lib.Dec.{eqb}
 use lib.ListN.{length, getD, take, drop}
 use Rattle.meaning.specs.Base.{pick, ascii, same, final, split}
-use Rattle.meaning.specs.Refusal.{R, ok, bad, via, numbered}
+use Rattle.meaning.specs.Refusal.{R, ok, bad, okThen, numbered}
 use Rattle.meaning.specs.Space.{blank, trim}
 use Rattle.meaning.specs.Quote.{Scan, fresh, step, hits}
 use Rattle.meaning.specs.Strings.{decode, byEnd}
 use Rattle.meaning.specs.Integers.{integer}
-use Rattle.meaning.specs.Reading.{Got, got, not, storing, onward, change, having, grows, make}
+use Rattle.meaning.specs.Reading.{Got, got, failed, storing, gotThen, gotMap, okThenGot, growThenGot, make}
 use Rattle.meaning.specs.Tree.{Value, Items, str, int, boolean, array, none′, item}
 
 -- the string that s is, behind its opening quote; 10: "text after a string"
@@ -19,7 +19,7 @@ stringOf s = byEnd (decode 0 s .how) (pick (blank (drop (decode 0 s .span) s)) (
 
 -- `true`, `false` or an integer
 unfoldable pub plain : List ℕ → R Value
-plain s = pick (same s (ascii "true")) (ok (boolean true)) (pick (same s (ascii "false")) (ok (boolean false)) (via (integer s) (λ i. ok (int i))))
+plain s = pick (same s (ascii "true")) (ok (boolean true)) (pick (same s (ascii "false")) (ok (boolean false)) (okThen (integer s) (λ i. ok (int i))))
 
 -- "Items split at commas outside strings where the bracket count is zero"
 unfoldable pub parts? : Scan → ℕ → Bool
@@ -40,16 +40,16 @@ Reader X = ℕ → Got X
 -- one after the other
 abbrev pub each : (List ℕ → Reader Value) → List (List ℕ) → Reader Items
 each f [] made = got none′ [] made
-each f (l ∷ ls) made = onward (f l made) (λ v m. change (item v) (each f ls m))
+each f (l ∷ ls) made = gotThen (f l made) (λ v m. gotMap (item v) (each f ls m))
 
 module _ (limit : ℕ) where
   -- "each string .. once read"; s is behind the opening quote
   unfoldable pub aString : List ℕ → Reader Value
-  aString s made = having (stringOf s) (λ d. storing d (make limit (str d) made))
+  aString s made = okThenGot (stringOf s) (λ d. storing d (make limit (str d) made))
 
   -- "each .. integer and boolean once read"
   unfoldable pub aPlain : List ℕ → Reader Value
-  aPlain s made = having (plain s) (λ v. storing [] (make limit v made))
+  aPlain s made = okThenGot (plain s) (λ v. storing [] (make limit v made))
 
   -- one value without white space around it; brackets reads what follows a `[`
   unfoldable pub one : (List ℕ → Reader Value) → List ℕ → Reader Value
@@ -60,11 +60,11 @@ module _ (limit : ℕ) where
 
   -- the items of an array, each read by v. "each array after its closing bracket is confirmed, before its items"
   unfoldable pub anArray : (List ℕ → Reader Value) → List ℕ → Reader Value
-  anArray v s made = pick (eqb (final s) 93) (grows (make limit none′ made) (λ _ m. change array (each v (itemsOf (take (length s - 1) s)) m))) (not (numbered 11))
+  anArray v s made = pick (eqb (final s) 93) (growThenGot (make limit none′ made) (λ _ m. gotMap array (each v (itemsOf (take (length s - 1) s)) m))) (failed (numbered 11))
 
   -- what follows a `[`, where depth arrays may still be inside one another; "14 comes before 11"
   abbrev pub brackets : ℕ → List ℕ → Reader Value
-  brackets zero s made = not (numbered 14)
+  brackets zero s made = failed (numbered 14)
   brackets (suc depth) s made = anArray (λ l. one (brackets depth) (trim l)) s made
 
   unfoldable pub value : ℕ → List ℕ → Reader Value

@@ -5,7 +5,7 @@ use mathlib.Core.List.{List, [], _∷_, _++_}
 use lib.Dec.{eqb, ltb}
 use lib.ListN.{length}
 use Rattle.meaning.specs.Base.{pick, same}
-use Rattle.meaning.specs.Refusal.{Answer, accepted, refused, after, numbered}
+use Rattle.meaning.specs.Refusal.{Answer, accepted, refused, acceptedThen, numbered}
 
 abbrev pub Verdict : Type 0
 Verdict = Answer (Unit {0})
@@ -14,8 +14,8 @@ abbrev pub fine : Verdict
 fine = accepted tt
 
 -- the first of two that is a refusal
-abbrev pub and : Verdict → Verdict → Verdict
-and v w = after v (λ u. w)
+abbrev pub firstRefusal : Verdict → Verdict → Verdict
+firstRefusal v w = acceptedThen v (λ u. w)
 
 -- a rule's number told at its place; 0 is no refusal
 abbrev pub judged : ℕ → ℕ → ℕ → Verdict
@@ -37,7 +37,7 @@ among x (y ∷ ys) = pick (same x y) true (among x ys)
 -- each entry against what its forerunners left, the first of which is entry n
 abbrev pub inTurn : {X S : Type 0} → (S → X → ℕ) → (S → X → S) → ℕ → ℕ → S → List X → Verdict
 inTurn rule next section n s [] = fine
-inTurn rule next section n s (x ∷ xs) = and (judged section n (rule s x)) (inTurn rule next section (n + 1) (next s x) xs)
+inTurn rule next section n s (x ∷ xs) = firstRefusal (judged section n (rule s x)) (inTurn rule next section (n + 1) (next s x) xs)
 
 -- x behind the others
 abbrev pub behind : {X : Type 0} → List X → X → List X

@@ -3,7 +3,24 @@
 ghost use mathlib.Core.Path.{_≡_};
 ghost use Rattle.meaning.specs.Limits as limits;
 
-// 01, "Sizes".
+// 01, "Sizes": bytes of a text, values made, arrays inside one another, segments of a key, entries of the lists.
+pub const TEXT_BYTES: usize = 32768;
+
+pub const VALUES: usize = 2048;
+
+pub const ARRAYS: usize = 16;
+
+pub const SEGMENTS: usize = 16;
+
+pub const PARTITIONS: usize = 32;
+
+pub const COMPONENTS: usize = 64;
+
+pub const APPLICATIONS: usize = 64;
+
+pub const FEATURES: usize = 32;
+
+// Figures of that kind; 01's are one value of them.
 pub struct Limits {
     pub text: usize,
     pub values: usize,
@@ -47,13 +64,13 @@ pub fn of01() -> Limits
     ensures { λ r. ⌜ r ≡ limits.of01 ⌝ }
 {
     Limits {
-        text: 32768,
-        values: 2048,
-        arrays: 16,
-        segments: 16,
-        partitions: 32,
-        components: 64,
-        applications: 64,
-        features: 32,
+        text: TEXT_BYTES,
+        values: VALUES,
+        arrays: ARRAYS,
+        segments: SEGMENTS,
+        partitions: PARTITIONS,
+        components: COMPONENTS,
+        applications: APPLICATIONS,
+        features: FEATURES,
     }
 }

@@ -1,3 +1,3 @@
 pub mod Pages
-pub mod Digits
+pub mod Decimals
 pub mod Writing

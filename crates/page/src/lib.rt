@@ -45,11 +45,11 @@ fn digits(room: &mut [u8], number: u64) -> usize
         if i == 0 {
             break;
         }
-        room[i] = 48 + (n % 10) as u8;
+        room[i] = b'0' + (n % 10) as u8;
         n = n / 10;
         i -= 1;
     }
-    room[i] = 48 + (n % 10) as u8;
+    room[i] = b'0' + (n % 10) as u8;
     i
 }
 

@@ -11,7 +11,7 @@ use lib.Dec.{eqb}
 use lib.ListN.{length, take, drop, set, replicate, take-append-drop, length-set}
 use lib.Seq.{length-take-le, take-suc-set, drop-set-lt, drop-drop}
 use Rattle.meaning.specs.Base.{ascii}
-use Rattle.meaning.specs.Refusal.{R, ok, bad, Answer, accepted, refused, numbered, after, inPartition, inComponent, inApplication}
+use Rattle.meaning.specs.Refusal.{R, ok, bad, Answer, accepted, refused, numbered, acceptedThen, inPartition, inComponent, inApplication}
 use Rattle.meaning.specs.Fields.{each, listed}
 use Rattle.laws.specs.Cases.{on}
 use Rattle.tree.specs.declared.Found.the-variants.{At, Nothing}
@@ -169,7 +169,7 @@ module _ {X : Type 0} where
   wrong : (fault : ℕ) (x : X) → (fault ≡ 0 → ⊥) → asR fault x ≡ bad fault
   wrong fault x h = rw (ne-eqb fault 0 h)
 
-  kept : (x : X) (a : Answer (Seq X)) → refusalOf (after a (λ xs. accepted (x ∷ xs))) ≡ refusalOf a
+  kept : (x : X) (a : Answer (Seq X)) → refusalOf (acceptedThen a (λ xs. accepted (x ∷ xs))) ≡ refusalOf a
   kept x (accepted xs) = refl
   kept x (refused f s p) = refl
 
@@ -233,13 +233,13 @@ module _ (room store : Seq ℕ) (made place end limit : ℕ) where
 
 module _ {X : Type 0} where
   -- nothing in front changes nothing
-  bare : (a : Answer (Seq X)) → a ≡ after a (λ ys. accepted ys)
+  bare : (a : Answer (Seq X)) → a ≡ acceptedThen a (λ ys. accepted ys)
   bare (accepted ys) = refl
   bare (refused f s p) = refl
 
   -- one in front, and some in front of it
   fronted : (qs : Seq X) (x : X) (a : Answer (Seq X))
-      → after (after a (λ ys. accepted (x ∷ ys))) (λ ys. accepted (qs ++ ys)) ≡ after a (λ ys. accepted ((qs ++ (x ∷ [])) ++ ys))
+      → acceptedThen (acceptedThen a (λ ys. accepted (x ∷ ys))) (λ ys. accepted (qs ++ ys)) ≡ acceptedThen a (λ ys. accepted ((qs ++ (x ∷ [])) ++ ys))
   fronted qs x (accepted ys) = rw append-assoc
   fronted qs x (refused f s p) = refl
 
@@ -249,20 +249,20 @@ pub record Filled (room store : Seq ℕ) (made place end : ℕ) (xs : Seq Partit
   pub few : i + length (toCome room w) ≤ 32
   pub rest : drop i xs ≡ replicate (32 - i) blank
   pub left : eachPartition room store made place end
-      ≡ after (each (partitionR room store made) inPartition i (toCome room w)) (λ ys. accepted (take i xs ++ ys))
+      ≡ acceptedThen (each (partitionR room store made) inPartition i (toCome room w)) (λ ys. accepted (take i xs ++ ys))
 
 module _ (room store : Seq ℕ) (made place end : ℕ) where
   pub parts-start : (xs : Seq Partition) (w : Items) → Few room made place end → xs ≡ replicate 32 blank → w ≡ itemsFrom place 0 end
       → Filled room store made place end xs 0 w
   parts-start xs w h e d =
       rw d (
-        record {
-          within = h .within;
-          size = ap length e;
-          few = omega (arith, h .few);
-          rest = e;
-          left = bare (eachPartition room store made place end);
-        }
+      record {
+        within = h .within;
+        size = ap length e;
+        few = omega (arith, h .few);
+        rest = e;
+        left = bare (eachPartition room store made place end);
+      }
       )
 
   module _ (xs : Seq Partition) (i : ℕ) (w : Items) (k : Filled room store made place end xs i w) (step : Item) (h : Gives room w step) where

@@ -4,7 +4,7 @@ use mathlib.Core.Path.{_≡_, refl, sym, ap, subst, _∙_}
 use native.Mathlib.Omega.{arith}
 use borrow.Author.Tests.{eq-eqb, ne-eqb, eqb-true, eqb-false}
 use lib.Dec.{eqb}
-use Rattle.meaning.specs.Refusal.{R, ok, bad, Answer, accepted, refused, after, Fault, numbered, unmet, numberOf, told}
+use Rattle.meaning.specs.Refusal.{R, ok, bad, Answer, accepted, refused, acceptedThen, Fault, numbered, unmet, numberOf, told}
 use Rattle.laws.specs.Cases.{on}
 use Rattle.parse.specs.declared.Refusal.{Refusal}
 use Rattle.parse.specs.Refusals.{refusal, earlier}
@@ -32,13 +32,13 @@ earlier-some r s h = rw (ne-eqb (r .number) 0 (λ e. omega arith))
 pub earlier-two : (a b c : Refusal) → earlier a (earlier b c) ≡ earlier (earlier a b) c
 earlier-two a b c = on (eqb (a .number) 0) (λ e. rw e) (λ e. rw (e, e))
 
-told-after : {X Y : Type 0} (a : Answer X) (k : X → Answer Y) (r s : Refusal) (y : X) (z : Y) → Told-by a r y → Told-by (k y) s z → Told-by (after a k) (earlier r s) z
+told-after : {X Y : Type 0} (a : Answer X) (k : X → Answer Y) (r s : Refusal) (y : X) (z : Y) → Told-by a r y → Told-by (k y) s z → Told-by (acceptedThen a k) (earlier r s) z
 told-after (accepted x) k r s y z g h = rw (earlier-none r s (g .0), ← g .1) h
 told-after (refused f n p) k r s y z g h =
     let e : r .number ≡ numberOf f = ap (λ (q : Refusal). q .number) (g .0) in
     (earlier-some r s (omega arith) ∙ g .0, g .1)
 
-told-made : {X Y : Type 0} (a : Answer X) (f : X → Y) (r : Refusal) (y : X) → Told-by a r y → Told-by (after a (λ x. accepted (f x))) r (f y)
+told-made : {X Y : Type 0} (a : Answer X) (f : X → Y) (r : Refusal) (y : X) → Told-by a r y → Told-by (acceptedThen a (λ x. accepted (f x))) r (f y)
 told-made (accepted x) f r y g = (g .0, ap f (g .1))
 told-made (refused b n p) f r y g = g
 
@@ -46,11 +46,11 @@ told-got : {X : Type 0} (s p : ℕ) (m : R X) (n : ℕ) (y : X) → Got m n y �
 told-got s p (ok x) n y g = g
 told-got s p (bad b) n y g = (ap (λ (k : ℕ). refusal k s p) (g .0), g .1)
 
-pub says-after : {X Y : Type 0} {a : Answer X} (k : X → Answer Y) {r s : Refusal} {y : X} {z : Y} → Says a r y → Says (k y) s z → Says (after a k) (earlier r s) z
+pub says-after : {X Y : Type 0} {a : Answer X} (k : X → Answer Y) {r s : Refusal} {y : X} {z : Y} → Says a r y → Says (k y) s z → Says (acceptedThen a k) (earlier r s) z
 says-after {a} k {r} {s} {y} {z} g h = record { told-by = told-after a k r s y z (g .told-by) (h .told-by) }
 
 -- the last step, which only makes something of the answer
-pub says-made : {X Y : Type 0} {a : Answer X} (f : X → Y) {r : Refusal} {y : X} → Says a r y → Says (after a (λ x. accepted (f x))) r (f y)
+pub says-made : {X Y : Type 0} {a : Answer X} (f : X → Y) {r : Refusal} {y : X} → Says a r y → Says (acceptedThen a (λ x. accepted (f x))) r (f y)
 says-made {a} f {r} {y} g = record { told-by = told-made a f r y (g .told-by) }
 
 pub says-told : {X : Type 0} (s p : ℕ) {m : R X} {n : ℕ} {y : X} → Gives m n y → Says (told s p m) (refusal n s p) y

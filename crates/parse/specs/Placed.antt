@@ -6,7 +6,7 @@ use lib.Dec.{eqb, ltb}
 use lib.ListN.{length}
 use Rattle.meaning.specs.declared.Limits.{Limits}
 use Rattle.meaning.specs.Base.{ascii}
-use Rattle.meaning.specs.Refusal.{R, ok, bad, Answer, accepted, refused, after, told}
+use Rattle.meaning.specs.Refusal.{R, ok, bad, Answer, accepted, refused, acceptedThen, told}
 use Rattle.meaning.specs.Fields.{each, listed}
 use Rattle.laws.specs.Cases.{on}
 use Rattle.tree.specs.declared.Found.{Found}
@@ -28,7 +28,7 @@ use Rattle.parse.specs.Refused.{partitionList, componentList, applicatio
 
 -- a refusal among entries is told at one of them
 module _ {A X : Type 0} (read : A → R X) (section : ℕ) where
-  kept-place : (a : Answer (Seq X)) (x : X) (b : ℕ) → refusalOf a .place ≤ b → refusalOf (after a (λ xs. accepted (x ∷ xs))) .place ≤ b
+  kept-place : (a : Answer (Seq X)) (x : X) (b : ℕ) → refusalOf a .place ≤ b → refusalOf (acceptedThen a (λ xs. accepted (x ∷ xs))) .place ≤ b
   kept-place (accepted xs) x b h = h
   kept-place (refused f s p) x b h = h
 
@@ -36,7 +36,7 @@ module _ {A X : Type 0} (read : A → R X) (section : ℕ) where
   each-place [] i = omega arith
   each-place (a ∷ ns) i = go (each-place ns (i + 1)) (read a)
     where
-      go : refusalOf (each read section (i + 1) ns) .place ≤ i + 1 + length ns → (r : R X) → refusalOf (after (told section i r) (λ x. after (each read section (i + 1) ns) (λ xs. accepted (x ∷ xs)))) .place ≤ i + length (a ∷ ns)
+      go : refusalOf (each read section (i + 1) ns) .place ≤ i + 1 + length ns → (r : R X) → refusalOf (acceptedThen (told section i r) (λ x. acceptedThen (each read section (i + 1) ns) (λ xs. accepted (x ∷ xs)))) .place ≤ i + length (a ∷ ns)
       go h (ok x) = kept-place (each read section (i + 1) ns) x (i + length (a ∷ ns)) (omega (arith, h))
       go h (bad n) = omega arith
 

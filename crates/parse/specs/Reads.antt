@@ -6,8 +6,8 @@ use native.Mathlib.Omega.{arith}
 use lib.Dec.{eqb, leb}
 use lib.ListN.{length}
 use borrow.Author.Tests.{eq-eqb, ne-eqb}
-use Rattle.meaning.specs.Base.{else}
-use Rattle.meaning.specs.Refusal.{R, ok, bad, via}
+use Rattle.meaning.specs.Base.{orDefault}
+use Rattle.meaning.specs.Refusal.{R, ok, bad, okThen}
 use Rattle.laws.specs.Cases.{on}
 use Rattle.tree.specs.declared.Value.{Value as Read}
 use Rattle.tree.specs.declared.Value.the-variants as read
@@ -40,22 +40,22 @@ first-four a b c d e = ap (firstFault a) (first-three b c d e) ∙ first-two a (
 pub record Gives {X : Type 0} (m : R X) (fault : ℕ) (y : X) : Type 0 where
   pub got : Got m fault y
 
-pub got-via : {X Y : Type 0} (m : R X) (k : X → R Y) (n l : ℕ) (y : X) (z : Y) → Got m n y → Got (k y) l z → Got (via m k) (firstFault n l) z
+pub got-via : {X Y : Type 0} (m : R X) (k : X → R Y) (n l : ℕ) (y : X) (z : Y) → Got m n y → Got (k y) l z → Got (okThen m k) (firstFault n l) z
 got-via (ok x) k n l y z g h = rw (first-none n l (g .0), ← g .1) h
 got-via (bad b) k n l y z g h = (first-some n l (omega arith) ∙ g .0, g .1)
 
-pub got-made : {X Y : Type 0} (m : R X) (f : X → Y) (n : ℕ) (y : X) → Got m n y → Got (via m (λ x. ok (f x))) n (f y)
+pub got-made : {X Y : Type 0} (m : R X) (f : X → Y) (n : ℕ) (y : X) → Got m n y → Got (okThen m (λ x. ok (f x))) n (f y)
 got-made (ok x) f n y g = (g .0, ap f (g .1))
 got-made (bad b) f n y g = g
 
 pub gives-ok : {X : Type 0} {x : X} → Gives (ok x) 0 x
 gives-ok = record { got = (refl, refl) }
 
-pub gives-via : {X Y : Type 0} {m : R X} (k : X → R Y) {n l : ℕ} {y : X} {z : Y} → Gives m n y → Gives (k y) l z → Gives (via m k) (firstFault n l) z
+pub gives-via : {X Y : Type 0} {m : R X} (k : X → R Y) {n l : ℕ} {y : X} {z : Y} → Gives m n y → Gives (k y) l z → Gives (okThen m k) (firstFault n l) z
 gives-via {m} k {n} {l} {y} {z} g h = record { got = got-via m k n l y z (g .got) (h .got) }
 
 -- the last step, which only makes something of what was read
-pub gives-made : {X Y : Type 0} {m : R X} (f : X → Y) {n : ℕ} {y : X} → Gives m n y → Gives (via m (λ x. ok (f x))) n (f y)
+pub gives-made : {X Y : Type 0} {m : R X} (f : X → Y) {n : ℕ} {y : X} → Gives m n y → Gives (okThen m (λ x. ok (f x))) n (f y)
 gives-made {m} f {n} {y} g = record { got = got-made m f n y (g .got) }
 
 -- the same fault, found in groups
@@ -80,7 +80,7 @@ text-kept (read.Flag b) = tt
 text-kept (read.Array p) = tt
 text-kept (read.Table p) = tt
 
-pub else-spelled : (store name : List ℕ) (t d : Text) → spelled store name (orText t d) ≡ else (optional store name t) (spelled store name d)
+pub else-spelled : (store name : List ℕ) (t d : Text) → spelled store name (orText t d) ≡ orDefault (optional store name t) (spelled store name d)
 else-spelled store name texts.Absent d = refl
 else-spelled store name (texts.Stored from len) d = refl
 else-spelled store name texts.Lent d = refl

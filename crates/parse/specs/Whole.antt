@@ -7,7 +7,7 @@ use borrow.Author.Tests.{ltb-false}
 use lib.Dec.{eqb, ltb}
 use lib.ListN.{length}
 use Rattle.meaning.specs.declared.Limits.{Limits}
-use Rattle.meaning.specs.Refusal.{R, Answer, accepted, refused, numbered, after}
+use Rattle.meaning.specs.Refusal.{R, Answer, accepted, refused, numbered, acceptedThen}
 use Rattle.meaning.specs.Fields.{each, listed}
 use Rattle.meaning.specs.Schema as meant
 use Rattle.meaning.specs.Records as records
@@ -45,7 +45,7 @@ module _ {Y : Type 0} (fault : ℕ → ℕ) (given : ℕ → Y) (section : ℕ) 
   abbrev pub reader : ℕ → R Y
   reader n = asR (fault n) (given n)
 
-  refusal-more : (a : Answer (Seq Y)) (y : Y) → refusalOf (after a (λ ys. accepted (y ∷ ys))) ≡ refusalOf a
+  refusal-more : (a : Answer (Seq Y)) (y : Y) → refusalOf (acceptedThen a (λ ys. accepted (y ∷ ys))) ≡ refusalOf a
   refusal-more (accepted ys) y = refl
   refusal-more (refused f s p) y = refl
 
@@ -71,7 +71,7 @@ module _ {Y : Type 0} (fault : ℕ → ℕ) (given : ℕ → Y) (section : ℕ) 
   listed-clear ns limit e =
       on (ltb limit (length ns)) (λ f. let z : _≡_ {A = ℕ} 25 0 = rw f at e in absurd (omega arith)) (λ f. each-clear ns 0 (rw f at e))
 
-  more-given : (a : Answer (Seq Y)) (y : Y) (zs : Seq Y) → after a (λ ys. accepted (y ∷ ys)) ≡ accepted zs → (ys : Seq Y) × (a ≡ accepted ys) × (y ∷ ys ≡ zs)
+  more-given : (a : Answer (Seq Y)) (y : Y) (zs : Seq Y) → acceptedThen a (λ ys. accepted (y ∷ ys)) ≡ accepted zs → (ys : Seq Y) × (a ≡ accepted ys) × (y ∷ ys ≡ zs)
   more-given (accepted ys) y zs e = (ys, refl, cc)
   more-given (refused f s p) y zs e = let z : _≡_ {A = ℕ} 0 1 = cc in absurd (omega arith)
 

@@ -10,7 +10,7 @@ use borrow.Author.Tests.{lt-ltb, le-ltb, eqb-false}
 use lib.Dec.{eqb, ltb}
 use lib.ListN.{length, take, drop, getD, replicate, length-map}
 use lib.Seq.{length-take-le, getD-take, take-append-seam}
-use Rattle.meaning.specs.Refusal.{Answer, accepted, refused, after, numberOf}
+use Rattle.meaning.specs.Refusal.{Answer, accepted, refused, acceptedThen, numberOf}
 use Rattle.meaning.specs.Fields.{each, listed}
 use Rattle.meaning.specs.Rules.{nameOf}
 use Rattle.laws.specs.Cases.{on}
@@ -64,7 +64,7 @@ abbrev Numbered : {X : Type 0} → Answer X → Type 0
 Numbered (accepted x) = Unit {0}
 Numbered (refused f section place) = 1 ≤ numberOf f
 
-after-numbered : {X : Type 0} (x : X) (a : Answer (Seq X)) → Numbered a → Numbered (after a (λ xs. accepted (x ∷ xs)))
+after-numbered : {X : Type 0} (x : X) (a : Answer (Seq X)) → Numbered a → Numbered (acceptedThen a (λ xs. accepted (x ∷ xs)))
 after-numbered x (accepted xs) h = tt
 after-numbered x (refused f s p) h = h
 

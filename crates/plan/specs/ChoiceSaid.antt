@@ -8,7 +8,7 @@ use native.Mathlib.Omega.{arith}
 use lib.Dec.{eqb}
 use Rattle.meaning.specs.Base.{pick, same}
 use Rattle.meaning.specs.Limits.{of01}
-use Rattle.meaning.specs.Refusal.{Answer, accepted, refused, after}
+use Rattle.meaning.specs.Refusal.{Answer, accepted, refused, acceptedThen}
 use Rattle.meaning.specs.Schema as schemas
 use Rattle.meaning.specs.Verdict.{among}
 use Rattle.meaning.specs.Plan as meant

@@ -8,7 +8,7 @@ use native.Mathlib.Omega.{arith}
 use borrow.Author.Tests.{ltb-true, ltb-false, eqb-true, eqb-false}
 use lib.Dec.{eqb, ltb}
 use lib.ListN.{length}
-use Rattle.meaning.specs.Base.{pick, nil?, ascii, else}
+use Rattle.meaning.specs.Base.{pick, nil?, ascii, orDefault}
 use Rattle.meaning.specs.Schema as schemas
 use Rattle.meaning.specs.Plan as meant
 use Rattle.laws.specs.Cases.{on}
@@ -79,7 +79,7 @@ module _ (room store : Seq ℕ) (made : ℕ) (name : Seq ℕ) where
   plannedMeant p =
       record {
         spec = componentMeant room store made name (p .spec);
-        source = else (sourceMeant (p .source)) (meant.fromFile []);
+        source = orDefault (sourceMeant (p .source)) (meant.fromFile []);
         pbpSource = sourceMeant (p .«pbp_source»);
       }
 

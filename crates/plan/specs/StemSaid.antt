@@ -9,7 +9,7 @@ use borrow.Author.Tests.{leb-true, le-leb}
 use lib.Dec.{eqb, leb}
 use lib.ListN.{length, take, drop, length-take, length-drop, take-append-drop}
 use lib.Seq.{take-length, take-append-le, drop-append-le, drop-drop}
-use Rattle.meaning.specs.Base.{pick, nil?, ascii, or, part}
+use Rattle.meaning.specs.Base.{pick, nil?, ascii, firstGiven, part}
 use Rattle.meaning.specs.Limits.{of01}
 use Rattle.meaning.specs.Files as files
 use Rattle.meaning.specs.Schema as schemas
@@ -126,7 +126,7 @@ module _ (store name : Seq ℕ) where
   stem-of-means (texts.Fixed w) h = absurd h
   stem-of-means (texts.WithAic from len) h = absurd h
 
-  or-means : (t d : Text) → optional store name (orText t d) ≡ or (optional store name t) (optional store name d)
+  or-means : (t d : Text) → optional store name (orText t d) ≡ firstGiven (optional store name t) (optional store name d)
   or-means texts.Absent d = refl
   or-means (texts.Stored from len) d = refl
   or-means texts.Lent d = refl

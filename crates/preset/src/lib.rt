@@ -32,7 +32,7 @@ pub fn unread(number: u32, line: usize) -> Outcome
     ensures { λ r. ⌜ r ≡ record { number = number; section = 0; place = line; made = 0 } ⌝ }
 {
     Outcome {
-        number: number,
+        number,
         section: 0,
         place: line,
         made: 0,
@@ -49,7 +49,7 @@ pub fn settle(v: Refusal, store: &mut [u8], tree: &mut [u8], made: usize) -> Out
             number: 0,
             section: 0,
             place: 0,
-            made: made,
+            made,
         };
     }
     slices::zero(store);
@@ -63,7 +63,7 @@ pub fn settle(v: Refusal, store: &mut [u8], tree: &mut [u8], made: usize) -> Out
 }
 
 // What a way's judge says of rooms that hold a tree.
-fn judge(way: Way, tree: &[u8], store: &[u8], made: usize, name: &[u8], key: &[u8]) -> Refusal
+fn judge_rooms(way: Way, tree: &[u8], store: &[u8], made: usize, name: &[u8], key: &[u8]) -> Refusal
     requires { ⌜ Rooms (now tree) made ⌝ }
     ensures { λ r. ⌜ Told (judgeOf way (now (name .entry)) (now (key .entry)) (now (tree .entry)) (now (store .entry)) made) r ⌝ }
 {
@@ -75,7 +75,7 @@ fn judge(way: Way, tree: &[u8], store: &[u8], made: usize, name: &[u8], key: &[u
 }
 
 // Reads a preset into the two rooms and judges it. A refusal leaves both rooms all zero.
-pub fn go(
+pub fn judge_text(
     way: Way,
     text: &[u8],
     name: &[u8],
@@ -88,7 +88,7 @@ pub fn go(
     let r = toml_lite::read_tree(text, store, tree);
     match r {
         Read::Fine(st) => {
-            let v = judge(way, tree, store, st.made, name, key);
+            let v = judge_rooms(way, tree, store, st.made, name, key);
             settle(v, store, tree, st.made)
         }
         Read::Fault { number, line } => unread(number, line),

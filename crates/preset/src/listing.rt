@@ -9,6 +9,11 @@ ghost use Rattle.tree.specs.Doors.{Rooms};
 ghost use Rattle.preset.specs.Listings as listings;
 ghost use Rattle.preset.specs.Listings.{Emptied, Lined, Planned, Lists};
 
+// An output of so many bytes, and those of the lent name, takes every listing.
+pub const LISTING_BYTES: usize = 73728;
+// A name from here on: what is written with it could not be counted in 32 bits.
+const NAME_TOO_LONG: usize = 4294967296 - LISTING_BYTES;
+
 // What a listing comes to: number 0 and how many bytes were written; or 01's number, section and place.
 pub struct Listed {
     pub number: u32,
@@ -18,16 +23,16 @@ pub struct Listed {
 }
 
 // Whether an output is shorter than a listing may be, or longer than its count of bytes can say.
-fn short(out: &[u8], name: &[u8]) -> bool
+fn lacks_room(out: &[u8], name: &[u8]) -> bool
     ensures { λ r. ⌜ r ≡ meant.short (length (now (out .entry))) (now (name .entry)) ⌝ }
 {
-    if out.len() < 73728 {
+    if out.len() < LISTING_BYTES {
         return true;
     }
-    if out.len() - 73728 < name.len() {
+    if out.len() - LISTING_BYTES < name.len() {
         return true;
     }
-    4294893568 <= name.len()
+    NAME_TOO_LONG <= name.len()
 }
 
 // A refusal, which leaves the output all zero.
@@ -106,7 +111,7 @@ pub fn listing(
 ) -> Listed
     ensures { λ r. ⌜ Lists (now (text .entry)) (now (name .entry)) (now (store .entry)) (now (tree .entry)) (now (out .entry)) (now (store .exit)) (now (tree .exit)) (now (out .exit)) r ⌝ }
 {
-    if short(out, name) {
+    if lacks_room(out, name) {
         return no_room(store, tree, out);
     }
     list_text(text, name, store, tree, out)

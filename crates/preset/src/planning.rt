@@ -16,5 +16,5 @@ pub fn plan(
 ) -> Outcome
     ensures { λ r. ⌜ Parsed (planning (now (name .entry)) app (now (key .entry))) (now (text .entry)) (now (store .entry)) (now (tree .entry)) (now (store .exit)) (now (tree .exit)) r ⌝ }
 {
-    crate::go(Way::Plan(app), text, name, key, store, tree)
+    crate::judge_text(Way::Plan(app), text, name, key, store, tree)
 }

@@ -12,7 +12,7 @@ use mir.Syntax.{w64}
 use lib.ListN.{length, getD, drop, drop-of-length-le}
 use lib.Seq.{drop-cons}
 use Rattle.meaning.specs.Base.{pick, nil?}
-use Rattle.meaning.specs.Refusal.{R, ok, bad, via}
+use Rattle.meaning.specs.Refusal.{R, ok, bad, okThen}
 use Rattle.meaning.specs.Integers.{digit, value, clean, most, within, magnitude, sign, body, signed}
 use Rattle.laws.specs.Cases.{on, picked}
 use Rattle.scalar.specs.Ints.{intOf, digitsOf, more, Skipped, Passed}
@@ -65,7 +65,7 @@ beyond base limit (b ∷ s) acc h =
     (λ t. rw t (beyond base limit s (acc * base + digit b) (omega (arith, grows base acc (omega (arith, leb-false base (digit b) t))))))
 
 value-more : (base limit acc b : ℕ) (s : List ℕ)
-    → within limit (value base acc (b ∷ s)) ≡ via (more base limit acc b) (λ v. within limit (value base v s))
+    → within limit (value base acc (b ∷ s)) ≡ okThen (more base limit acc b) (λ v. within limit (value base v s))
 unfolding more within
 value-more base limit acc b s =
     on (leb base (digit b))
@@ -115,12 +115,12 @@ module _ (s : List ℕ) (base limit from i acc : ℕ) (a : Counting s base limit
   count-over h e = record { high = omega arith; small = a .small; left = rw (clean-over s i h e) at (a .left) }
 
   module _ (h : i < length s) (n : getD s i 0 ≡ 95 → ⊥) (r : Digits) (e : digitsOf r ≡ more base limit acc (getD s i 0)) where
-    told : within limit (value base 0 (clean (drop from s))) ≡ via (digitsOf r) (λ v. within limit (value base v (clean (drop (i + 1) s))))
+    told : within limit (value base 0 (clean (drop from s))) ≡ okThen (digitsOf r) (λ v. within limit (value base v (clean (drop (i + 1) s))))
     told =
         sym (a .left)
         ∙ ap (λ (t : List ℕ). within limit (value base acc t)) (clean-on s i h n)
         ∙ value-more base limit acc (getD s i 0) (clean (drop (i + 1) s))
-        ∙ ap (λ (d : R ℕ). via d (λ v. within limit (value base v (clean (drop (i + 1) s))))) (sym e)
+        ∙ ap (λ (d : R ℕ). okThen d (λ v. within limit (value base v (clean (drop (i + 1) s))))) (sym e)
 
     pub count-on : (v : ℕ) → r ≡ Count v → Counting s base limit from (i + 1) v
     count-on v f =

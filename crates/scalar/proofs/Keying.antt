@@ -9,7 +9,7 @@ use native.Mathlib.Numerals.{add-one}
 use lib.ListN.{length, getD, take, drop, length-append, length-drop, List·getD-append}
 use lib.Seq.{drop-drop, length-take-le, take-at, drop-at}
 use Rattle.meaning.specs.Base.{zeros, cut, part}
-use Rattle.meaning.specs.Refusal.{R, ok, bad, via}
+use Rattle.meaning.specs.Refusal.{R, ok, bad, okThen}
 use Rattle.meaning.specs.Space.{trim}
 use Rattle.meaning.specs.declared.Act.{Act}
 use Rattle.meaning.specs.declared.Act.the-variants.{End, Hold, Put, Fault}
@@ -87,7 +87,7 @@ key-decides limit s store at store₁ store₂ r₁ r₂ a b =
 -- ---- what an answer says of 01's segments
 fine-step : (n : ℕ) (ps : List (List ℕ)) (w : List ℕ) (ks : List (List ℕ)) (m : R (List ℕ)) (r : R (List (List ℕ)))
     → ((ls : List (List ℕ)) → r ≡ ok ls → taken n ps ≡ record { segs = ls; rest = [] })
-    → via m (λ k. via r (λ ls. ok (k ∷ ls))) ≡ ok ks → by m w (taken n ps) ≡ record { segs = ks; rest = [] }
+    → okThen m (λ k. okThen r (λ ls. ok (k ∷ ls))) ≡ ok ks → by m w (taken n ps) ≡ record { segs = ks; rest = [] }
 fine-step n ps w ks (ok k) (ok ls) ih e = let z : k ∷ ls ≡ ks = cc in rw (ih ls refl, ← z)
 fine-step n ps w ks (ok k) (bad b) ih e = cc
 fine-step n ps w ks (bad b) r ih e = cc

@@ -13,7 +13,7 @@ use lib.Dec.{eqb, ltb}
 use lib.ListN.{length, take, drop, set, length-drop, length-append}
 use lib.Seq.{drop-drop, length-take-le, set-at, take-all}
 use Rattle.meaning.specs.Base.{zeros, before, onFirst, cut}
-use Rattle.meaning.specs.Refusal.{R, ok, bad, via}
+use Rattle.meaning.specs.Refusal.{R, ok, bad, okThen}
 use Rattle.meaning.specs.Space.{trim}
 use Rattle.meaning.specs.Keys.{segment, segments, keys}
 use Rattle.laws.specs.Cases.{on}
@@ -50,7 +50,7 @@ ends-snoc at (j ∷ ks) k =
 
 -- ---- segments taken before others
 abbrev pub onto : List (List ℕ) → R (List (List ℕ)) → R (List (List ℕ))
-onto ks r = via r (λ ls. ok (ks ++ ls))
+onto ks r = okThen r (λ ls. ok (ks ++ ls))
 
 abbrev pub front : List (List ℕ) → Taken → Taken
 front ks t = record { segs = ks ++ t .segs; rest = t .rest }
@@ -59,7 +59,7 @@ onto-nil : (r : R (List (List ℕ))) → r ≡ onto [] r
 onto-nil (ok x) = refl
 onto-nil (bad n) = refl
 
-onto-one : (ks : List (List ℕ)) (k : List ℕ) (r : R (List (List ℕ))) → onto ks (via r (λ ls. ok (k ∷ ls))) ≡ onto (ks ++ (k ∷ [])) r
+onto-one : (ks : List (List ℕ)) (k : List ℕ) (r : R (List (List ℕ))) → onto ks (okThen r (λ ls. ok (k ∷ ls))) ≡ onto (ks ++ (k ∷ [])) r
 onto-one ks k (ok x) = rw append-assoc
 onto-one ks k (bad n) = refl
 
@@ -79,7 +79,7 @@ is-fine TooMany e = cc
 
 -- a refused segment refuses the key
 refuses : (v : Verdict) (k w : List ℕ) (f : List ℕ → R (List (List ℕ))) (t : Taken) → isFine v ≡ false
-    → (via (told v k) f ≡ told v []) × (by (told v k) w t ≡ record { segs = []; rest = w })
+    → (okThen (told v k) f ≡ told v []) × (by (told v k) w t ≡ record { segs = []; rest = w })
 refuses Fine k w f t e = absurd (let z : _≡_ {A = ℕ} 0 1 = cc in omega arith)
 refuses Malformed k w f t e = (refl, refl)
 refuses Escape k w f t e = (refl, refl)
@@ -154,8 +154,8 @@ module _ (limit : ℕ) (all : List (List ℕ)) (at₀ : ℕ) (store₀ : List �
     refused e =
         let k : List ℕ = laid (trim p) in
         let t : Taken = taken (limit - (n + 1)) ps in
-        let f : List ℕ → R (List (List ℕ)) = λ k. via (segments (limit - (n + 1)) ps) (λ ks. ok (k ∷ ks)) in
-        let x : (via (told (r .verdict) k) f ≡ told (r .verdict) []) × (by (told (r .verdict) k) k t ≡ record { segs = []; rest = k }) =
+        let f : List ℕ → R (List (List ℕ)) = λ k. okThen (segments (limit - (n + 1)) ps) (λ ks. ok (k ∷ ks)) in
+        let x : (okThen (told (r .verdict) k) f ≡ told (r .verdict) []) × (by (told (r .verdict) k) k t ≡ record { segs = []; rest = k }) =
         refuses (r .verdict) k k f t e in
         stops limit all at₀ store₀ (p ∷ ps) store ends n at a (r .verdict) k store' (at + r .written)
         (rw (one-left, ← (g .says)) (x .0)) (rw (one-left, ← (g .says)) (x .1)) (rw (g .wrote)) (g .left)
@@ -171,7 +171,7 @@ module _ (limit : ℕ) (all : List (List ℕ)) (at₀ : ℕ) (store₀ : List �
         let l : length (endsOf at₀ (a .ks)) ≡ n = ends-size at₀ (a .ks) ∙ a .size in
         let w : at + r .written ≡ at₀ + length (flat (a .ks)) + length k = omega (arith, a .here, g .wrote) in
         let b : length (flat (a .ks) ++ k) ≡ length (flat (a .ks)) + length k = length-append (flat (a .ks)) k in
-        let m : segments (limit - n) (p ∷ ps) ≡ via (segments (limit - (n + 1)) ps) (λ ks. ok (k ∷ ks)) = rw (one-left, q) in
+        let m : segments (limit - n) (p ∷ ps) ≡ okThen (segments (limit - (n + 1)) ps) (λ ks. ok (k ∷ ks)) = rw (one-left, q) in
         let t : taken (limit - n) (p ∷ ps) ≡ record { segs = k ∷ taken (limit - (n + 1)) ps .segs; rest = taken (limit - (n + 1)) ps .rest } = rw (one-left, q) in
         record {
           few = omega arith;

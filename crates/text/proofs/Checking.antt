@@ -10,7 +10,7 @@ use lib.ListN.{length, take, drop, drop-of-length-le, length-append}
 use lib.Seq.{take-at, length-take-le}
 use Rattle.meaning.specs.declared.Limits.{Limits}
 use Rattle.meaning.specs.Base.{pick}
-use Rattle.meaning.specs.Refusal.{Answer, accepted, refused, after, atLine}
+use Rattle.meaning.specs.Refusal.{Answer, accepted, refused, acceptedThen, atLine}
 use Rattle.meaning.specs.Utf8.{valid}
 use Rattle.meaning.specs.Lines.{Line, Pending, closed, join, joined, keptLines, physical}
 use Rattle.meaning.specs.Lines as meant
@@ -26,14 +26,14 @@ use Rattle.text.proofs.Saying.{says}
 
 -- n lines and those of j
 pub countFrom : ℕ → Answer (List Line) → Answer ℕ
-countFrom n j = after j (λ ls. accepted (n + length ls))
+countFrom n j = acceptedThen j (λ ls. accepted (n + length ls))
 
 count-none : (j : Answer (List Line)) → countFrom 0 j ≡ counted j
 unfolding countFrom
 count-none (accepted ls) = rw zero-add
 count-none (refused f a p) = refl
 
-count-one : (n : ℕ) (x : Line) (j : Answer (List Line)) → countFrom n (after j (λ r. accepted (x ∷ r))) ≡ countFrom (n + 1) j
+count-one : (n : ℕ) (x : Line) (j : Answer (List Line)) → countFrom n (acceptedThen j (λ r. accepted (x ∷ r))) ≡ countFrom (n + 1) j
 unfolding countFrom
 count-one n x (accepted ls) = let e : n + suc (length ls) ≡ n + 1 + length ls = omega arith in rw e
 count-one n x (refused f a p) = refl

@@ -13,7 +13,7 @@ use lib.Seq.{drop-drop, drop-cons, drop-at, take-at}
 use Rattle.meaning.specs.declared.Fate.{Fate}
 use Rattle.meaning.specs.declared.Fate.the-variants.{Over, Unended, Whole}
 use Rattle.meaning.specs.Base.{pick, part, before}
-use Rattle.meaning.specs.Refusal.{Answer, accepted, refused, after, atLine}
+use Rattle.meaning.specs.Refusal.{Answer, accepted, refused, acceptedThen, atLine}
 use Rattle.meaning.specs.Space.{blank}
 use Rattle.meaning.specs.Quote.{fresh, scan}
 use Rattle.meaning.specs.Lines.{Line, Pending, closed, open′, Step, fate, settle, settled, joinOne, join}
@@ -71,13 +71,13 @@ front s at t f e =
     let k : at + length t - at ≡ length t = omega arith in
     sym (rw (k, e) (take-at t (10 ∷ f) (length t) refl))
 
-after-nothing : (j : Answer (List Line)) → after j (λ r. accepted r) ≡ j
+after-nothing : (j : Answer (List Line)) → acceptedThen j (λ r. accepted r) ≡ j
 after-nothing (accepted x) = refl
 after-nothing (refused f a p) = refl
 
 -- all joined lines behind a step, where the lines ls, the first of number k, follow
 abbrev onward : ℕ → List (List ℕ) → Answer Step → Answer (List Line)
-onward k ls st = after st (λ x. after (join (x .pending) k ls) (λ r. accepted (x .out ++ r)))
+onward k ls st = acceptedThen st (λ x. acceptedThen (join (x .pending) k ls) (λ r. accepted (x .out ++ r)))
 
 module _ (s : List ℕ) (at n : ℕ) where
   whole-says : (t f : List ℕ) (m : ℕ) (ls : List (List ℕ)) → drop at s ≡ t ++ (10 ∷ f) → ls ≡ linesOf f

@@ -13,7 +13,7 @@ use Rattle.meaning.specs.declared.Limits.{Limits}
 use Rattle.meaning.specs.Base.{pick, before, cut}
 use Rattle.meaning.specs.Limits.{of01}
 use Rattle.meaning.specs.Quote.{upTo}
-use Rattle.meaning.specs.Refusal.{Answer, accepted, refused, after, atLine, atNoLine}
+use Rattle.meaning.specs.Refusal.{Answer, accepted, refused, acceptedThen, atLine, atNoLine}
 use Rattle.meaning.specs.Utf8.{valid}
 use Rattle.meaning.specs.Lines.{Line, closed, join, joined, dropCr, kept, keptLines, physical}
 use Rattle.meaning.specs.Lines as meant

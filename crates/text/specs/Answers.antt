@@ -6,7 +6,7 @@ use lib.Dec.{ltb}
 use lib.ListN.{length, drop}
 use Rattle.meaning.specs.declared.Limits.{Limits}
 use Rattle.meaning.specs.Base.{pick}
-use Rattle.meaning.specs.Refusal.{Answer, accepted, after, atLine, atNoLine}
+use Rattle.meaning.specs.Refusal.{Answer, accepted, acceptedThen, atLine, atNoLine}
 use Rattle.meaning.specs.Utf8.{valid}
 use Rattle.meaning.specs.Lines as lines
 use Rattle.text.specs.declared.Reading.{Reading}
@@ -36,11 +36,11 @@ checkedOf (checks.Open n) = atLine 4 n
 
 -- how many
 abbrev pub counted : Answer (List lines.Line) → Answer ℕ
-counted j = after j (λ ls. accepted (length ls))
+counted j = acceptedThen j (λ ls. accepted (length ls))
 
 -- how many, in how many bytes
 abbrev pub measured : ℕ → Answer (List lines.Line) → Answer Count
-measured used j = after j (λ ls. accepted (record { lines = length ls; used = used }))
+measured used j = acceptedThen j (λ ls. accepted (record { lines = length ls; used = used }))
 
 -- no count and no line number is over k
 abbrev pub Most : ℕ → Checked → Type 0

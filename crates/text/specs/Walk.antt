@@ -8,7 +8,7 @@ use lib.ListN.{length, drop}
 use Rattle.meaning.specs.declared.Fate.{Fate}
 use Rattle.meaning.specs.declared.Fate.the-variants.{Over, Unended, Whole}
 use Rattle.meaning.specs.Base.{pick, part}
-use Rattle.meaning.specs.Refusal.{Answer, accepted, after, atLine}
+use Rattle.meaning.specs.Refusal.{Answer, accepted, acceptedThen, atLine}
 use Rattle.meaning.specs.Space.{blank}
 use Rattle.meaning.specs.Quote.{fresh, scan}
 use Rattle.meaning.specs.Lines.{Line, Pending, closed, fate, join}
@@ -111,4 +111,4 @@ Says s j nexts.End = j ≡ accepted []
 Says s j (nexts.Over n) = j ≡ atLine 3 n
 Says s j (nexts.Open n) = j ≡ atLine 4 n
 Says s j (nexts.Line from end n p) =
-    j ≡ after (join closed (p .line) (linesOf (drop (p .at) s))) (λ r. accepted (record { at = n; text = part from end s } ∷ r))
+    j ≡ acceptedThen (join closed (p .line) (linesOf (drop (p .at) s))) (λ r. accepted (record { at = n; text = part from end s } ∷ r))

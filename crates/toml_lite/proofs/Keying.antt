@@ -9,7 +9,7 @@ use lib.ListN.{length, getD, take, drop, length-append}
 use lib.Seq.{length-take-le, drop-drop}
 use Rattle.meaning.specs.declared.Limits.{Limits}
 use Rattle.meaning.specs.Base.{pick, cut, onFirst, zeros}
-use Rattle.meaning.specs.Refusal.{R, ok, bad, via}
+use Rattle.meaning.specs.Refusal.{R, ok, bad, okThen}
 use Rattle.meaning.specs.Space.{trim}
 use Rattle.meaning.specs.Keys.{segment, segments, keys}
 use Rattle.meaning.specs.Document as meant
@@ -69,7 +69,7 @@ cut-some : (c : ℕ) (s : List ℕ) → 0 < length (cut c s)
 cut-some c [] = omega arith
 cut-some c (b ∷ s) = on (eqb b c) (λ e. rw e (omega arith)) (λ e. rw e (first-some b (cut c s)))
 
-via-some : (m : R (List ℕ)) (r : R (List (List ℕ))) (ks : List (List ℕ)) → via m (λ k. via r (λ ls. ok (k ∷ ls))) ≡ ok ks → 0 < length ks
+via-some : (m : R (List ℕ)) (r : R (List (List ℕ))) (ks : List (List ℕ)) → okThen m (λ k. okThen r (λ ls. ok (k ∷ ls))) ≡ ok ks → 0 < length ks
 via-some (ok k) (ok ls) ks e = let z : k ∷ ls ≡ ks = cc in omega (arith, ap length z)
 via-some (ok k) (bad n) ks e = let z : _≡_ {A = ℕ} 0 1 = cc in absurd (omega arith)
 via-some (bad n) r ks e = let z : _≡_ {A = ℕ} 0 1 = cc in absurd (omega arith)

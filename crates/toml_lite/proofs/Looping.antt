@@ -6,7 +6,7 @@ use native.Mathlib.Omega.{arith}
 use lib.ListN.{length, take, drop, length-drop, drop-of-length-le}
 use lib.Seq.{length-take-le, take-at}
 use Rattle.meaning.specs.declared.Limits.{Limits}
-use Rattle.meaning.specs.Refusal.{Answer, accepted, refused, after, atLine, R, ok, bad}
+use Rattle.meaning.specs.Refusal.{Answer, accepted, refused, acceptedThen, atLine, R, ok, bad}
 use Rattle.meaning.specs.Space.{trim}
 use Rattle.meaning.specs.Lines.{Line, closed, join}
 use Rattle.meaning.specs.Document as meant
@@ -37,7 +37,7 @@ pub record Ahead (limits : Limits) (s store₀ tree₀ store tree : List ℕ) (s
   pub room : length s ≤ length store + 1
   pub holding : Holding limits store tree st
   pub stepped : Stepped at store₀ tree₀ store tree start st
-  pub left : after (join closed line (linesOf (drop at s))) (λ ls. linesS limits ls (docOf store tree st here)) ≡ wholeOf limits s
+  pub left : acceptedThen (join closed line (linesOf (drop at s))) (λ ls. linesS limits ls (docOf store tree st here)) ≡ wholeOf limits s
 
 pub ahead-start : (limits : Limits) (s store tree : List ℕ) → Begun limits s store tree → Ahead limits s store tree store tree start 1 0 1
 ahead-start limits s store tree h =
@@ -55,7 +55,7 @@ same-state : (st : State) (u m : ℕ) → u ≡ st .used → m ≡ st .made → 
 same-state st u m p q = rw (p, q)
 
 -- the first line, then the others
-line-first : (j : Answer (List Line)) (x : Line) (f : List Line → Answer Doc) → after (after j (λ ls. accepted (x ∷ ls))) f ≡ after j (λ ls. f (x ∷ ls))
+line-first : (j : Answer (List Line)) (x : Line) (f : List Line → Answer Doc) → acceptedThen (acceptedThen j (λ ls. accepted (x ∷ ls))) f ≡ acceptedThen j (λ ls. f (x ∷ ls))
 line-first (accepted ls) x f = refl
 line-first (refused g a p) x f = refl
 
@@ -175,10 +175,10 @@ module _ (limits : Limits) (s store₀ tree₀ store tree : List ℕ) (st : Stat
       abbrev rest : Answer (List Line)
       rest = join closed (p .line) (linesOf (drop (p .at) s))
 
-      meaning : after rest (λ ls. toldAt limits l (lineS limits (meant.form (trim text)) (docOf store tree st here)) (linesS limits ls)) ≡ wholeOf limits s
+      meaning : acceptedThen rest (λ ls. toldAt limits l (lineS limits (meant.form (trim text)) (docOf store tree st here)) (linesS limits ls)) ≡ wholeOf limits s
       meaning =
           sym (line-first rest (record { at = l; text = text }) (λ ls. linesS limits ls (docOf store tree st here)))
-          ∙ ap (λ (j : Answer (List Line)). after j (λ ls. linesS limits ls (docOf store tree st here))) (sym (rw e at told)) ∙ k .left
+          ∙ ap (λ (j : Answer (List Line)). acceptedThen j (λ ls. linesS limits ls (docOf store tree st here))) (sym (rw e at told)) ∙ k .left
 
       module _ (store' tree' : List ℕ) (q : LineRead) (a : Lined limits (length text) store tree store' tree' st (lineS limits (meant.form (trim text)) (docOf store tree st here)) q) where
         pub ahead-fault : (n : ℕ) (v : Read) → q ≡ lines.Fault n → Told (length s) (behindFault s p n l) v → Reads limits (length s) store₀ tree₀ store' tree' (wholeOf limits s) v
@@ -187,7 +187,7 @@ module _ (limits : Limits) (s store₀ tree₀ store tree : List ℕ) (st : Stat
             let w : behindFault s p n l ≡ wholeOf limits s = rw m at meaning in
             rw (← w) (record { told = t; store-long = a .store-long ∙ k .stepped .store-long; tree-long = a .tree-long ∙ k .stepped .tree-long; kept = nothing rest })
           where
-            nothing : (j : Answer (List Line)) → KeptAll limits (length s) store₀ tree₀ store' tree' (after j (λ _. atLine n l))
+            nothing : (j : Answer (List Line)) → KeptAll limits (length s) store₀ tree₀ store' tree' (acceptedThen j (λ _. atLine n l))
             nothing (accepted ls) = tt
             nothing (refused f a p) = tt
 
@@ -247,5 +247,5 @@ module _ (limits : Limits) (s store₀ tree₀ store tree : List ℕ) (st : Stat
                   short = omega (arith, in-place);
                   grew = omega arith;
                 };
-                left = ap (λ (d : Doc). after rest (λ ls. linesS limits ls d)) doc-now ∙ sym (ap (λ (m : R Doc). after rest (λ ls. toldAt limits l m (linesS limits ls))) (at-last .is)) ∙ meaning;
+                left = ap (λ (d : Doc). acceptedThen rest (λ ls. linesS limits ls d)) doc-now ∙ sym (ap (λ (m : R Doc). acceptedThen rest (λ ls. toldAt limits l m (linesS limits ls))) (at-last .is)) ∙ meaning;
               }

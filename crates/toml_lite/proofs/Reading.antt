@@ -11,7 +11,7 @@ use lib.Seq.{take-at, length-take-le}
 use Rattle.meaning.specs.declared.Limits.{Limits}
 use Rattle.meaning.specs.Base.{pick, zeros}
 use Rattle.meaning.specs.Limits.{of01}
-use Rattle.meaning.specs.Refusal.{Answer, accepted, refused, after, inText, atLine}
+use Rattle.meaning.specs.Refusal.{Answer, accepted, refused, acceptedThen, inText, atLine}
 use Rattle.meaning.specs.Utf8.{valid}
 use Rattle.meaning.specs.Lines.{Line, closed, join, joined}
 use Rattle.laws.specs.Cases.{on}
@@ -36,7 +36,7 @@ module _ (s : List ℕ) (p : Place) (number line : ℕ) (c : Checked) (k : Check
   pub fault-alone : (n : ℕ) → Behind s p line → c ≡ checks.Fine n → Told (length s) (behindFault s p number line) (Fault number line)
   fault-alone n h e = go rest (ap checkedOf (sym e) ∙ k .says)
     where
-      go : (j : Answer (List Line)) → accepted n ≡ counted j → Told (length s) (after j (λ _. atLine number line)) (Fault number line)
+      go : (j : Answer (List Line)) → accepted n ≡ counted j → Told (length s) (acceptedThen j (λ _. atLine number line)) (Fault number line)
       go (accepted ls) q = record { says = refl; small = h .number; text = refl }
       go (refused f a w) q = let z : _≡_ {A = ℕ} 0 1 = cc in absurd (omega arith)
 
@@ -44,7 +44,7 @@ module _ (s : List ℕ) (p : Place) (number line : ℕ) (c : Checked) (k : Check
   sooner : (n l : ℕ) → atLine n l ≡ counted rest → l ≤ length s + 1 → Told (length s) (behindFault s p number line) (Fault n l)
   sooner n l e h = go rest e
     where
-      go : (j : Answer (List Line)) → atLine n l ≡ counted j → Told (length s) (after j (λ _. atLine number line)) (Fault n l)
+      go : (j : Answer (List Line)) → atLine n l ≡ counted j → Told (length s) (acceptedThen j (λ _. atLine number line)) (Fault n l)
       go (accepted ls) q = let z : _≡_ {A = ℕ} 0 1 = cc in absurd (omega arith)
       go (refused f a w) q = record { says = cc; small = h; text = let z : inText ≡ a = cc in sym z }
 
@@ -72,7 +72,7 @@ lines-begun limits t store tree f v g r l =
 pub lines-are : (limits : Limits) (s t : List ℕ) → t ≡ laid s → length s ≤ limits .text → true ≡ valid s → wholeOf limits t ≡ documentS limits s
 unfolding documentS
 lines-are limits s t e l v =
-    ap (wholeOf limits) e ∙ ap (λ (j : Answer (List Line)). after j (λ ls. linesS limits ls (empty limits))) (checked-joined s)
+    ap (wholeOf limits) e ∙ ap (λ (j : Answer (List Line)). acceptedThen j (λ ls. linesS limits ls (empty limits))) (checked-joined s)
     ∙ rw (le-ltb (limits .text) (length s) l, ← v)
 
 -- ---- 1, 2, then the lines

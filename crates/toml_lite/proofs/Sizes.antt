@@ -8,7 +8,7 @@ use borrow.Author.Tests.{leb-false, ltb-false}
 use lib.Dec.{eqb, leb, ltb}
 use lib.ListN.{length, getD, take, drop, length-append, length-take, length-drop}
 use Rattle.meaning.specs.Base.{pick, ascii, same, final, split, nil?}
-use Rattle.meaning.specs.Refusal.{R, ok, bad, via}
+use Rattle.meaning.specs.Refusal.{R, ok, bad, okThen}
 use Rattle.meaning.specs.Space.{blank, trim}
 use Rattle.meaning.specs.Quote.{fresh, step}
 use Rattle.meaning.specs.Strings.{Ending, closed, escape, unended, decode}
@@ -38,7 +38,7 @@ unfolding most
 most-low true = omega arith
 most-low false = omega arith
 
-count-low : (neg : Bool) (r : R ℕ) → Low (via (via r (λ n. pick (ltb (most neg) n) (bad 12) (ok n))) (λ n. ok (record { neg = neg; mag = n })))
+count-low : (neg : Bool) (r : R ℕ) → Low (okThen (okThen r (λ n. pick (ltb (most neg) n) (bad 12) (ok n))) (λ n. ok (record { neg = neg; mag = n })))
 count-low neg (ok n) = on (ltb (most neg) n) (λ e. rw e tt) (λ e. rw e (omega (arith, ltb-false (most neg) n e, most-low neg)))
 count-low neg (bad n) = tt
 

@@ -7,7 +7,7 @@ use lib.Dec.{ltb}
 use lib.ListN.{length, take, drop}
 use Rattle.meaning.specs.declared.Limits.{Limits}
 use Rattle.meaning.specs.Limits.{of01}
-use Rattle.meaning.specs.Refusal.{Answer, accepted, refused, after, numberOf, inText, atLine, atNoLine, R, ok, bad}
+use Rattle.meaning.specs.Refusal.{Answer, accepted, refused, acceptedThen, numberOf, inText, atLine, atNoLine, R, ok, bad}
 use Rattle.meaning.specs.Base.{pick, zeros}
 use Rattle.meaning.specs.Utf8.{valid}
 use Rattle.meaning.specs.Keys.{keys}
@@ -107,7 +107,7 @@ start = record { used = 0; made = 0 }
 
 -- what the joined lines of a laid text mean
 abbrev pub wholeOf : Limits → List ℕ → Answer Doc
-wholeOf limits s = after (join closed 1 (linesOf s)) (λ ls. linesS limits ls (empty limits))
+wholeOf limits s = acceptedThen (join closed 1 (linesOf s)) (λ ls. linesS limits ls (empty limits))
 
 -- a place behind a line
 pub record Behind (s : List ℕ) (p : Place) (line : ℕ) : Type 0 where
@@ -116,7 +116,7 @@ pub record Behind (s : List ℕ) (p : Place) (line : ℕ) : Type 0 where
 
 -- a line's fault, where the lines behind it have no 3 and no 4
 abbrev pub behindFault : List ℕ → Place → ℕ → ℕ → Answer Doc
-behindFault s p number line = after (join closed (p .line) (linesOf (drop (p .at) s))) (λ _. atLine number line)
+behindFault s p number line = acceptedThen (join closed (p .line) (linesOf (drop (p .at) s))) (λ _. atLine number line)
 
 -- the rooms take the text: the last LF of a laid text is in no line
 pub record Begun (limits : Limits) (s store tree : List ℕ) : Type 0 where

@@ -1,6 +1,7 @@
 // Whole documents into the two rooms, line by line.
 
 use meaning::Limits;
+use meaning::TEXT_BYTES;
 use scalar::key::Verdict;
 use text::Checked;
 use text::Next;
@@ -20,6 +21,11 @@ ghost use Rattle.meaning.specs.Limits.{of01};
 ghost use Rattle.values.specs.Doc.{lineS, setS, documentS};
 ghost use Rattle.toml_lite.specs.Rooms.{verdictNumber, settled, docOf, hangK, Taking, Hanging, Lined, wholeOf, Behind, behindFault, Told, Begun, Reads, Cleared, Ready, Standing, Roomy, Empty, suffice, judged};
 
+// The longest text, and the LF that its last line may lack.
+pub const SCRATCH_BYTES: usize = TEXT_BYTES + 1;
+// The scratch of a short text: emptying a long one would take longer than reading the text.
+const SHORT_SCRATCH_BYTES: usize = 4096;
+
 // What a line comes to: the state behind it and the place where assignments go; or the number of its fault.
 pub enum LineRead {
     Fine { st: State, here: u16 },
@@ -33,7 +39,7 @@ pub enum Read {
 }
 
 // The number of a refused key, or 0.
-fn refusal(v: Verdict) -> u32
+fn key_fault(v: Verdict) -> u32
     ensures { λ r. ⌜ r ≡ verdictNumber v ⌝ }
 {
     match v {
@@ -51,10 +57,7 @@ fn settle(g: Grown, used: usize) -> LineRead
 {
     match g {
         Grown::At { made, place } => LineRead::Fine {
-            st: State {
-                used: used,
-                made: made,
-            },
+            st: State { used, made },
             here: place,
         },
         Grown::Full => LineRead::Fault(16),
@@ -68,11 +71,8 @@ fn settle_at(g: Grown, used: usize, here: u16) -> LineRead
 {
     match g {
         Grown::At { made, place: _ } => LineRead::Fine {
-            st: State {
-                used: used,
-                made: made,
-            },
-            here: here,
+            st: State { used, made },
+            here,
         },
         Grown::Full => LineRead::Fault(16),
         Grown::Clash => LineRead::Fault(13),
@@ -88,7 +88,7 @@ fn header(s: &[u8], store: &mut [u8], tree: &mut [u8], st: State, limits: Limits
     let made = st.made;
     let key = scalar::key::put_key(s, store, used, limits.segments);
     let verdict = key.verdict;
-    let fault = refusal(verdict);
+    let fault = key_fault(verdict);
     if fault != 0 {
         return LineRead::Fault(fault);
     }
@@ -105,7 +105,7 @@ fn header_item(s: &[u8], store: &mut [u8], tree: &mut [u8], st: State, limits: L
     let made = st.made;
     let key = scalar::key::put_key(s, store, used, limits.segments);
     let verdict = key.verdict;
-    let fault = refusal(verdict);
+    let fault = key_fault(verdict);
     if fault != 0 {
         return LineRead::Fault(fault);
     }
@@ -130,7 +130,7 @@ fn hang_key(
     let made = st.made;
     let key = scalar::key::put_key(s, store, used, limits.segments);
     let verdict = key.verdict;
-    let fault = refusal(verdict);
+    let fault = key_fault(verdict);
     if fault != 0 {
         return LineRead::Fault(fault);
     }
@@ -236,10 +236,7 @@ fn first_fault(s: &[u8], behind: Place, number: u32, line: usize) -> Read
 {
     let c = text::check(s, behind.at, behind.line);
     match c {
-        Checked::Fine(_) => Read::Fault {
-            number: number,
-            line: line,
-        },
+        Checked::Fine(_) => Read::Fault { number, line },
         Checked::Over(l) => Read::Fault { number: 3, line: l },
         Checked::Open(l) => Read::Fault { number: 4, line: l },
     }
@@ -293,10 +290,7 @@ pub fn read_laid(s: &[u8], store: &mut [u8], tree: &mut [u8], limits: Limits) ->
         Read::Fault { number, line } => {
             slices::zero(store);
             slices::zero(tree);
-            Read::Fault {
-                number: number,
-                line: line,
-            }
+            Read::Fault { number, line }
         }
     }
 }
@@ -322,12 +316,12 @@ fn read_text(
     Read::Fault { number: 2, line: 0 }
 }
 
-// A short text within 01's limits, laid into a short scratch: emptying a long one would take longer than reading it.
+// A short text within 01's limits, laid into a short scratch.
 fn read_short(text: &[u8], store: &mut [u8], tree: &mut [u8]) -> Read
     requires { ⌜ Roomy (now store) (now tree) × (length (now text) < 4096) ⌝ }
     ensures { λ r. ⌜ Cleared (now (store .entry)) (now (tree .entry)) (now (store .exit)) (now (tree .exit)) (documentS of01 (now (text .entry))) r ⌝ }
 {
-    let mut scratch = [0u8; 4096];
+    let mut scratch = [0u8; SHORT_SCRATCH_BYTES];
     read_text(text, &mut scratch, store, tree, meaning::of01())
 }
 
@@ -336,7 +330,7 @@ fn read_long(text: &[u8], store: &mut [u8], tree: &mut [u8]) -> Read
     requires { ⌜ Roomy (now store) (now tree) ⌝ }
     ensures { λ r. ⌜ Cleared (now (store .entry)) (now (tree .entry)) (now (store .exit)) (now (tree .exit)) (documentS of01 (now (text .entry))) r ⌝ }
 {
-    let mut scratch = [0u8; 32769];
+    let mut scratch = [0u8; SCRATCH_BYTES];
     read_text(text, &mut scratch, store, tree, meaning::of01())
 }
 
@@ -344,7 +338,7 @@ fn read_long(text: &[u8], store: &mut [u8], tree: &mut [u8]) -> Read
 fn stands(text: &[u8]) -> bool
     ensures { λ r. ⌜ (r ≡ true → Standing (now (text .entry))) ⌝ }
 {
-    if 32768 < text.len() {
+    if TEXT_BYTES < text.len() {
         return false;
     }
     if text::clean(text) {
@@ -368,20 +362,20 @@ fn read_roomy(text: &[u8], store: &mut [u8], tree: &mut [u8]) -> Read
     if stands(text) {
         return read_standing(text, store, tree);
     }
-    if text.len() < 4096 {
+    if text.len() < SHORT_SCRATCH_BYTES {
         return read_short(text, store, tree);
     }
     read_long(text, store, tree)
 }
 
 // Whether both rooms take every text within 01's limits, by their lengths alone.
-pub fn large(store: &[u8], tree: &[u8]) -> bool
+pub fn rooms_suffice(store: &[u8], tree: &[u8]) -> bool
     ensures { λ r. ⌜ r ≡ suffice (length (now (store .entry))) (length (now (tree .entry))) ⌝ }
 {
-    if store.len() < 32768 {
+    if store.len() < TEXT_BYTES {
         return false;
     }
-    if tree::capacity(tree) < 2048 {
+    if tree::capacity(tree) < meaning::VALUES {
         return false;
     }
     true
@@ -392,7 +386,7 @@ fn read_empty(text: &[u8], store: &mut [u8], tree: &mut [u8]) -> Read
     requires { ⌜ Empty (now store) (now tree) ⌝ }
     ensures { λ r. ⌜ Cleared (now (store .entry)) (now (tree .entry)) (now (store .exit)) (now (tree .exit)) (judged (now (text .entry)) (length (now (store .entry))) (length (now (tree .entry)))) r ⌝ }
 {
-    if large(store, tree) {
+    if rooms_suffice(store, tree) {
         return read_roomy(text, store, tree);
     }
     Read::Fault {

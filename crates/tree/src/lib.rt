@@ -28,12 +28,20 @@ const STRING_MOST: u64 = 4294967295;
 // Reading never makes more values, so that each has a place of two bytes.
 pub const MOST_VALUES: usize = 65000;
 
+// The place under which the root's fields hang.
+pub const ROOT: u16 = 1;
+
 // The kinds of values.
 pub const STRING: u8 = 1;
+
 pub const INTEGER: u8 = 2;
+
 pub const BOOLEAN: u8 = 3;
+
 pub const ARRAY: u8 = 4;
+
 pub const TABLE: u8 = 5;
+
 pub const MINUS: u8 = 6;
 
 // A value. Its kind is one of those above, MINUS that of an integer with a minus.

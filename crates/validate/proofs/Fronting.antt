@@ -22,8 +22,9 @@ use Rattle.schema.specs.declared.Chip.the-variants as chips
 use Rattle.schema.specs.declared.Media.{Media}
 use Rattle.schema.specs.declared.Board.{Board}
 use Rattle.schema.specs.declared.Image.{Image}
-use Rattle.schema.specs.Words.{word, all, Stands, word-part, chipMeant, mediaMeant, mediaChoice, media-choice, chipWord}
-use Rattle.schema.specs.Texts.{clip, spelled}
+use Rattle.schema.specs.Words.{word, all, Stands, chipMeant, mediaMeant, mediaChoice, media-choice, chipWord}
+use Rattle.schema.specs.Texts.{spelled}
+use Rattle.schema.proofs.Spelling.{spelled-fixed}
 use Rattle.parse.specs.declared.Refusal.{Refusal}
 use Rattle.parse.specs.Refusals.{refusal}
 use Rattle.parse.specs.Meant.{boardMeant, imageMeant}
@@ -31,25 +32,13 @@ use Rattle.validate.specs.Fronts.{Plain, sized, narrowFault, wideFault, 
 
 -- ---- a text whose bytes stand in one place
 module _ (store name : List ℕ) (t : Text) where
-  pub spelled-none : t ≡ texts.Absent → [] ≡ spelled store name t
-  spelled-none e = rw e
-
-  pub spelled-stored : (from len : ℕ) (s : List ℕ) → t ≡ texts.Stored from len → s ≡ clip from len store → s ≡ spelled store name t
-  spelled-stored from len s e h = h ∙ rw e
-
-  pub spelled-lent : t ≡ texts.Lent → name ≡ spelled store name t
-  spelled-lent e = rw e
-
-  pub spelled-fixed : (w : Word) (s : Span) → t ≡ texts.Fixed w → Stands w s → take (s .to - s .from) (drop (s .from) all) ≡ spelled store name t
-  spelled-fixed w s e h = rw (h .is, word-part w, e)
-
   pub spelled-aic : {X : Type 0} (x y : X) (from len : ℕ) → Plain t → t ≡ texts.WithAic from len → x ≡ y
   spelled-aic x y from len p e = absurd (rw e at p)
 
   pub size-fixed : (w : Word) (s : Span) → t ≡ texts.Fixed w → Stands w s → s .to - s .from ≡ sized store name t
   size-fixed w s e h =
       let n : s .to - s .from ≤ length (drop (s .from) all) = omega (arith, length-drop (s .from) all, h .order, h .end) in
-      sym (length-take-le (s .to - s .from) (drop (s .from) all) n) ∙ ap length (spelled-fixed w s e h)
+      sym (length-take-le (s .to - s .from) (drop (s .from) all) n) ∙ ap length (spelled-fixed store name t w s e h)
 
   module _ (s : List ℕ) where
     pub size-by : s ≡ spelled store name t → length s ≡ sized store name t

@@ -11,7 +11,7 @@ use Rattle.meaning.specs.Base.{pick, nil?}
 use Rattle.meaning.specs.Limits.{of01}
 use Rattle.meaning.specs.Refusal.{accepted, refused}
 use Rattle.meaning.specs.Verdict as verdicts
-use Rattle.meaning.specs.Verdict.{Verdict, and, inTurn}
+use Rattle.meaning.specs.Verdict.{Verdict, firstRefusal, inTurn}
 use Rattle.meaning.specs.Layout as meant
 use Rattle.meaning.specs.Rules as rules
 use Rattle.meaning.specs.Schema as schemas
@@ -47,14 +47,14 @@ record Low (n : ℕ) (v : Verdict) : Type 0 where
 low-judged : (section number : ℕ) → Low 0 (verdicts.judged section 0 number)
 low-judged section number = record { low = on (eqb number 0) (λ e. rw e (omega arith)) (λ e. rw e (omega arith)) }
 
-low-and : {v w : Verdict} {n : ℕ} → Low n v → Low n w → Low n (and v w)
+low-and : {v w : Verdict} {n : ℕ} → Low n v → Low n w → Low n (firstRefusal v w)
 low-and {v} {w} {n} h k = record { low = go v (h .low) }
   where
-    go : (u : Verdict) → refusalOf u .place ≤ n → refusalOf (and u w) .place ≤ n
+    go : (u : Verdict) → refusalOf u .place ≤ n → refusalOf (firstRefusal u w) .place ≤ n
     go (accepted t) l = k .low
     go (refused f s p) l = l
 
-fault-and : (v w : Verdict) (n : ℕ) → faultOf v .place ≤ n → faultOf w .place ≤ n → faultOf (and v w) .place ≤ n
+fault-and : (v w : Verdict) (n : ℕ) → faultOf v .place ≤ n → faultOf w .place ≤ n → faultOf (firstRefusal v w) .place ≤ n
 fault-and (accepted u) w n h k = k
 fault-and (refused f s p) w n h k = h
 

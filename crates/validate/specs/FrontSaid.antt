@@ -7,7 +7,7 @@ use borrow.Author.Tests.{eqb-false}
 use lib.Dec.{eqb}
 use Rattle.meaning.specs.Base.{pick, nil?, ascii}
 use Rattle.meaning.specs.Refusal.{accepted, refused, numberOf, inBoard, inImage}
-use Rattle.meaning.specs.Verdict.{Verdict, and, judged, long}
+use Rattle.meaning.specs.Verdict.{Verdict, firstRefusal, judged, long}
 use Rattle.meaning.specs.Schema as meant
 use Rattle.meaning.specs.Rules as rules
 use Rattle.laws.specs.Cases.{picked}
@@ -40,7 +40,7 @@ Numbered (refused f section place) = 1 ≤ numberOf f
 pub record Sound (v : Verdict) : Type 0 where
   pub numbered-by : Numbered v
 
-numbered-and : (v w : Verdict) → Numbered v → Numbered w → Numbered (and v w)
+numbered-and : (v w : Verdict) → Numbered v → Numbered w → Numbered (firstRefusal v w)
 numbered-and (accepted u) w g h = h
 numbered-and (refused f section place) w g h = g
 
@@ -51,7 +51,7 @@ told-verdict (refused f section place) h = (refl, h)
 pub judged-sound : (section place n : ℕ) → Sound (judged section place n)
 judged-sound section place n = record { numbered-by = picked Numbered (eqb n 0) (λ e. tt) (λ e. omega (arith, eqb-false n 0 e)) }
 
-pub and-sound : {v w : Verdict} → Sound v → Sound w → Sound (and v w)
+pub and-sound : {v w : Verdict} → Sound v → Sound w → Sound (firstRefusal v w)
 and-sound {v} {w} g h = record { numbered-by = numbered-and v w (g .numbered-by) (h .numbered-by) }
 
 pub verdict-says : (v : Verdict) → Sound v → Says v (refusalOf v) tt

@@ -7,7 +7,7 @@ use borrow.Author.Tests.{ne-eqb}
 use Rattle.meaning.specs.Limits.{of01}
 use Rattle.meaning.specs.Refusal.{accepted, refused, numberOf}
 use Rattle.meaning.specs.Schema as schemas
-use Rattle.meaning.specs.Verdict.{Verdict, and}
+use Rattle.meaning.specs.Verdict.{Verdict, firstRefusal}
 use Rattle.meaning.specs.Layout.{layout}
 use Rattle.meaning.specs.Rules as meant
 use Rattle.tree.specs.Doors.{fieldsOf}
@@ -32,10 +32,10 @@ use Rattle.validate.specs.EntrySaid.{components-say, applications-say, b
 use Rattle.validate.specs.ClashSaid.{features-say}
 
 -- the second need only say what it says where the first is none
-says-and : {v w : Verdict} {r s : Refusal} → Says v r tt → (v ≡ accepted tt → Says w s tt) → Says (and v w) (earlier r s) tt
+says-and : {v w : Verdict} {r s : Refusal} → Says v r tt → (v ≡ accepted tt → Says w s tt) → Says (firstRefusal v w) (earlier r s) tt
 says-and {v} {w} {r} {s} g h = go v refl g
   where
-    go : (u : Verdict) → v ≡ u → Says u r tt → Says (and u w) (earlier r s) tt
+    go : (u : Verdict) → v ≡ u → Says u r tt → Says (firstRefusal u w) (earlier r s) tt
     go (accepted t) e k = says-after (λ x. w) k (h e)
     go (refused f n p) e k =
         let d : r .number ≡ numberOf f = ap (λ (q : Refusal). q .number) (k .told-by .0) in
@@ -90,8 +90,8 @@ module _ (room store : Seq ℕ) (made : ℕ) (name : Seq ℕ) where
 
   lists-say : (chip : schemas.Chip) → layout chip (meantBy partsIn) ≡ accepted tt
       → Says
-      (and (meant.componentRules (meant.partitionNames (meantBy partsIn)) cs)
-      (and (meant.featureRules cs apps) (and (meant.applicationRules (meant.partitionNames (meantBy partsIn)) apps) (meant.bootRule (meant.partitionNames (meantBy partsIn)) cs))))
+      (firstRefusal (meant.componentRules (meant.partitionNames (meantBy partsIn)) cs)
+      (firstRefusal (meant.featureRules cs apps) (firstRefusal (meant.applicationRules (meant.partitionNames (meantBy partsIn)) apps) (meant.bootRule (meant.partitionNames (meantBy partsIn)) cs))))
       (listsFault room store made names) tt
   unfolding listsFault behindFault
   lists-say chip e =

@@ -9,14 +9,14 @@ use borrow.Author.Tests.{eq-eqb, ne-eqb}
 use lib.Dec.{eqb, ltb, leb}
 use lib.ListN.{length, getD, take, drop, length-append}
 use Rattle.meaning.specs.Base.{pick, ascii, same, final, split, nil?}
-use Rattle.meaning.specs.Refusal.{R, ok, bad, via, Fault, numbered, Unmet, unmet}
+use Rattle.meaning.specs.Refusal.{R, ok, bad, okThen, Fault, numbered, Unmet, unmet}
 use Rattle.meaning.specs.Space.{blank, trim}
 use Rattle.meaning.specs.Quote.{fresh, step}
 use Rattle.meaning.specs.Strings.{Ending, closed, escape, unended, decode, byEnd}
 use Rattle.meaning.specs.Integers as ints
 use Rattle.meaning.specs.Integers.{signed, integer, numberOf}
 use Rattle.meaning.specs.declared.Signed.{Signed}
-use Rattle.meaning.specs.Reading.{Got, got, not, storing, adding, onward, change, having, make}
+use Rattle.meaning.specs.Reading.{Got, got, failed, storing, adding, gotThen, gotMap, okThenGot, make}
 use Rattle.meaning.specs.Tree.{Value, Items, str, int, boolean, array, item}
 use Rattle.meaning.specs.Values.{stringOf, plain, parts?, nonblank, itemsOf, Reader, each, aString, aPlain, one, anArray, brackets, value}
 use Rattle.tree.specs.declared.Slot.{Slot}
@@ -51,8 +51,8 @@ pub record Refused (n : ℕ) (o : Out) : Type 0 where
 -- o is what was read: as L says, or refused by the same number; "met by no text" are the other faults
 abbrev pub Meets : {X : Type 0} → (X → List ℕ → ℕ → Out → Type 0) → Got X → Out → Type 0
 Meets L (got x bs m) o = L x bs m o
-Meets L (not (numbered n)) o = Refused n o
-Meets L (not (unmet u)) o = ⊥
+Meets L (failed (numbered n)) o = Refused n o
+Meets L (failed (unmet u)) o = ⊥
 
 -- ---- a fault of an integer is 12
 
@@ -60,7 +60,7 @@ abbrev Twelve : {X : Type 0} → R X → Type 0
 Twelve (ok x) = Unit
 Twelve (bad n) = n ≡ 12
 
-twelve-via : {X Y : Type 0} (r : R X) (f : X → R Y) → Twelve r → ((x : X) → Twelve (f x)) → Twelve (via r f)
+twelve-via : {X Y : Type 0} (r : R X) (f : X → R Y) → Twelve r → ((x : X) → Twelve (f x)) → Twelve (okThen r f)
 twelve-via (ok x) f h k = k x
 twelve-via (bad n) f h k = h
 
@@ -113,7 +113,7 @@ module _ (limit : ℕ) where
 
     -- 8, 9, 10, then 16
     string-by : (s : List ℕ) (w : Ending) (bs : List ℕ) (k : ℕ)
-        → Says (having (byEnd w (pick (blank (drop k s)) (ok bs) (bad 10))) (λ d. storing d (make limit (str d) made))) (stringBy limit parent used made s w bs k)
+        → Says (okThenGot (byEnd w (pick (blank (drop k s)) (ok bs) (bad 10))) (λ d. storing d (make limit (str d) made))) (stringBy limit parent used made s w bs k)
     unfolding make
     string-by s closed bs k =
         on (blank (drop k s))
@@ -128,7 +128,7 @@ module _ (limit : ℕ) where
     string-meets s = string-by s (decode 0 s .how) (decode 0 s .bytes) (decode 0 s .span)
 
     int-by : (r : R Signed) → Twelve r
-        → Says (having (via (via r (λ x. ok (numberOf (x .neg) (x .mag)))) (λ i. ok (int i))) (λ v. storing [] (make limit v made))) (intOut limit parent made r)
+        → Says (okThenGot (okThen (okThen r (λ x. ok (numberOf (x .neg) (x .mag)))) (λ i. ok (int i))) (λ v. storing [] (make limit v made))) (intOut limit parent made r)
     int-by (ok x) h =
         made-meets (int (numberOf (x .neg) (x .mag))) (intSlot parent x) refl (ap (λ (w : Slot). w ∷ []) (seen-int parent (x .neg) (x .mag))) tt
     int-by (bad n) h = record { is = refl; some = λ z. omega arith }
@@ -149,7 +149,7 @@ module _ (limit : ℕ) where
     -- the value is read, and p are the items behind it
     read-then : (p : Out) (v : Value) (bs : List ℕ) (m : ℕ) → Lays parent used made v bs m o → (g : Got Items)
         → Meets (LaysAll parent (used + length (o .bytes)) (made + length (o .slots))) g p
-        → Meets (LaysAll parent used made) (adding bs (change (item v) g)) (join o p)
+        → Meets (LaysAll parent used made) (adding bs (gotMap (item v) g)) (join o p)
     read-then p v bs m a (got is cs n) b =
         let x : length (o .bytes) ≡ length (spelled v) = ap length (a .bytes ∙ a .spells) in
         let y : length (o .slots) ≡ size v = sym (length-seens (o .slots)) ∙ ap length (a .slots) ∙ length-layout v parent used made in
@@ -161,18 +161,18 @@ module _ (limit : ℕ) where
           count = b .count ∙ omega (arith, length-append (o .slots) (p .slots));
           kinds = (a .kinds, b .kinds);
         }
-    read-then p v bs m a (not (numbered n)) b = record { is = b .is; some = b .some }
-    read-then p v bs m a (not (unmet u)) b = b
+    read-then p v bs m a (failed (numbered n)) b = record { is = b .is; some = b .some }
+    read-then p v bs m a (failed (unmet u)) b = b
 
     then-meets : (k : ℕ → ℕ → Out) (rest : ℕ → Got Items) (g : Got Value) → Meets (Lays parent used made) g o
         → ((u m : ℕ) → Meets (LaysAll parent u m) (rest m) (k u m))
-        → Meets (LaysAll parent used made) (onward g (λ v m. change (item v) (rest m))) (andThen used made o k)
+        → Meets (LaysAll parent used made) (gotThen g (λ v m. gotMap (item v) (rest m))) (andThen used made o k)
     then-meets k rest (got v bs m) a b =
         let u : ℕ = used + length (o .bytes) in
         let n : ℕ = made + length (o .slots) in
         rw (eq-eqb (o .fault) 0 (a .fault), a .count) (read-then (k u n) v bs m a (rest n) (b u n))
-    then-meets k rest (not (numbered n)) a b = rw (ne-eqb (o .fault) 0 (λ z. a .some (sym (a .is) ∙ z))) a
-    then-meets k rest (not (unmet u)) a b = absurd a
+    then-meets k rest (failed (numbered n)) a b = rw (ne-eqb (o .fault) 0 (λ z. a .some (sym (a .is) ∙ z))) a
+    then-meets k rest (failed (unmet u)) a b = absurd a
 
   module _ (parent : ℕ) (read : List ℕ → Reader Value) (v : ℕ → ℕ → List ℕ → Out) (h : (u m : ℕ) (l : List ℕ) → Meets (Lays parent u m) (read l m) (v u m l)) where
     pub items-meet : (ls : List (List ℕ)) (used made : ℕ) → Meets (LaysAll parent used made) (each read (nonblank ls) made) (itemsOut limit v used made ls)
@@ -185,7 +185,7 @@ module _ (limit : ℕ) where
   -- an array, and behind it its items
   module _ (parent used made : ℕ) where
     boxed : (g : Got Items) (p : Out) → Meets (LaysAll (made + 2) used (made + 1)) g p
-        → Meets (Lays parent used made) (change array g) (join (fine [] (arraySlot parent ∷ [])) p)
+        → Meets (Lays parent used made) (gotMap array g) (join (fine [] (arraySlot parent ∷ [])) p)
     boxed (got is bs m) p a = record {
       fault = a .fault;
       bytes = a .bytes;
@@ -194,8 +194,8 @@ module _ (limit : ℕ) where
       count = omega (arith, a .count);
       kinds = a .kinds;
     }
-    boxed (not (numbered n)) p a = record { is = a .is; some = a .some }
-    boxed (not (unmet u)) p a = a
+    boxed (failed (numbered n)) p a = record { is = a .is; some = a .some }
+    boxed (failed (unmet u)) p a = a
 
   -- ---- values
 
@@ -254,17 +254,17 @@ pub record Reads (parent used made : ℕ) (g : Got Value) (o : Out) : Type 0 whe
 -- what 01 says, g, and what is left in the rooms, o
 pub record Agrees (parent used made : ℕ) (g : Got Value) (o : Out) : Type 0 where
   pub read : (v : Value) (bs : List ℕ) (m : ℕ) → g ≡ got v bs m → Lays parent used made v bs m o
-  pub refused : (n : ℕ) → g ≡ not (numbered n) → Refused n o
-  pub told : (f : Fault) → g ≡ not f → f ≡ numbered (o .fault)
-  pub never : (u : Unmet) → g ≡ not (unmet u) → ⊥
+  pub refused : (n : ℕ) → g ≡ failed (numbered n) → Refused n o
+  pub told : (f : Fault) → g ≡ failed f → f ≡ numbered (o .fault)
+  pub never : (u : Unmet) → g ≡ failed (unmet u) → ⊥
   pub fine : o .fault ≡ 0 → Reads parent used made g o
-  pub wrong : (n : ℕ) → o .fault ≡ n → (n ≡ 0 → ⊥) → g ≡ not (numbered n)
+  pub wrong : (n : ℕ) → o .fault ≡ n → (n ≡ 0 → ⊥) → g ≡ failed (numbered n)
 
 module _ (parent used made : ℕ) (o : Out) where
   abbrev Met : Got Value → Type 0
   Met g = Meets (Lays parent used made) g o
 
-  fault-told : (f : Fault) → Met (not f) → f ≡ numbered (o .fault)
+  fault-told : (f : Fault) → Met (failed f) → f ≡ numbered (o .fault)
   fault-told (numbered n) h = ap numbered (sym (h .is))
   fault-told (unmet u) h = absurd h
 
@@ -281,13 +281,13 @@ module _ (parent used made : ℕ) (o : Out) where
       kinds = h .kinds;
     };
   }
-  fine-reads (not (numbered n)) h z = absurd (h .some (sym (h .is) ∙ z))
-  fine-reads (not (unmet u)) h z = absurd h
+  fine-reads (failed (numbered n)) h z = absurd (h .some (sym (h .is) ∙ z))
+  fine-reads (failed (unmet u)) h z = absurd h
 
-  wrong-refuses : (g : Got Value) → Met g → (n : ℕ) → o .fault ≡ n → (n ≡ 0 → ⊥) → g ≡ not (numbered n)
+  wrong-refuses : (g : Got Value) → Met g → (n : ℕ) → o .fault ≡ n → (n ≡ 0 → ⊥) → g ≡ failed (numbered n)
   wrong-refuses (got v bs m) h n e z = absurd (z (sym e ∙ h .fault))
-  wrong-refuses (not (numbered k)) h n e z = ap (λ (i : ℕ). not (numbered i)) (sym (h .is) ∙ e)
-  wrong-refuses (not (unmet u)) h n e z = absurd h
+  wrong-refuses (failed (numbered k)) h n e z = ap (λ (i : ℕ). failed (numbered i)) (sym (h .is) ∙ e)
+  wrong-refuses (failed (unmet u)) h n e z = absurd h
 
   pub by-meeting : (g : Got Value) → Meets (Lays parent used made) g o → Agrees parent used made g o
   by-meeting g h = record {

@@ -6,7 +6,7 @@ use lib.Dec.{eqb, ltb}
 use lib.ListN.{length}
 use Rattle.meaning.specs.declared.Limits.{Limits}
 use Rattle.meaning.specs.Base.{pick, nil?}
-use Rattle.meaning.specs.Refusal.{Answer, accepted, refused, after, R, ok, bad, atLine, atNoLine}
+use Rattle.meaning.specs.Refusal.{Answer, accepted, refused, acceptedThen, R, ok, bad, atLine, atNoLine}
 use Rattle.meaning.specs.Utf8.{valid}
 use Rattle.meaning.specs.Space.{trim}
 use Rattle.meaning.specs.Lines.{Line, joined}
@@ -73,7 +73,7 @@ module _ (lim : Limits) where
 
   -- "Order: 17, 1, 2; then 3 and 4 over the whole text before any line is read; then line by line"
   unfoldable pub documentS : List ℕ → Answer Doc
-  documentS s = pick (ltb (lim .text) (length s)) (atNoLine 1) (pick (valid s) (after (joined s) (λ ls. linesS ls empty)) (atNoLine 2))
+  documentS s = pick (ltb (lim .text) (length s)) (atNoLine 1) (pick (valid s) (acceptedThen (joined s) (λ ls. linesS ls empty)) (atNoLine 2))
 
 unfoldable pub computes : Unit {0}
 unfolding setS lineS documentS Rattle.values.specs.Grow.computes Rattle.values.specs.Fill.computes Rattle.meaning.specs.Document.computes

@@ -20,10 +20,10 @@ fn double(l: &[u8]) -> bool
     if n < 4 {
         return false;
     }
-    if l[0] == 91 {
-        if l[1] == 91 {
-            if l[n - 1] == 93 {
-                return l[n - 2] == 93;
+    if l[0] == b'[' {
+        if l[1] == b'[' {
+            if l[n - 1] == b']' {
+                return l[n - 2] == b']';
             }
             return false;
         }
@@ -40,11 +40,11 @@ fn single(l: &[u8]) -> bool
     if n < 2 {
         return false;
     }
-    if l[0] == 91 {
-        if l[1] == 91 {
+    if l[0] == b'[' {
+        if l[1] == b'[' {
             return false;
         }
-        return l[n - 1] == 93;
+        return l[n - 1] == b']';
     }
     false
 }
@@ -59,7 +59,7 @@ pub fn classify(l: &[u8]) -> Form
     if single(l) {
         return Form::Heads;
     }
-    let at = text::outside(l, 61);
+    let at = text::outside(l, b'=');
     if at < l.len() {
         return Form::Sets(at);
     }

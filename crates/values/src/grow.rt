@@ -46,7 +46,7 @@ fn make_keyed(
     ensures { λ r. ⌜ Grew limit (now (tree .entry)) (now (tree .exit)) made (makeS limit (slotsOf (now (tree .entry)) made) (keyedSlot kind p (segOf at end))) r ⌝ }
 {
     let v = Slot {
-        kind: kind,
+        kind,
         parent: p,
         key: at as u16,
         len: (end - at) as u16,
@@ -89,7 +89,7 @@ pub fn enter(
         Found::At(n) => {
             if kind_at(tree, made, n) == 5 {
                 return Grown::At {
-                    made: made,
+                    made,
                     place: (n + 2) as u16,
                 };
             }
@@ -205,10 +205,7 @@ fn hang_up(
     ensures { λ r. ⌜ Grew limit (now (tree .entry)) (now (tree .exit)) made (hangS n (slotsOf (now (tree .entry)) made) p (segOf at end)) r ⌝ }
 {
     tree::hang(tree, n, p, at as u16, (end - at) as u16);
-    Grown::At {
-        made: made,
-        place: p,
-    }
+    Grown::At { made, place: p }
 }
 
 // Pushes under the last segment of a key.

@@ -16,11 +16,11 @@ fn valued(parent: u16, kind: u8, data: u64) -> Slot
     ensures { λ r. ⌜ r ≡ fill.valued parent kind «data» ⌝ }
 {
     Slot {
-        kind: kind,
-        parent: parent,
+        kind,
+        parent,
         key: 0,
         len: 0,
-        data: data,
+        data,
     }
 }
 
@@ -61,13 +61,7 @@ fn make(tree: &mut [u8], st: State, limit: usize, v: Slot) -> Reply
 fn fault(n: u32, used: usize, made: usize) -> Reply
     ensures { λ r. ⌜ r ≡ Fault n (record { used = used; made = made }) ⌝ }
 {
-    Reply::Fault(
-        n,
-        State {
-            used: used,
-            made: made,
-        },
-    )
+    Reply::Fault(n, State { used, made })
 }
 
 // A string behind its opening quote: 8, 9, then 10, then 16.
@@ -91,7 +85,7 @@ fn string(
         Decoded::Done { used: n, written } => {
             let next = State {
                 used: used + written,
-                made: made,
+                made,
             };
             if chars::blank(&s[n..]) {
                 let v = string_slot(parent, used, written);
@@ -135,7 +129,7 @@ fn open_array(s: &[u8], tree: &mut [u8], st: State, parent: u16, limit: usize) -
     if n == 0 {
         return Reply::Fault(11, st);
     }
-    if s[n - 1] == 93 {
+    if s[n - 1] == b']' {
         let v = valued(parent, 4, 0);
         return make(tree, st, limit, v);
     }
@@ -159,11 +153,11 @@ pub fn value(
     let from = t.from;
     let end = t.end;
     let c = slices::peek(&s[from..end], 0);
-    if c == 34 {
+    if c == b'"' {
         let a = from + 1;
         return string(&s[a..end], store, tree, st, parent, limit);
     }
-    if c == 91 {
+    if c == b'[' {
         let a = from + 1;
         return array(&s[a..end], store, tree, st, parent, limit, depth);
     }

@@ -1,5 +1,5 @@
 use borrow.Author.Needs.{needs}
-use Rattle.validate.proofs.Fronting.{spelled-stored, spelled-lent}
+use Rattle.schema.proofs.Spelling.{spelled-stored, spelled-lent}
 use Rattle.page.proofs.Writing.{blank-by, blank-fixed, blank-aic}
 use Rattle.page.proofs.blank.Statement.{statement}
 use Rattle.page.proofs.blank.Tie as tie

@@ -2,7 +2,7 @@ use mathlib.Core.Logic.{⊎-elim}
 use native.Mathlib.Omega.{arith}
 use lib.ListN.{length-set}
 use borrow.Author.Needs.{needs}
-use Rattle.page.proofs.Digits.{Spelling, spell-start, digit-fits, digit-shown, spell-on, spell-end, spell-full}
+use Rattle.page.proofs.Decimals.{Spelling, spell-start, digit-fits, digit-shown, spell-on, spell-end, spell-full}
 use Rattle.page.proofs.digits.Statement.{statement}
 use Rattle.page.proofs.digits.Tie as tie
 

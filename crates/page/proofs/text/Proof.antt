@@ -1,5 +1,5 @@
 use borrow.Author.Needs.{needs}
-use Rattle.validate.proofs.Fronting.{spelled-none, spelled-stored, spelled-lent}
+use Rattle.schema.proofs.Spelling.{spelled-none, spelled-stored, spelled-lent}
 use Rattle.page.proofs.Writing.{field-by, text-fixed, text-aic}
 use Rattle.page.proofs.text.Statement.{statement}
 use Rattle.page.proofs.text.Tie as tie

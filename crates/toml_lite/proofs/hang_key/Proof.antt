@@ -4,7 +4,7 @@ use Rattle.toml_lite.proofs.hang_key.Statement.{statement}
 use Rattle.toml_lite.proofs.hang_key.Tie as tie
 use Rattle.toml_lite.proofs.hang_key.Reads as reads
 use Rattle.toml_lite.proofs.hang_key.Lts as lts
-use Rattle.toml_lite.proofs.refusal.Reads as refusal-reads
+use Rattle.toml_lite.proofs.key_fault.Reads as key-fault-reads
 use Rattle.toml_lite.proofs.settle_at.Reads as settle-at-reads
 use Rattle.scalar.proofs.key.put_key.Reads as put-key-reads
 use Rattle.values.proofs.grow.assign.Reads as assign-reads
@@ -12,8 +12,8 @@ use Rattle.values.proofs.grow.assign.Reads as assign-reads
 put-key-requires : tie.Need-put-key-requires
 put-key-requires c κs = search needs
 
-refusal-requires : tie.Need-refusal-requires
-refusal-requires c κs = search needs
+key-fault-requires : tie.Need-key-fault-requires
+key-fault-requires c κs = search needs
 
 same-length : tie.Need-same-length
 same-length c = search needs
@@ -41,7 +41,7 @@ hang-key-spec =
     tie.close
     (tie.spec
     put-key-requires
-    refusal-requires
+    key-fault-requires
     same-length
     returns
     assign-requires

@@ -4,7 +4,7 @@ use Rattle.toml_lite.proofs.header.Statement.{statement}
 use Rattle.toml_lite.proofs.header.Tie as tie
 use Rattle.toml_lite.proofs.header.Reads as reads
 use Rattle.toml_lite.proofs.header.Lts as lts
-use Rattle.toml_lite.proofs.refusal.Reads as refusal-reads
+use Rattle.toml_lite.proofs.key_fault.Reads as key-fault-reads
 use Rattle.toml_lite.proofs.settle.Reads as settle-reads
 use Rattle.scalar.proofs.key.put_key.Reads as put-key-reads
 use Rattle.values.proofs.grow.down.Reads as down-reads
@@ -12,8 +12,8 @@ use Rattle.values.proofs.grow.down.Reads as down-reads
 put-key-requires : tie.Need-put-key-requires
 put-key-requires c κs = search needs
 
-refusal-requires : tie.Need-refusal-requires
-refusal-requires c κs = search needs
+key-fault-requires : tie.Need-key-fault-requires
+key-fault-requires c κs = search needs
 
 same-length : tie.Need-same-length
 same-length c = search needs
@@ -41,7 +41,7 @@ header-spec =
     tie.close
     (tie.spec
     put-key-requires
-    refusal-requires
+    key-fault-requires
     same-length
     returns
     down-requires

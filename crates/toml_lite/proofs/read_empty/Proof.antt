@@ -4,11 +4,11 @@ use Rattle.toml_lite.proofs.read_empty.Statement.{statement}
 use Rattle.toml_lite.proofs.read_empty.Tie as tie
 use Rattle.toml_lite.proofs.read_empty.Reads as reads
 use Rattle.toml_lite.proofs.read_empty.Lts as lts
-use Rattle.toml_lite.proofs.large.Reads as large-reads
+use Rattle.toml_lite.proofs.rooms_suffice.Reads as rooms-suffice-reads
 use Rattle.toml_lite.proofs.read_roomy.Reads as read-roomy-reads
 
-large-requires : tie.Need-large-requires
-large-requires c κs = search needs
+rooms-suffice-requires : tie.Need-rooms-suffice-requires
+rooms-suffice-requires c κs = search needs
 
 read-roomy-requires : tie.Need-read-roomy-requires
 read-roomy-requires c κs = search (needs, rooms-ready)
@@ -35,7 +35,7 @@ pub read-empty-spec : {M : Type 1} → statement M
 read-empty-spec =
     tie.close
     (tie.spec
-    large-requires
+    rooms-suffice-requires
     read-roomy-requires
     same-length
     same-length-2

@@ -4,10 +4,10 @@ use Rattle.host.proofs.values.sized.Statement.{statement}
 use Rattle.host.proofs.values.sized.Tie as tie
 use Rattle.host.proofs.values.sized.Reads as reads
 use Rattle.host.proofs.values.sized.Lts as lts
-use Rattle.toml_lite.proofs.large.Reads as large-reads
+use Rattle.toml_lite.proofs.rooms_suffice.Reads as rooms-suffice-reads
 
-large-requires : tie.Need-large-requires
-large-requires c κs = search needs
+rooms-suffice-requires : tie.Need-rooms-suffice-requires
+rooms-suffice-requires c κs = search needs
 
 returns : tie.Need-returns
 returns c = search (needs, sized-large)
@@ -19,4 +19,4 @@ returns-3 : tie.Need-returns-3
 returns-3 c = search (needs, sized-small)
 
 pub sized-spec : {M : Type 1} → statement M
-sized-spec = tie.close (tie.spec large-requires returns returns-2 returns-3)
+sized-spec = tie.close (tie.spec rooms-suffice-requires returns returns-2 returns-3)

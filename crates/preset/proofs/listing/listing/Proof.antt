@@ -6,10 +6,10 @@ use Rattle.preset.proofs.listing.listing.Reads as reads
 use Rattle.preset.proofs.listing.listing.Lts as lts
 use Rattle.preset.proofs.listing.list_text.Reads as list-text-reads
 use Rattle.preset.proofs.listing.no_room.Reads as no-room-reads
-use Rattle.preset.proofs.listing.short.Reads as short-reads
+use Rattle.preset.proofs.listing.lacks_room.Reads as lacks-room-reads
 
-short-requires : tie.Need-short-requires
-short-requires c κs = search needs
+lacks-room-requires : tie.Need-lacks-room-requires
+lacks-room-requires c κs = search needs
 
 no-room-requires : tie.Need-no-room-requires
 no-room-requires c κs = search needs
@@ -45,7 +45,7 @@ pub listing-spec : {M : Type 1} → statement M
 listing-spec =
     tie.close
     (tie.spec
-    short-requires
+    lacks-room-requires
     no-room-requires
     same-length
     same-length-2

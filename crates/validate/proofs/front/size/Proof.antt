@@ -1,5 +1,6 @@
 use borrow.Author.Needs.{needs}
-use Rattle.validate.proofs.Fronting.{size-by, spelled-stored, spelled-lent, size-fixed, spelled-aic}
+use Rattle.schema.proofs.Spelling.{spelled-stored, spelled-lent}
+use Rattle.validate.proofs.Fronting.{size-by, size-fixed, spelled-aic}
 use Rattle.validate.proofs.front.size.Statement.{statement}
 use Rattle.validate.proofs.front.size.Tie as tie
 use Rattle.validate.proofs.front.size.Reads as reads

@@ -1,5 +1,6 @@
 use borrow.Author.Needs.{needs}
-use Rattle.validate.proofs.Fronting.{is-by, spelled-none, spelled-stored, spelled-lent, spelled-fixed, spelled-aic}
+use Rattle.schema.proofs.Spelling.{spelled-none, spelled-stored, spelled-lent, spelled-fixed}
+use Rattle.validate.proofs.Fronting.{is-by, spelled-aic}
 use Rattle.validate.proofs.front.text_is.Statement.{statement}
 use Rattle.validate.proofs.front.text_is.Tie as tie
 use Rattle.validate.proofs.front.text_is.Reads as reads

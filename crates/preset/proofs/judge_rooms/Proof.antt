@@ -1,12 +1,12 @@
 use Rattle.preset.proofs.Settling.{read-judged, validate-judged, plan-judged}
 use borrow.Author.Needs.{needs}
-use Rattle.preset.proofs.judge.Statement.{statement}
-use Rattle.preset.proofs.judge.Tie as tie
-use Rattle.preset.proofs.judge.Reads as reads
-use Rattle.preset.proofs.judge.Lts as lts
+use Rattle.preset.proofs.judge_rooms.Statement.{statement}
+use Rattle.preset.proofs.judge_rooms.Tie as tie
+use Rattle.preset.proofs.judge_rooms.Reads as reads
+use Rattle.preset.proofs.judge_rooms.Lts as lts
 use Rattle.parse.proofs.judge_records.Reads as judge-records-reads
-use Rattle.plan.proofs.judge.Reads as judge-records-reads′
-use Rattle.validate.proofs.judge.Reads as judge-records-reads′′
+use Rattle.plan.proofs.judge.Reads as judge-reads
+use Rattle.validate.proofs.judge.Reads as judge-reads′
 
 enum-told : tie.Need-enum-told
 enum-told c = search needs
@@ -17,14 +17,14 @@ judge-records-requires c κs = search needs
 enum-told-2 : tie.Need-enum-told-2
 enum-told-2 c = search needs
 
-judge-records-requires-2 : tie.Need-judge-records-requires-2
-judge-records-requires-2 c κs = search needs
+judge-requires : tie.Need-judge-requires
+judge-requires c κs = search needs
 
 enum-known-way : tie.Need-enum-known-way
 enum-known-way c = search needs
 
-judge-records-requires-3 : tie.Need-judge-records-requires-3
-judge-records-requires-3 c κs = search needs
+judge-requires-2 : tie.Need-judge-requires-2
+judge-requires-2 c κs = search needs
 
 returns : tie.Need-returns
 returns c = search (needs, read-judged)
@@ -35,16 +35,16 @@ returns-2 c = search (needs, validate-judged)
 returns-3 : tie.Need-returns-3
 returns-3 c = search (needs, plan-judged)
 
-pub judge-records-spec : {M : Type 1} → statement M
-judge-records-spec =
+pub judge-rooms-spec : {M : Type 1} → statement M
+judge-rooms-spec =
     tie.close
     (tie.spec
     enum-told
     judge-records-requires
     enum-told-2
-    judge-records-requires-2
+    judge-requires
     enum-known-way
-    judge-records-requires-3
+    judge-requires-2
     returns
     returns-2
     returns-3)

@@ -1,13 +1,13 @@
 use Rattle.preset.proofs.Settling.{read-rooms, read-settles, judged-on, read-refused}
 use borrow.Author.Needs.{needs}
-use Rattle.preset.proofs.go.Statement.{statement}
-use Rattle.preset.proofs.go.Tie as tie
-use Rattle.preset.proofs.go.Reads as reads
-use Rattle.preset.proofs.go.Lts as lts
+use Rattle.preset.proofs.judge_text.Statement.{statement}
+use Rattle.preset.proofs.judge_text.Tie as tie
+use Rattle.preset.proofs.judge_text.Reads as reads
+use Rattle.preset.proofs.judge_text.Lts as lts
 use Rattle.toml_lite.proofs.read_tree.Reads as read-tree-reads
 use Rattle.preset.proofs.settle.Reads as settle-reads
 use Rattle.preset.proofs.unread.Reads as unread-reads
-use Rattle.preset.proofs.judge.Reads as judge-reads
+use Rattle.preset.proofs.judge_rooms.Reads as judge-rooms-reads
 
 read-tree-requires : tie.Need-read-tree-requires
 read-tree-requires c κs = search needs
@@ -15,8 +15,8 @@ read-tree-requires c κs = search needs
 enum-known-r : tie.Need-enum-known-r
 enum-known-r c = search needs
 
-judge-requires : tie.Need-judge-requires
-judge-requires c κs = search (needs, read-rooms)
+judge-rooms-requires : tie.Need-judge-rooms-requires
+judge-rooms-requires c κs = search (needs, read-rooms)
 
 settle-requires : tie.Need-settle-requires
 settle-requires c κs = search (needs, read-settles)
@@ -45,13 +45,13 @@ same-length-4 c = search needs
 returns-2 : tie.Need-returns-2
 returns-2 c = search (needs, read-refused)
 
-pub go-spec : {M : Type 1} → statement M
-go-spec =
+pub judge-text-spec : {M : Type 1} → statement M
+judge-text-spec =
     tie.close
     (tie.spec
     read-tree-requires
     enum-known-r
-    judge-requires
+    judge-rooms-requires
     settle-requires
     enum-known-r-2
     unread-requires
