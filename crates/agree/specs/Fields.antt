@@ -180,7 +180,7 @@ module _ (store bytes : List ℕ) (vs : List Slot) (x : Value) (name : List ℕ)
   pub text-need-got : Gives (okThen (present aText o) (need 24)) (firstFault (textRead v .fault) (missing v)) (spelled store name (textRead v .text))
   text-need-got = record { got = text-need-by store name o v (s .from) (s .place) (s .is) (s .spelt) }
 
-  -- firstRefusal by where it lies
+  -- and by where it lies
   pub text-place-got : Gives (okThen (present aText o) (need 24)) (firstFault (textRead v .fault) (missing v)) (clip (startOf (textRead v .text)) (lengthOf (textRead v .text)) store)
   text-place-got = rw (spelled-clip store name (textRead v .text) (text-kept v)) text-need-got
 

@@ -1,16 +1,17 @@
 -- Kinds of values and pieces in byte order: one law for each way out.
 use Prim.Native.Nat.{ℕ, _≤_, _<_}
 use mathlib.Core.Bool.{Bool, true, false}
-use mathlib.Core.List.{List}
-use mathlib.Core.Path.{_≡_, _∙_}
+use mathlib.Core.List.{List, [], _∷_}
+use mathlib.Core.Path.{_≡_, refl, _∙_}
 use borrow.Author.Tests.{lt-ltb, le-ltb, ne-eqb}
 use lib.Dec.{eqb, ltb}
 use lib.ListN.{length}
 use Rattle.meaning.specs.Base.{pick, less}
-use Rattle.laws.specs.Cases.{on}
+use Rattle.laws.specs.Cases.{on, never}
 use Rattle.meaning.specs.Features.{words}
 use Rattle.schema.specs.Texts.{clip}
 use Rattle.tree.specs.Doors.{items}
+use Rattle.tree.proofs.Others.{Left, others}
 use Rattle.tree.specs.declared.Value.{Value}
 use Rattle.tree.specs.declared.Value.the-variants as values
 use Rattle.schema.specs.declared.Features.the-variants.{Absent, Words, Items}
@@ -19,11 +20,19 @@ use Rattle.features.specs.declared.FeaturesRead.{FeaturesRead}
 use Rattle.features.specs.declared.Feature.{Feature}
 use Rattle.features.specs.declared.Feature.the-variants as features
 use Rattle.features.specs.Ordered.{words-length}
-use Rattle.features.specs.Pieces.{pieceOf, wordsFrom, allTexts, fewWords, itemsFault, fewItems, featuresRead, bytesOf, behind, ahead, better}
+use Rattle.features.specs.Pieces.{pieceOf, isText, wordsFrom, allTexts, fewWords, itemsFault, fewItems, featuresRead, bytesOf, behind, ahead, better}
 
 -- ---- what a value is
 pub piece-is : (v w : Value) (p : Piece) → v ≡ w → p ≡ pieceOf w → p ≡ pieceOf v
 piece-is v w p e h = rw e h
+
+-- all but a text
+module _ (v : Value) (o : Left (0 ∷ 2 ∷ 3 ∷ 4 ∷ 5 ∷ []) v) where
+  pub piece-not : record { from = 0; len = 0 } ≡ pieceOf v
+  piece-not = others pieceOf _ (0 ∷ 2 ∷ 3 ∷ 4 ∷ 5 ∷ []) (λ _. refl) (λ e. never e refl) (λ _ _ _. refl) (λ _ _. refl) (λ _ _. refl) (λ _ _. refl) v o
+
+  pub text-not : false ≡ isText v
+  text-not = others isText _ (0 ∷ 2 ∷ 3 ∷ 4 ∷ 5 ∷ []) (λ _. refl) (λ e. never e refl) (λ _ _ _. refl) (λ _ _. refl) (λ _ _. refl) (λ _ _. refl) v o
 
 -- ---- the limit
 module _ (store : List ℕ) (limit from len n : ℕ) (s : List ℕ) (e : n ≡ length (words s)) (f : s ≡ clip from len store) where
@@ -63,17 +72,13 @@ module _ (tree store : List ℕ) (made limit : ℕ) (v : Value) (r : FeaturesRea
   unfolding featuresRead
   read-absent e h = rw e h
 
-  pub read-number : (m : Bool) (n : ℕ) → v ≡ values.Number m n → r ≡ record { fault = 20; features = Absent } → r ≡ featuresRead tree store made limit v
+  -- all but a text, an array and none
+  pub read-not : Left (2 ∷ 3 ∷ 5 ∷ []) v → r ≡ record { fault = 20; features = Absent } → r ≡ featuresRead tree store made limit v
   unfolding featuresRead
-  read-number m n e h = rw e h
-
-  pub read-flag : (b : Bool) → v ≡ values.Flag b → r ≡ record { fault = 20; features = Absent } → r ≡ featuresRead tree store made limit v
-  unfolding featuresRead
-  read-flag b e h = rw e h
-
-  pub read-table : (place : ℕ) → v ≡ values.Table place → r ≡ record { fault = 20; features = Absent } → r ≡ featuresRead tree store made limit v
-  unfolding featuresRead
-  read-table place e h = rw e h
+  read-not o h =
+      h
+      ∙ others (featuresRead tree store made limit) _ (2 ∷ 3 ∷ 5 ∷ [])
+      (λ e. never e refl) (λ e. never e refl) (λ _ _ _. refl) (λ _ _. refl) (λ e. never e refl) (λ _ _. refl) v o
 
 -- ---- pieces
 pub before-is : (store a b : List ℕ) (p q : Piece) (r : Bool) → a ≡ bytesOf store p → b ≡ bytesOf store q → r ≡ less a b → r ≡ less (bytesOf store p) (bytesOf store q)

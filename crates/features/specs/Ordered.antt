@@ -13,10 +13,12 @@ use Rattle.meaning.specs.Base.{pick, nil?, same, less, onFirst, split}
 use Rattle.meaning.specs.Tree.{Value, Table, boolean, empty, entry, lookup}
 use Rattle.meaning.specs.Order.{ranked, sorted}
 use Rattle.meaning.specs.Features.{gap, filled, words, placed, ordered}
+use Rattle.meaning.specs.Rules.{sameAll}
 use Rattle.laws.specs.Cases.{on, never}
 use Rattle.laws.specs.Never.{same-refl}
 use Rattle.laws.specs.Order.{same-eq, less-on, less-one, Rises, first-least, rest-lookup, sorted-rises, sorted-lookup}
 use Rattle.schema.specs.Texts.{clip}
+use Rattle.schema.specs.declared.Features.{Features}
 use Rattle.schema.specs.declared.Features.the-variants.{Words}
 use Rattle.features.specs.declared.Piece.{Piece}
 use Rattle.features.specs.declared.Feature.{Feature}
@@ -333,3 +335,28 @@ module _ (store : List ℕ) (ps : List Piece) where
   -- the walk from the start meets the items in byte order, each once
   pub walk-ordered : Walks store ps Nothing (ordered (bytesAll store ps))
   walk-ordered = walks (ordered (bytesAll store ps)) Nothing (record { rises = keyed-rises (bytesAll store ps); is = keyed-lookup (bytesAll store ps) })
+
+-- ---- what the walks over a list answer
+module _ (room store : List ℕ) (made : ℕ) where
+  -- the next item after the last one given, from a position on and of all
+  abbrev pub nextFrom : Features → ℕ → Feature → Feature
+  nextFrom f from after = nextOf store after Nothing (piecesFrom room store made f from)
+
+  abbrev pub nextIn : Features → Feature → Feature
+  nextIn f after = nextOf store after Nothing (pieces room store made f)
+
+  -- its items in byte order, each once
+  abbrev pub inOrder : Features → List (List ℕ)
+  inOrder f = ordered (bytesAll store (pieces room store made f))
+
+  -- how many there are from a position on
+  abbrev pub countFrom : Features → ℕ → ℕ
+  countFrom f from = length (ordered (bytesAll store (piecesFrom room store made f from)))
+
+  -- two lists have the same items
+  abbrev pub equalIn : Features → Features → Bool
+  equalIn f g = sameAll (inOrder f) (inOrder g)
+
+  -- they are found alike only where the items are the same in the order of the text
+  abbrev pub AlikeIn : Features → Features → Bool → Type 0
+  AlikeIn f g r = r ≡ true → bytesAll store (pieces room store made f) ≡ bytesAll store (pieces room store made g)

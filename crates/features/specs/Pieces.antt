@@ -96,6 +96,10 @@ module _ (room store : List ℕ) where
     bound (Words from len) = length (clip from len store)
     bound (Items place) = made
 
+    -- a step from a position on
+    abbrev pub StepsIn : Features → ℕ → Raw → Type 0
+    StepsIn f at r = Steps (piecesFrom f) (bound f) at r
+
     -- "32 counted before that": 25; "feature item, of the wrong kind": 20
     abbrev pub itemsFault : ℕ → ℕ → ℕ
     itemsFault limit place = pick (ltb limit (length (items room made place 0))) 25 (pick (allTexts (items room made place 0)) 0 20)
@@ -125,7 +129,7 @@ span room made (Items place) = fieldsOf room made place
 abbrev pub bytesOf : List ℕ → Piece → List ℕ
 bytesOf store p = clip (p .from) (p .len) store
 
--- p comes behind the last one given; nothing was given at the start
+-- p comes after the last one given; nothing was given at the start
 abbrev pub behind : List ℕ → Feature → Piece → Bool
 behind store features.Nothing p = true
 behind store (features.At q) p = less (bytesOf store q) (bytesOf store p)
@@ -139,7 +143,7 @@ ahead store (features.At q) p = less (bytesOf store p) (bytesOf store q)
 unfoldable pub better : List ℕ → Feature → Feature → Piece → Feature
 better store after best p = pick (behind store after p) (pick (ahead store best p) (features.At p) best) best
 
--- the least of the pieces behind the last one given
+-- the least of the pieces after the last one given
 abbrev pub nextOf : List ℕ → Feature → Feature → List Piece → Feature
 nextOf store after best [] = best
 nextOf store after best (p ∷ ps) = nextOf store after (better store after best p) ps

@@ -7,17 +7,14 @@ use schema::Features;
 use tree::Fields;
 use tree::Item;
 use tree::Value;
-ghost use mathlib.Core.Bool.{true};
 ghost use mathlib.Core.Path.{_≡_};
 ghost use Prim.Native.Nat.{_≤_};
 ghost use lib.ListN.{length};
 ghost use Rattle.meaning.specs.Base.{pick, nil?, same, less};
-ghost use Rattle.meaning.specs.Features as meant;
 ghost use Rattle.schema.specs.Texts.{clip};
 ghost use Rattle.features.specs.Pieces as piece;
 ghost use Rattle.tree.specs.Doors.{Rooms};
-ghost use Rattle.features.specs.Ordered.{bytesAll};
-ghost use Rattle.meaning.specs.Rules.{sameAll};
+ghost use Rattle.features.specs.Ordered as ordered;
 
 // A part of the text store.
 pub struct Piece {
@@ -25,19 +22,24 @@ pub struct Piece {
     pub len: usize,
 }
 
-// Where a walk in byte order stands: at its start, or behind an item.
+// Where a walk in byte order stands: at its start, or after an item.
 pub enum Feature {
     Nothing,
     At(Piece),
 }
 
-// An item in the order of the text, and the position behind it.
+// An item in the order of the text, and the position after it.
 pub enum Raw {
     End,
     At(Piece, usize),
 }
 
-// fault 25: too many items; 20: something else than text.
+// Refusals of a list: an item that is no text, and too many of them.
+const WRONG_KIND: u32 = 20;
+
+const TOO_MANY: u32 = 25;
+
+// fault 0 where the list is right.
 pub struct FeaturesRead {
     pub fault: u32,
     pub features: Features,
@@ -66,18 +68,8 @@ fn piece_of(v: Value) -> Piece
     ensures { λ r. ⌜ r ≡ piece.pieceOf v ⌝ }
 {
     match v {
-        Value::Text { from, len } => Piece {
-            from: from,
-            len: len,
-        },
-        Value::Absent => Piece { from: 0, len: 0 },
-        Value::Number {
-            negative: _,
-            magnitude: _,
-        } => Piece { from: 0, len: 0 },
-        Value::Flag(_) => Piece { from: 0, len: 0 },
-        Value::Array(_) => Piece { from: 0, len: 0 },
-        Value::Table(_) => Piece { from: 0, len: 0 },
+        Value::Text { from, len } => Piece { from, len },
+        _ => Piece { from: 0, len: 0 },
     }
 }
 
@@ -96,7 +88,7 @@ fn raw_item(tree: &[u8], store: &[u8], made: usize, place: u16, at: usize) -> Ra
 // The first piece of a feature list from a position on.
 fn raw_next(tree: &[u8], store: &[u8], made: usize, f: Features, at: usize) -> Raw
     requires { ⌜ Rooms (now tree) made × (at ≤ piece.bound (now tree) (now store) made f) ⌝ }
-    ensures { λ r. ⌜ piece.Steps (piece.piecesFrom (now (tree .entry)) (now (store .entry)) made f) (piece.bound (now (tree .entry)) (now (store .entry)) made f) at r ⌝ }
+    ensures { λ r. ⌜ piece.StepsIn (now (tree .entry)) (now (store .entry)) made f at r ⌝ }
 {
     match f {
         Features::Absent => Raw::End,
@@ -122,14 +114,7 @@ fn is_text(v: Value) -> bool
 {
     match v {
         Value::Text { from: _, len: _ } => true,
-        Value::Absent => false,
-        Value::Number {
-            negative: _,
-            magnitude: _,
-        } => false,
-        Value::Flag(_) => false,
-        Value::Array(_) => false,
-        Value::Table(_) => false,
+        _ => false,
     }
 }
 
@@ -140,7 +125,7 @@ fn kind_fault(fault: u32, v: Value) -> u32
     if is_text(v) {
         return fault;
     }
-    20
+    WRONG_KIND
 }
 
 // Too many items come before those that are no text; one walk tells both, for a walk looks at every value made.
@@ -157,7 +142,7 @@ fn items_fault(tree: &[u8], store: &[u8], made: usize, place: u16, limit: usize)
             Item::End => return fault,
             Item::At { value, rest } => {
                 if n == limit {
-                    return 25;
+                    return TOO_MANY;
                 }
                 fault = kind_fault(fault, tree::value_at(tree, store, value));
                 n += 1;
@@ -171,7 +156,7 @@ fn wrong(fault: u32) -> FeaturesRead
     ensures { λ r. ⌜ r ≡ record { fault = fault; features = Features.Absent } ⌝ }
 {
     FeaturesRead {
-        fault: fault,
+        fault,
         features: Features::Absent,
     }
 }
@@ -181,14 +166,11 @@ fn few_words(store: &[u8], from: usize, len: usize, limit: usize) -> FeaturesRea
 {
     let words = reader::count(schema::stored(store, from, len));
     if limit < words {
-        return wrong(25);
+        return wrong(TOO_MANY);
     }
     FeaturesRead {
         fault: 0,
-        features: Features::Words {
-            from: from,
-            len: len,
-        },
+        features: Features::Words { from, len },
     }
 }
 
@@ -214,13 +196,8 @@ pub fn read(tree: &[u8], store: &[u8], made: usize, v: Value, limit: usize) -> F
     match v {
         Value::Absent => wrong(0),
         Value::Text { from, len } => few_words(store, from, len, limit),
-        Value::Number {
-            negative: _,
-            magnitude: _,
-        } => wrong(20),
-        Value::Flag(_) => wrong(20),
         Value::Array(place) => few_items(tree, store, made, place, limit),
-        Value::Table(_) => wrong(20),
+        _ => wrong(WRONG_KIND),
     }
 }
 
@@ -264,7 +241,7 @@ fn better(store: &[u8], after: Feature, best: Feature, p: Piece) -> Feature
     best
 }
 
-// Of a list's items from a position on, the least behind the last one given.
+// Of a list's items from a position on, the least after the last one given.
 fn nearest(
     tree: &[u8],
     store: &[u8],
@@ -274,7 +251,7 @@ fn nearest(
     after: Feature,
 ) -> Feature
     requires { ⌜ Rooms (now tree) made × (from ≤ piece.bound (now tree) (now store) made f) ⌝ }
-    ensures { λ r. ⌜ r ≡ piece.nextOf (now (store .entry)) after Feature.Nothing (piece.piecesFrom (now (tree .entry)) (now (store .entry)) made f from) ⌝ }
+    ensures { λ r. ⌜ r ≡ ordered.nextFrom (now (tree .entry)) (now (store .entry)) made f from after ⌝ }
 {
     let mut best = Feature::Nothing;
     let mut at = from;
@@ -290,10 +267,10 @@ fn nearest(
     }
 }
 
-// The next item in byte order behind the last one given, each once.
+// The next item in byte order after the last one given, each once.
 pub fn next_feature(tree: &[u8], store: &[u8], made: usize, f: Features, after: Feature) -> Feature
     requires { ⌜ Rooms (now tree) made ⌝ }
-    ensures { λ r. ⌜ r ≡ piece.nextOf (now (store .entry)) after Feature.Nothing (piece.pieces (now (tree .entry)) (now (store .entry)) made f) ⌝ }
+    ensures { λ r. ⌜ r ≡ ordered.nextIn (now (tree .entry)) (now (store .entry)) made f after ⌝ }
 {
     nearest(tree, store, made, f, 0, after)
 }
@@ -326,7 +303,7 @@ fn same_feature(store: &[u8], x: Feature, y: Feature) -> bool
 // Two lists with the same items in the order of the text are told by one scan of each.
 fn alike(tree: &[u8], store: &[u8], made: usize, f: Features, g: Features) -> bool
     requires { ⌜ Rooms (now tree) made ⌝ }
-    ensures { λ r. ⌜ (r ≡ true → bytesAll (now (store .entry)) (piece.pieces (now (tree .entry)) (now (store .entry)) made f) ≡ bytesAll (now (store .entry)) (piece.pieces (now (tree .entry)) (now (store .entry)) made g)) ⌝ }
+    ensures { λ r. ⌜ ordered.AlikeIn (now (tree .entry)) (now (store .entry)) made f g r ⌝ }
 {
     let mut at = 0;
     let mut bt = 0;
@@ -355,7 +332,7 @@ fn alike(tree: &[u8], store: &[u8], made: usize, f: Features, g: Features) -> bo
 // Side by side in byte order: each step scans both lists.
 fn equal_slow(tree: &[u8], store: &[u8], made: usize, f: Features, g: Features) -> bool
     requires { ⌜ Rooms (now tree) made ⌝ }
-    ensures { λ r. ⌜ r ≡ sameAll (meant.ordered (bytesAll (now (store .entry)) (piece.pieces (now (tree .entry)) (now (store .entry)) made f))) (meant.ordered (bytesAll (now (store .entry)) (piece.pieces (now (tree .entry)) (now (store .entry)) made g))) ⌝ }
+    ensures { λ r. ⌜ r ≡ ordered.equalIn (now (tree .entry)) (now (store .entry)) made f g ⌝ }
 {
     let mut a = Feature::Nothing;
     let mut b = Feature::Nothing;
@@ -375,7 +352,7 @@ fn equal_slow(tree: &[u8], store: &[u8], made: usize, f: Features, g: Features) 
 // Whether two lists have the same items, in byte order and each once.
 pub fn equal(tree: &[u8], store: &[u8], made: usize, f: Features, g: Features) -> bool
     requires { ⌜ Rooms (now tree) made ⌝ }
-    ensures { λ r. ⌜ r ≡ sameAll (meant.ordered (bytesAll (now (store .entry)) (piece.pieces (now (tree .entry)) (now (store .entry)) made f))) (meant.ordered (bytesAll (now (store .entry)) (piece.pieces (now (tree .entry)) (now (store .entry)) made g))) ⌝ }
+    ensures { λ r. ⌜ r ≡ ordered.equalIn (now (tree .entry)) (now (store .entry)) made f g ⌝ }
 {
     if alike(tree, store, made, f, g) {
         return true;
@@ -417,7 +394,7 @@ fn span(tree: &[u8], made: usize, f: Features) -> Fields
 // How many items a list has from a position on, each once.
 fn tally(tree: &[u8], store: &[u8], made: usize, f: Features, from: usize) -> usize
     requires { ⌜ Rooms (now tree) made × (from ≤ piece.bound (now tree) (now store) made f) ⌝ }
-    ensures { λ r. ⌜ r ≡ length (meant.ordered (bytesAll (now (store .entry)) (piece.piecesFrom (now (tree .entry)) (now (store .entry)) made f from))) ⌝ }
+    ensures { λ r. ⌜ r ≡ ordered.countFrom (now (tree .entry)) (now (store .entry)) made f from ⌝ }
 {
     let end = most(store, made, f);
     let mut after = Feature::Nothing;
@@ -434,7 +411,7 @@ fn tally(tree: &[u8], store: &[u8], made: usize, f: Features, from: usize) -> us
 // How many items a list has, each once.
 pub fn count_features(tree: &[u8], store: &[u8], made: usize, f: Features) -> usize
     requires { ⌜ Rooms (now tree) made ⌝ }
-    ensures { λ r. ⌜ r ≡ length (meant.ordered (bytesAll (now (store .entry)) (piece.pieces (now (tree .entry)) (now (store .entry)) made f))) ⌝ }
+    ensures { λ r. ⌜ r ≡ length (ordered.inOrder (now (tree .entry)) (now (store .entry)) made f) ⌝ }
 {
     let s = span(tree, made, f);
     tally(tree, store, s.to, f, s.from)

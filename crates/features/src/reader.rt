@@ -7,7 +7,7 @@ ghost use Rattle.meaning.specs.Features as meant;
 ghost use Rattle.features.specs.Gaps.{gaps, run};
 ghost use Rattle.features.specs.Reading as reading;
 
-// A word of a string, from its first byte to the place behind its last.
+// A word of a string, from its first byte to the place after its last.
 pub enum Word {
     End,
     At { from: usize, to: usize },
@@ -19,7 +19,7 @@ pub struct Reader<'a> {
     pub at: usize,
 }
 
-// The word that a reader stands before, and the reader behind it.
+// The word that a reader stands before, and the reader after it.
 pub struct Step<'a> {
     pub word: Word,
     pub rest: Reader<'a>,
@@ -28,10 +28,10 @@ pub struct Step<'a> {
 fn gap(b: u8) -> bool
     ensures { λ r. ⌜ r ≡ meant.gap b ⌝ }
 {
-    if b == 32 {
+    if b == b' ' {
         return true;
     }
-    b == 44
+    b == b','
 }
 
 // The first byte from a place on that is no gap.
@@ -75,7 +75,7 @@ fn word_at(s: &[u8], at: usize) -> Word
     Word::End
 }
 
-// The place behind a word; of the end, the place where it was met.
+// The place after a word; of the end, the place where it was met.
 fn behind(word: Word, at: usize) -> usize
     ensures { λ r. ⌜ r ≡ reading.behind word at ⌝ }
 {

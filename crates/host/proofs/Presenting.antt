@@ -1,6 +1,6 @@
 -- The exports of whole presets: one law for each way out.
 use Prim.Native.Nat.{ℕ, _+_, _*_, _/_, _≤_, _<_}
-use mathlib.Core.List.{List, []}
+use mathlib.Core.List.{List, [], _∷_}
 use mathlib.Core.Path.{_≡_, refl, sym, ap, subst, _∙_}
 use native.Mathlib.Omega.{arith}
 use mir.Syntax.{w32}
@@ -24,14 +24,23 @@ use Rattle.agree.specs.Theorem.{agreement}
 use Rattle.tree.specs.declared.Found.{Found}
 use Rattle.tree.specs.declared.Found.the-variants.{Nothing}
 use Rattle.tree.specs.declared.Found.the-variants as founds
-use Rattle.tree.specs.Room.{Finds, slotAt}
+use Rattle.tree.specs.declared.Items.{Items}
+use Rattle.tree.specs.declared.Item.{Item}
+use Rattle.tree.specs.declared.Item.the-variants as given
+use Rattle.tree.specs.declared.Keys.{Keys}
+use Rattle.tree.specs.declared.Key.{Key}
+use Rattle.tree.specs.declared.Key.the-variants as keyed
+use Rattle.tree.specs.Room.{Holds, Finds, slotAt}
+use Rattle.tree.specs.Doors.{items, firstOf}
+use Rattle.tree.specs.Spans.{items-child, item-child}
 use Rattle.tree.specs.Order.{next}
+use Rattle.tree.specs.Steps.{itemsFrom, toCome, Gives, item-given, item-ended, Begins, KeyGives, key-given, key-ended}
 use Rattle.toml_lite.specs.declared.Read.{Read}
 use Rattle.toml_lite.specs.declared.Read.the-variants.{Fine, Fault}
 use Rattle.toml_lite.specs.Rooms.{readOf, Small, Cleared, suffice, judged, treeOf}
 use Rattle.host.specs.declared.documents.Outcome.{Outcome}
 use Rattle.host.specs.declared.documents.At.{At}
-use Rattle.host.specs.Documents.{outcomeOf, storeOf, Presented, atOf, within, behindOf, walking}
+use Rattle.host.specs.Documents.{outcomeOf, storeOf, Presented, atOf, within, stepping, behindOf, walking}
 use Rattle.host.proofs.Exports.{length-zeros}
 
 -- both levels judge the rooms alike
@@ -112,9 +121,34 @@ module _ (tree : List ℕ) (made takes : ℕ) (e : takes ≡ length tree / 32) w
   pub found-there : (low : ℕ) (m f : Found) (r : At) → made ≤ takes → Finds low made m f → r ≡ atOf f → r ≡ within tree made m
   found-there low m f r h k q = rw (← e, le-ltb takes made h) (q ∙ ap atOf (k .is))
 
-  pub next-there : (store : List ℕ) (parent begun after : ℕ) (b f : Found) (r : At) → made ≤ takes → b ≡ behindOf begun after
-      → Finds 0 made (next (slotAt tree) store made parent b) f → r ≡ atOf f → r ≡ walking tree store made parent begun after
-  next-there store parent begun after b f r h d k q = found-there 0 (next (slotAt tree) store made parent (behindOf begun after)) f r h (rw (← d) k) q
+  module _ (parent from : ℕ) (w : Items) (d : w ≡ itemsFrom parent from made) where
+    pub walk-fits : made ≤ takes → Holds tree (w .end)
+    walk-fits h = record { fits = omega (arith, e, ap (λ (u : Items). u .end) d) }
+
+    module _ (h : made ≤ takes) (step : Item) (k : Gives tree w step) (r : At) where
+      pub item-there : (n : ℕ) (rest : Items) → step ≡ given.At n rest → r ≡ atOf (founds.At n) → r ≡ stepping tree made parent from
+      item-there n rest g q =
+          let c : items tree made parent from ≡ n ∷ toCome tree rest = rw d at (item-given tree w step k n rest g .come) in
+          rw (← e, le-ltb takes made h) (q ∙ ap atOf (sym (item-child tree made parent from n (toCome tree rest) c)))
+
+      pub item-none : step ≡ given.End → r ≡ atOf Nothing → r ≡ stepping tree made parent from
+      item-none g q =
+          let c : items tree made parent from ≡ [] = rw d at (item-ended tree w step k g) in
+          rw (← e, le-ltb takes made h) (q ∙ ap atOf (sym (items-child tree made parent from ∙ ap firstOf c)))
+
+  module _ (store : List ℕ) (parent begun after : ℕ) (b : Found) (d : b ≡ behindOf begun after) (w : Keys) (s : Begins tree parent made b w)
+      (h : made ≤ takes) (step : Key) (k : KeyGives tree store w step) (r : At) where
+    pub key-there : (n : ℕ) (rest : Keys) → step ≡ keyed.At n rest → r ≡ atOf (founds.At n) → r ≡ walking tree store made parent begun after
+    key-there n rest g q =
+        let c : next (slotAt tree) store made parent (behindOf begun after) ≡ founds.At n
+        = rw (s .after, d) at (key-given tree store parent made w (s .over) step k n rest g .next) in
+        rw (← e, le-ltb takes made h) (q ∙ ap atOf (sym c))
+
+    pub key-none : step ≡ keyed.End → r ≡ atOf Nothing → r ≡ walking tree store made parent begun after
+    key-none g q =
+        let c : next (slotAt tree) store made parent (behindOf begun after) ≡ Nothing
+        = rw (s .after, d) at (key-ended tree store parent made w (s .over) step k g) in
+        rw (← e, le-ltb takes made h) (q ∙ ap atOf (sym c))
 
 pub behind-start : (begun after : ℕ) → begun ≡ 0 → Nothing ≡ behindOf begun after
 behind-start begun after e = rw (eq-eqb begun 0 e)

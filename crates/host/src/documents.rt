@@ -2,6 +2,8 @@
 
 use toml_lite::Read;
 use tree::Found;
+use tree::Item;
+use tree::Key;
 ghost use mathlib.Core.Path.{_≡_};
 ghost use Rattle.host.specs.Documents.{Presented, atOf, finding, stepping, behindOf, walking};
 
@@ -85,7 +87,11 @@ pub extern "C" fn tree_child(tree: &[u8], made: usize, parent: u16, from: usize)
     if tree::capacity(tree) < made {
         return told(Found::Nothing);
     }
-    told(tree::child(tree, made, parent, from))
+    let step = tree::next_item(tree, tree::items_from(parent, from, made));
+    match step {
+        Item::At { value, rest: _ } => told(Found::At(value)),
+        Item::End => told(Found::Nothing),
+    }
 }
 
 // Where a walk in byte order stands: at its start, or behind a value.
@@ -113,6 +119,10 @@ pub extern "C" fn tree_next(
     if tree::capacity(tree) < made {
         return told(Found::Nothing);
     }
-    let low = tree::skip_up(tree, made, parent, 0);
-    told(tree::next(tree, store, low, made, parent, behind(begun, after)))
+    let w = tree::keys_after(tree, parent, made, behind(begun, after));
+    let step = tree::next_key(tree, store, w);
+    match step {
+        Key::At { value, rest: _ } => told(Found::At(value)),
+        Key::End => told(Found::Nothing),
+    }
 }

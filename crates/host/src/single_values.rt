@@ -101,7 +101,7 @@ pub extern "C" fn tree_slot(tree: &[u8], n: usize) -> Value
     ensures { λ r. ⌜ r ≡ slotOf (now (tree .entry)) n ⌝ }
 {
     if n < tree::capacity(tree) {
-        let v = tree::get(tree, n);
+        let v = tree::show_slot(tree, n);
         return Value {
             kind: v.kind as u32,
             parent: v.parent as u32,

@@ -2,7 +2,7 @@
 use Prim.Native.Nat.{ℕ, _+_, _-_, _^_, _≤_, _<_}
 use mathlib.Core.Bool.{Bool, true, false}
 use mathlib.Core.List.{List}
-use mathlib.Core.Path.{_≡_, sym, ap, _∙_}
+use mathlib.Core.Path.{_≡_, refl, sym, ap, _∙_}
 use native.Mathlib.Omega.{arith}
 use mir.Syntax.{w64}
 use mir.Val.{Fits}
@@ -36,8 +36,13 @@ use Rattle.parse.specs.declared.component.LoadRead.{LoadRead}
 use Rattle.parse.specs.Fields.{firstFault, textAt, textNeeded, numberAt, flagAt, kindAt}
 use Rattle.parse.specs.File.{fileAt, Placed}
 use Rattle.parse.specs.Component.{nameIn, filenameFor, sources, headRead, lists, roleRead, bootRead, loadRead, componentRead}
+use Rattle.parse.proofs.Fielding.{Elsewhere, elsewhere}
 
 -- ---- a file's name
+
+-- only a stored text has one
+pub name-else : (store : List ℕ) (file : Text) → Elsewhere file → texts.Absent ≡ nameIn store file
+name-else store = elsewhere (nameIn store) texts.Absent refl refl (λ _. refl) (λ _ _. refl)
 
 -- a part of the store that is not empty ends in it
 clip-end : (store : List ℕ) (from len : ℕ) → 0 < length (clip from len store) → from + length (clip from len store) ≤ length store
@@ -53,8 +58,8 @@ clip-end store from len h =
 
 module _ (store : List ℕ) (file : Text) where
   module _ (from len : ℕ) (e : file ≡ texts.Stored from len) (s : List ℕ) (g : s ≡ clip from len store) (p : Piece) (h : Placed s (fileAt s) p) where
-    pub name-not : p ≡ found.Nothing → texts.Absent ≡ nameIn store file
-    name-not i = let k : found.Nothing ≡ fileAt (clip from len store) = sym i ∙ h .is ∙ ap fileAt g in rw (e, ← k)
+    pub name-none : p ≡ found.Nothing → texts.Absent ≡ nameIn store file
+    name-none i = let k : found.Nothing ≡ fileAt (clip from len store) = sym i ∙ h .is ∙ ap fileAt g in rw (e, ← k)
 
     module _ (at n : ℕ) (i : p ≡ found.At at n) where
       pub name-at : texts.Stored (from + at) n ≡ nameIn store file

@@ -13,7 +13,7 @@ use lib.Seq.{length-take-le, take-suc-set, drop-set-lt, drop-drop}
 use Rattle.meaning.specs.Base.{ascii}
 use Rattle.meaning.specs.Refusal.{R, ok, bad, Answer, accepted, refused, numbered, acceptedThen, inPartition, inComponent, inApplication}
 use Rattle.meaning.specs.Fields.{each, listed}
-use Rattle.laws.specs.Cases.{on}
+use Rattle.laws.specs.Cases.{on, never}
 use Rattle.tree.specs.declared.Found.the-variants.{At, Nothing}
 use Rattle.tree.specs.declared.Value.{Value}
 use Rattle.tree.specs.declared.Value.the-variants as values
@@ -28,6 +28,7 @@ use Rattle.tree.specs.declared.Key.the-variants as keyed
 use Rattle.tree.specs.Room.{Holds, Finds, Counts}
 use Rattle.tree.specs.Doors.{Rooms, Stood, Spread, field, fieldsOf, valueAt, items, nthOf}
 use Rattle.tree.specs.Spans.{spread-fields, items-count}
+use Rattle.tree.proofs.Others.{Left, others}
 use Rattle.tree.specs.Steps.{
   itemsFrom,
   toCome,
@@ -56,7 +57,8 @@ use Rattle.parse.specs.declared.entry.Partitions.{Partitions}
 use Rattle.parse.specs.declared.component.ComponentRead.{ComponentRead}
 use Rattle.parse.specs.declared.application.ApplicationRead.{ApplicationRead}
 use Rattle.parse.specs.Refusals.{earlier}
-use Rattle.parse.specs.Fields.{firstFault, textNeeded, numberNeeded}
+use Rattle.parse.specs.Fields.{firstFault, missing, textNeeded, numberNeeded}
+use Rattle.parse.specs.Front.{noTable}
 use Rattle.parse.specs.Component.{componentRead}
 use Rattle.parse.specs.Application.{applicationRead}
 use Rattle.parse.specs.Entries.{
@@ -64,6 +66,7 @@ use Rattle.parse.specs.Entries.{
   Few,
   Keyed,
   Partitioned,
+  noList,
   listOf,
   orOther,
   listAt,
@@ -90,6 +93,7 @@ use Rattle.parse.specs.Entries.{
   nthKey,
   blank,
 }
+use Rattle.parse.proofs.Fielding.{missing-not}
 
 -- ---- where a list stands
 
@@ -100,13 +104,30 @@ module _ (made : ℕ) (v w : Value) (e : v ≡ w) where
   pub keys-are : (r : List) → r ≡ keysOf made w → r ≡ keysOf made v
   keys-are r h = rw e h
 
+-- a value of another kind
+module _ (made : ℕ) (v : Value) where
+  pub list-not : (r : List) → Left (1 ∷ 2 ∷ 3 ∷ 5 ∷ []) v → r ≡ noList 20 → r ≡ listOf made v
+  list-not r o h = h ∙ others (listOf made) _ (1 ∷ 2 ∷ 3 ∷ 5 ∷ []) (λ e. never e refl) (λ _ _ _. refl) (λ _ _ _. refl) (λ _ _. refl) (λ e. never e refl) (λ _ _. refl) v o
+
+  pub keys-not : (r : List) → Left (1 ∷ 2 ∷ 3 ∷ 4 ∷ []) v → r ≡ noList 20 → r ≡ keysOf made v
+  keys-not r o h = h ∙ others (keysOf made) _ (1 ∷ 2 ∷ 3 ∷ 4 ∷ []) (λ e. never e refl) (λ _ _ _. refl) (λ _ _ _. refl) (λ _ _. refl) (λ _ _. refl) (λ e. never e refl) v o
+
+-- what is not missing is its own first choice
+own : (v w : Value) → 0 ≡ missing v → orOther v w ≡ v
+own values.Absent w e = absurd (omega (arith, e))
+own (values.Text from len) w e = refl
+own (values.Number n m) w e = refl
+own (values.Flag b) w e = refl
+own (values.Array p) w e = refl
+own (values.Table p) w e = refl
+
 module _ (room store : Seq ℕ) (made : ℕ) (root : Fields) where
   module _ (one many : Seq ℕ) (v : Value) (r : List) (e : v ≡ field room store root one) where
     pub list-other : (w : Value) → v ≡ values.Absent → w ≡ field room store root many → r ≡ listOf made w → r ≡ listAt room store made root one many
     list-other w a g h = rw (← e, a, ← g) h
 
-    pub list-one : (u : Value) → v ≡ u → ((w : Value) → orOther u w ≡ u) → r ≡ listOf made v → r ≡ listAt room store made root one many
-    list-one u a k h = rw (← e, a, k (field room store root many), ← a) h
+    pub list-one : Left (1 ∷ 2 ∷ 3 ∷ 4 ∷ 5 ∷ []) v → r ≡ listOf made v → r ≡ listAt room store made root one many
+    list-one o h = rw (← e, own v (field room store root many) (missing-not v o)) h
 
   pub keys-at : (v : Value) (r : List) → v ≡ field room store root (ascii "apps") → r ≡ keysOf made v → r ≡ keysAt room store made root
   keys-at v r e h = rw (← e) h
@@ -114,8 +135,8 @@ module _ (room store : Seq ℕ) (made : ℕ) (root : Fields) where
 -- ---- an entry
 
 module _ (room : Seq ℕ) (made : ℕ) (v : Value) where
-  pub table-not : (w : Value) (r : TableRead) → v ≡ w → r ≡ entryTable room made w → r ≡ entryTable room made v
-  table-not w r e h = rw e h
+  pub table-not : (r : TableRead) → Left (0 ∷ 1 ∷ 2 ∷ 3 ∷ 4 ∷ []) v → r ≡ noTable 23 → r ≡ entryTable room made v
+  table-not r o h = h ∙ others (entryTable room made) _ (0 ∷ 1 ∷ 2 ∷ 3 ∷ 4 ∷ []) (λ _. refl) (λ _ _ _. refl) (λ _ _ _. refl) (λ _ _. refl) (λ _ _. refl) (λ e. never e refl) v o
 
   pub table-is : (place : ℕ) (f : Fields) → v ≡ values.Table place → f ≡ fieldsOf room made place → record { fault = 0; fields = f } ≡ entryTable room made v
   table-is place f e h = rw (e, h)
@@ -256,13 +277,13 @@ module _ (room store : Seq ℕ) (made place end : ℕ) where
       → Filled room store made place end xs 0 w
   parts-start xs w h e d =
       rw d (
-        record {
-          within = h .within;
-          size = ap length e;
-          few = omega (arith, h .few);
-          rest = e;
-          left = bare (eachPartition room store made place end);
-        }
+      record {
+        within = h .within;
+        size = ap length e;
+        few = omega (arith, h .few);
+        rest = e;
+        left = bare (eachPartition room store made place end);
+      }
       )
 
   module _ (xs : Seq Partition) (i : ℕ) (w : Items) (k : Filled room store made place end xs i w) (step : Item) (h : Gives room w step) where

@@ -10,7 +10,9 @@ use denote.Enum.Declared.{tagOf}
 use types.Run.{OneOf}
 use Rattle.tree.specs.declared.Value.{Value}
 use Rattle.tree.specs.declared.Fields.{Fields}
+use Rattle.laws.specs.Cases.{never}
 use Rattle.tree.specs.Doors.{field}
+use Rattle.tree.proofs.Others.{Left, others}
 use Rattle.schema.proofs.Text.{the-type}
 use Rattle.schema.specs.declared.Text.{Text}
 use Rattle.schema.specs.declared.Text.the-variants as texts
@@ -25,7 +27,7 @@ use Rattle.schema.specs.Texts.{clip}
 use Rattle.parse.specs.declared.field.TextRead.{TextRead}
 use Rattle.parse.specs.declared.field.NumberRead.{NumberRead}
 use Rattle.parse.specs.declared.field.FlagRead.{FlagRead}
-use Rattle.parse.specs.Fields.{firstFault, missing, textRead, numberRead, flagRead, noNumber, ranged, kindOf, mediaOf, textAt, numberAt, flagAt, textNeeded, numberNeeded}
+use Rattle.parse.specs.Fields.{firstFault, missing, noText, noFlag, textRead, numberRead, flagRead, noNumber, ranged, kindOf, mediaOf, textAt, numberAt, flagAt, textNeeded, numberNeeded}
 
 -- ---- an integer's range
 module _ (negative : Bool) (magnitude : ℕ) where
@@ -52,6 +54,20 @@ module _ (v w : Value) (e : v ≡ w) where
 
   pub flag-is : (r : FlagRead) → r ≡ flagRead w → r ≡ flagRead v
   flag-is r h = h ∙ ap flagRead (sym e)
+
+-- ---- a value of another kind
+module _ (v : Value) where
+  pub text-not : (r : TextRead) → Left (2 ∷ 3 ∷ 4 ∷ 5 ∷ []) v → r ≡ noText 20 → r ≡ textRead v
+  text-not r o h = h ∙ others textRead _ (2 ∷ 3 ∷ 4 ∷ 5 ∷ []) (λ e. never e refl) (λ e. never e refl) (λ _ _ _. refl) (λ _ _. refl) (λ _ _. refl) (λ _ _. refl) v o
+
+  pub number-not : (r : NumberRead) → Left (1 ∷ 3 ∷ 4 ∷ 5 ∷ []) v → r ≡ noNumber 20 → r ≡ numberRead v
+  number-not r o h = h ∙ others numberRead _ (1 ∷ 3 ∷ 4 ∷ 5 ∷ []) (λ e. never e refl) (λ _ _ _. refl) (λ e. never e refl) (λ _ _. refl) (λ _ _. refl) (λ _ _. refl) v o
+
+  pub flag-not : (r : FlagRead) → Left (1 ∷ 2 ∷ 4 ∷ 5 ∷ []) v → r ≡ noFlag 20 → r ≡ flagRead v
+  flag-not r o h = h ∙ others flagRead _ (1 ∷ 2 ∷ 4 ∷ 5 ∷ []) (λ e. never e refl) (λ _ _ _. refl) (λ _ _ _. refl) (λ e. never e refl) (λ _ _. refl) (λ _ _. refl) v o
+
+  pub missing-not : Left (1 ∷ 2 ∷ 3 ∷ 4 ∷ 5 ∷ []) v → 0 ≡ missing v
+  missing-not o = others missing _ (1 ∷ 2 ∷ 3 ∷ 4 ∷ 5 ∷ []) (λ e. never e refl) (λ _ _ _. refl) (λ _ _ _. refl) (λ _ _. refl) (λ _ _. refl) (λ _ _. refl) v o
 
 -- ---- what was found under a key
 module _ (room store : List ℕ) (f : Fields) (key : List ℕ) (v : Value) (e : v ≡ field room store f key) where

@@ -1,6 +1,7 @@
 -- The board and the image: one law for each way out.
 use Prim.Native.Nat.{ℕ}
-use mathlib.Core.List.{List}
+use mathlib.Core.Bool.{false}
+use mathlib.Core.List.{List, [], _∷_}
 use mathlib.Core.Path.{_≡_, refl, sym, ap, _∙_}
 use native.Mathlib.Omega.{arith}
 use Rattle.meaning.specs.Base.{ascii}
@@ -9,6 +10,8 @@ use Rattle.tree.specs.declared.Value.the-variants as values
 use Rattle.tree.specs.declared.Fields.{Fields}
 use Rattle.tree.specs.Doors.{Rooms, Spread, field, fieldsOf, noFields}
 use Rattle.tree.specs.Spans.{spread-fields}
+use Rattle.laws.specs.Cases.{never}
+use Rattle.tree.proofs.Others.{Left, others}
 use Rattle.schema.specs.declared.Text.{Text}
 use Rattle.schema.specs.declared.Text.the-variants as texts
 use Rattle.schema.specs.declared.Word.{Word}
@@ -40,6 +43,9 @@ module _ (room : List ℕ) (made : ℕ) where
   module _ (store : List ℕ) (root : Fields) (key : List ℕ) (v : Value) (e : v ≡ field room store root key) where
     pub table-is : (w : Value) (r : TableRead) → v ≡ w → r ≡ tableOf room made w → r ≡ tableAt room store made root key
     table-is w r m h = h ∙ ap (tableOf room made) (sym m ∙ e)
+
+    pub table-not : (r : TableRead) → Left (1 ∷ 2 ∷ 3 ∷ 4 ∷ []) v → r ≡ tableOf room made (values.Flag false) → r ≡ tableAt room store made root key
+    table-not r o h = h ∙ others (tableOf room made) _ (1 ∷ 2 ∷ 3 ∷ 4 ∷ []) (λ e. never e refl) (λ _ _ _. refl) (λ _ _ _. refl) (λ _ _. refl) (λ _ _. refl) (λ e. never e refl) v o ∙ ap (tableOf room made) e
 
     pub table-there : (p : ℕ) (f : Fields) → v ≡ values.Table p → f ≡ fieldsOf room made p → record { fault = 0; fields = f } ≡ tableAt room store made root key
     table-there p f m h = rw (h, ← e, m)

@@ -75,9 +75,9 @@ fn read_loading(tree: &[u8], store: &[u8], made: usize, f: Fields, limit: usize)
     let entry_offset = o.number;
     Loading {
         fault: first_fault(l.fault, first_fault(a.fault, o.fault)),
-        features: features,
-        load_address: load_address,
-        entry_offset: entry_offset,
+        features,
+        load_address,
+        entry_offset,
     }
 }
 
@@ -105,13 +105,13 @@ pub fn read_application(
         fault: first_fault(n.fault, l.fault),
         application: Application {
             package: key,
-            name: name,
-            partition: partition,
-            filename: filename,
-            attr: attr,
-            features: features,
-            load_address: load_address,
-            entry_offset: entry_offset,
+            name,
+            partition,
+            filename,
+            attr,
+            features,
+            load_address,
+            entry_offset,
         },
     }
 }

@@ -63,7 +63,6 @@ pub fn name_in(store: &[u8], file: Text) -> Text
     ensures { λ r. ⌜ r ≡ comps.nameIn (now (store .entry)) file ⌝ }
 {
     match file {
-        Text::Absent => Text::Absent,
         Text::Stored { from, len } => {
             let s = schema::stored(store, from, len);
             let p = crate::file::file_name(s);
@@ -75,9 +74,7 @@ pub fn name_in(store: &[u8], file: Text) -> Text
                 },
             }
         }
-        Text::Lent => Text::Absent,
-        Text::Fixed(_) => Text::Absent,
-        Text::WithAic { from: _, len: _ } => Text::Absent,
+        _ => Text::Absent,
     }
 }
 
@@ -106,9 +103,9 @@ pub fn read_sources(tree: &[u8], store: &[u8], f: Fields) -> Sources
     let file = s.text;
     Sources {
         fault: first_fault(p.fault, first_fault(b.fault, s.fault)),
-        package: package,
-        bin: bin,
-        file: file,
+        package,
+        bin,
+        file,
     }
 }
 
@@ -131,11 +128,11 @@ pub fn read_head(tree: &[u8], store: &[u8], f: Fields) -> HeadRead
     HeadRead {
         fault: first_fault(k.fault, first_fault(n.fault, late)),
         head: Head {
-            kind: kind,
-            name: name,
-            package: package,
-            bin: bin,
-            file: file,
+            kind,
+            name,
+            package,
+            bin,
+            file,
             filename: filename.or(filename_for(store, s)),
         },
     }
@@ -165,15 +162,15 @@ pub fn read_lists(tree: &[u8], store: &[u8], made: usize, f: Fields, limit: usiz
     let pbp_features = own.features;
     if features::is_empty(tree, store, made, pbp_features) {
         return Lists {
-            fault: fault,
-            features: features,
+            fault,
+            features,
             pbp_features: features,
         };
     }
     Lists {
-        fault: fault,
-        features: features,
-        pbp_features: pbp_features,
+        fault,
+        features,
+        pbp_features,
     }
 }
 
@@ -197,12 +194,12 @@ pub fn read_role(tree: &[u8], store: &[u8], made: usize, f: Fields, limit: usize
     RoleRead {
         fault: first_fault(l.fault, first_fault(p.fault, late)),
         role: Role {
-            features: features,
-            pbp_features: pbp_features,
+            features,
+            pbp_features,
             partition: partition.or(Text::Stored { from: 0, len: 0 }),
             attr: attr.or(Text::Fixed(Word::Required)),
-            target_attr: target_attr,
-            target_filename: target_filename,
+            target_attr,
+            target_filename,
         },
     }
 }
@@ -226,10 +223,10 @@ pub fn read_boot(tree: &[u8], store: &[u8], f: Fields) -> BootRead
         fault: first_fault(u.fault, first_fault(n.fault, late)),
         boot: Boot {
             updater: u.flag,
-            ram: ram,
-            pbp: pbp,
-            pbp_package: pbp_package,
-            private: private,
+            ram,
+            pbp,
+            pbp_package,
+            private,
         },
     }
 }
@@ -254,10 +251,10 @@ pub fn read_load(tree: &[u8], store: &[u8], f: Fields) -> LoadRead
     LoadRead {
         fault: first_fault(a.fault, first_fault(p.fault, first_fault(o.fault, late))),
         load: Load {
-            load_address: load_address,
-            entry_point: entry_point,
-            entry_offset: entry_offset,
-            header_version: header_version,
+            load_address,
+            entry_point,
+            entry_offset,
+            header_version,
             with_ext: e.flag,
             ext_reserve: ext_reserve.or(0),
         },
@@ -286,10 +283,10 @@ pub fn read_component(
     ComponentRead {
         fault: first_fault(h.fault, first_fault(r.fault, late)),
         component: Component {
-            head: head,
-            role: role,
-            boot: boot,
-            load: load,
+            head,
+            role,
+            boot,
+            load,
         },
     }
 }

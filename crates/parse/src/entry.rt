@@ -3,6 +3,7 @@
 use crate::Refusal;
 use crate::application::ApplicationRead;
 use crate::component::ComponentRead;
+use crate::field::WRONG_KIND;
 use crate::field::first_fault;
 use schema::Partition;
 use schema::Text;
@@ -18,6 +19,11 @@ ghost use Rattle.tree.specs.Doors.{Rooms, Stood, Spread};
 ghost use Rattle.parse.specs.Entries as entries;
 ghost use Rattle.parse.specs.Entries.{Among, Few, Partitioned, Keyed};
 ghost use Rattle.parse.specs.Refusals as refusals;
+
+// Refusals: an entry that is no table, and more entries than a list may have.
+const NO_TABLE: u32 = 23;
+
+const TOO_MANY: u32 = 25;
 
 // A list's place, and how many values stand before the end of its items: none where it is absent.
 pub struct List {
@@ -41,14 +47,14 @@ pub struct PartitionRead {
 pub struct Partitions {
     pub fault: Refusal,
     pub count: usize,
-    pub items: [Partition; 32],
+    pub items: [Partition; meaning::PARTITIONS],
 }
 
 fn no_list(fault: u32) -> List
     ensures { λ r. ⌜ r ≡ entries.noList fault ⌝ }
 {
     List {
-        fault: fault,
+        fault,
         place: 0,
         end: 0,
     }
@@ -60,18 +66,12 @@ fn list_of(v: Value, made: usize) -> List
 {
     match v {
         Value::Absent => no_list(0),
-        Value::Text { from: _, len: _ } => no_list(20),
-        Value::Number {
-            negative: _,
-            magnitude: _,
-        } => no_list(20),
-        Value::Flag(_) => no_list(20),
         Value::Array(place) => List {
             fault: 0,
-            place: place,
+            place,
             end: made,
         },
-        Value::Table(_) => no_list(20),
+        _ => no_list(WRONG_KIND),
     }
 }
 
@@ -90,35 +90,21 @@ pub fn list_at(
     let v = tree::field(tree, store, root, one);
     match v {
         Value::Absent => list_of(tree::field(tree, store, root, many), made),
-        Value::Text { from: _, len: _ } => list_of(v, made),
-        Value::Number {
-            negative: _,
-            magnitude: _,
-        } => list_of(v, made),
-        Value::Flag(_) => list_of(v, made),
-        Value::Array(_) => list_of(v, made),
-        Value::Table(_) => list_of(v, made),
+        _ => list_of(v, made),
     }
 }
 
-// The table that an entry is, or 23.
+// The table that an entry is, or a refusal.
 pub fn entry_table(tree: &[u8], made: usize, v: Value) -> crate::front::TableRead
     requires { ⌜ Rooms (now tree) made ⌝ }
     ensures { λ r. ⌜ r ≡ entries.entryTable (now (tree .entry)) made v ⌝ }
 {
     match v {
-        Value::Absent => crate::front::no_table(23),
-        Value::Text { from: _, len: _ } => crate::front::no_table(23),
-        Value::Number {
-            negative: _,
-            magnitude: _,
-        } => crate::front::no_table(23),
-        Value::Flag(_) => crate::front::no_table(23),
-        Value::Array(_) => crate::front::no_table(23),
         Value::Table(place) => crate::front::TableRead {
             fault: 0,
             fields: tree::fields_at(tree, made, place),
         },
+        _ => crate::front::no_table(NO_TABLE),
     }
 }
 
@@ -155,7 +141,7 @@ pub fn partition_at(tree: &[u8], store: &[u8], made: usize, n: usize) -> Partiti
     let partition = p.partition;
     PartitionRead {
         fault: first_fault(t.fault, p.fault),
-        partition: partition,
+        partition,
     }
 }
 
@@ -169,7 +155,7 @@ pub fn component_at(tree: &[u8], store: &[u8], made: usize, n: usize, limit: usi
     let component = c.component;
     ComponentRead {
         fault: first_fault(t.fault, c.fault),
-        component: component,
+        component,
     }
 }
 
@@ -194,17 +180,17 @@ pub fn application_at(
     let application = a.application;
     ApplicationRead {
         fault: first_fault(t.fault, a.fault),
-        application: application,
+        application,
     }
 }
 
-fn no_partitions(number: u32, place: usize, items: [Partition; 32]) -> Partitions
+fn no_partitions(number: u32, place: usize, items: [Partition; meaning::PARTITIONS]) -> Partitions
     ensures { λ r. ⌜ (r .fault ≡ entries.refusalAt 3 number place) × (r .count ≡ 0) × (r .items ≡ items) ⌝ }
 {
     Partitions {
-        fault: crate::refusal_at(3, number, place),
+        fault: crate::refusal_at(crate::IN_PARTITION, number, place),
         count: 0,
-        items: items,
+        items,
     }
 }
 
@@ -219,7 +205,7 @@ fn each_partition(tree: &[u8], store: &[u8], made: usize, place: u16, end: usize
         offset: 0,
         size: 0,
     };
-    let mut items = [blank; 32];
+    let mut items = [blank; meaning::PARTITIONS];
     let mut i = 0;
     let mut w = tree::items_of(place, end);
     loop {
@@ -265,7 +251,7 @@ pub fn read_partitions(
             offset: 0,
             size: 0,
         };
-        return no_partitions(25, limit, [blank; 32]);
+        return no_partitions(TOO_MANY, limit, [blank; meaning::PARTITIONS]);
     }
     each_partition(tree, store, made, list.place, list.end)
 }
@@ -291,7 +277,7 @@ fn each_component(
             Item::At { value, rest } => {
                 let r = component_at(tree, store, made, value, limit);
                 if r.fault != 0 {
-                    return crate::refusal_at(4, r.fault, i);
+                    return crate::refusal_at(crate::IN_COMPONENT, r.fault, i);
                 }
                 i += 1;
                 w = rest;
@@ -313,7 +299,7 @@ pub fn check_components(
 {
     let n = tree::count_items(tree, list.end, list.place);
     if most < n {
-        return crate::refusal_at(4, 25, most);
+        return crate::refusal_at(crate::IN_COMPONENT, TOO_MANY, most);
     }
     each_component(tree, store, made, list.place, list.end, limit)
 }
@@ -324,18 +310,12 @@ fn keys_of(v: Value, made: usize) -> List
 {
     match v {
         Value::Absent => no_list(0),
-        Value::Text { from: _, len: _ } => no_list(20),
-        Value::Number {
-            negative: _,
-            magnitude: _,
-        } => no_list(20),
-        Value::Flag(_) => no_list(20),
-        Value::Array(_) => no_list(20),
         Value::Table(place) => List {
             fault: 0,
-            place: place,
+            place,
             end: made,
         },
+        _ => no_list(WRONG_KIND),
     }
 }
 
@@ -405,7 +385,7 @@ fn earlier_application(
     }
     let a = application_at(tree, store, made, e.value, limit);
     if a.fault != 0 {
-        return crate::refusal_at(5, a.fault, e.place);
+        return crate::refusal_at(crate::IN_APPLICATION, a.fault, e.place);
     }
     crate::refusal_at(0, 0, 0)
 }
@@ -437,5 +417,5 @@ pub fn check_applications(
             }
         }
     }
-    crate::refusal_at(5, 25, most)
+    crate::refusal_at(crate::IN_APPLICATION, TOO_MANY, most)
 }

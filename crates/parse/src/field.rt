@@ -1,4 +1,4 @@
-// One field of a table, read in one way: 20 where it is of another kind, 21 out of range, 24 missing. Every reader gives its fault, 0 for none, beside what it read.
+// One field of a table, read in one way. Every reader gives its fault, 0 for none, beside what it read.
 
 use schema::ChipRead;
 use schema::Kind;
@@ -13,6 +13,16 @@ ghost use mathlib.Core.Path.{_≡_};
 ghost use Rattle.tree.specs.Doors.{Spread};
 ghost use Rattle.schema.specs.Texts.{orText, orNumber};
 ghost use Rattle.parse.specs.Fields as fields;
+
+// Refusals of a field: of another kind, out of range, missing.
+pub const WRONG_KIND: u32 = 20;
+
+const OUT_OF_RANGE: u32 = 21;
+
+const MISSING: u32 = 24;
+
+// The greatest number that a field takes.
+const MOST_NUMBER: u64 = 4294967295;
 
 pub struct TextRead {
     pub fault: u32,
@@ -63,7 +73,7 @@ fn no_text(fault: u32) -> TextRead
     ensures { λ r. ⌜ r ≡ fields.noText fault ⌝ }
 {
     TextRead {
-        fault: fault,
+        fault,
         text: Text::Absent,
     }
 }
@@ -75,18 +85,9 @@ pub fn text_of(v: Value) -> TextRead
         Value::Absent => no_text(0),
         Value::Text { from, len } => TextRead {
             fault: 0,
-            text: Text::Stored {
-                from: from,
-                len: len,
-            },
+            text: Text::Stored { from, len },
         },
-        Value::Number {
-            negative: _,
-            magnitude: _,
-        } => no_text(20),
-        Value::Flag(_) => no_text(20),
-        Value::Array(_) => no_text(20),
-        Value::Table(_) => no_text(20),
+        _ => no_text(WRONG_KIND),
     }
 }
 
@@ -94,7 +95,7 @@ fn no_number(fault: u32) -> NumberRead
     ensures { λ r. ⌜ r ≡ fields.noNumber fault ⌝ }
 {
     NumberRead {
-        fault: fault,
+        fault,
         number: Number::Absent,
     }
 }
@@ -104,10 +105,10 @@ fn ranged(negative: bool, magnitude: u64) -> NumberRead
     ensures { λ r. ⌜ r ≡ fields.ranged negative magnitude ⌝ }
 {
     if negative {
-        return no_number(21);
+        return no_number(OUT_OF_RANGE);
     }
-    if 4294967295 < magnitude {
-        return no_number(21);
+    if MOST_NUMBER < magnitude {
+        return no_number(OUT_OF_RANGE);
     }
     NumberRead {
         fault: 0,
@@ -120,24 +121,18 @@ pub fn number_of(v: Value) -> NumberRead
 {
     match v {
         Value::Absent => no_number(0),
-        Value::Text { from: _, len: _ } => no_number(20),
         Value::Number {
             negative,
             magnitude,
         } => ranged(negative, magnitude),
-        Value::Flag(_) => no_number(20),
-        Value::Array(_) => no_number(20),
-        Value::Table(_) => no_number(20),
+        _ => no_number(WRONG_KIND),
     }
 }
 
 fn no_flag(fault: u32) -> FlagRead
     ensures { λ r. ⌜ r ≡ fields.noFlag fault ⌝ }
 {
-    FlagRead {
-        fault: fault,
-        flag: false,
-    }
+    FlagRead { fault, flag: false }
 }
 
 // A flag that is absent is down.
@@ -146,31 +141,18 @@ pub fn flag_of(v: Value) -> FlagRead
 {
     match v {
         Value::Absent => no_flag(0),
-        Value::Text { from: _, len: _ } => no_flag(20),
-        Value::Number {
-            negative: _,
-            magnitude: _,
-        } => no_flag(20),
         Value::Flag(b) => FlagRead { fault: 0, flag: b },
-        Value::Array(_) => no_flag(20),
-        Value::Table(_) => no_flag(20),
+        _ => no_flag(WRONG_KIND),
     }
 }
 
-// 24 where there is no value.
+// A refusal where there is no value.
 fn missing(v: Value) -> u32
     ensures { λ r. ⌜ r ≡ fields.missing v ⌝ }
 {
     match v {
-        Value::Absent => 24,
-        Value::Text { from: _, len: _ } => 0,
-        Value::Number {
-            negative: _,
-            magnitude: _,
-        } => 0,
-        Value::Flag(_) => 0,
-        Value::Array(_) => 0,
-        Value::Table(_) => 0,
+        Value::Absent => MISSING,
+        _ => 0,
     }
 }
 

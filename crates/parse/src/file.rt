@@ -18,7 +18,7 @@ fn piece_end(s: &[u8], at: usize) -> usize
     requires { ⌜ at ≤ length (now s) ⌝ }
     ensures { λ r. ⌜ Ends (now (s .entry)) at r ⌝ }
 {
-    at + slices::find(&s[at..], 47)
+    at + slices::find(&s[at..], b'/')
 }
 
 // Whether it is neither empty nor `.`.
@@ -77,10 +77,7 @@ pub fn file_name(s: &[u8]) -> Piece
             if slices::same(&s[from..to], b"..") {
                 return Piece::Nothing;
             }
-            Piece::At {
-                from: from,
-                len: len,
-            }
+            Piece::At { from, len }
         }
     }
 }

@@ -1,6 +1,7 @@
 // The board and the image, which share the chip.
 
 use crate::Refusal;
+use crate::field::WRONG_KIND;
 use schema::Board;
 use schema::Chip;
 use schema::ChipRead;
@@ -58,7 +59,7 @@ pub fn no_table(fault: u32) -> TableRead
     ensures { λ r. ⌜ r ≡ fronts.noTable fault ⌝ }
 {
     TableRead {
-        fault: fault,
+        fault,
         fields: Fields {
             place: 0,
             from: 0,
@@ -74,17 +75,11 @@ pub fn table_at(tree: &[u8], store: &[u8], made: usize, root: Fields, key: &[u8]
     let v = tree::field(tree, store, root, key);
     match v {
         Value::Absent => no_table(0),
-        Value::Text { from: _, len: _ } => no_table(20),
-        Value::Number {
-            negative: _,
-            magnitude: _,
-        } => no_table(20),
-        Value::Flag(_) => no_table(20),
-        Value::Array(_) => no_table(20),
         Value::Table(place) => TableRead {
             fault: 0,
             fields: tree::fields_at(tree, made, place),
         },
+        _ => no_table(WRONG_KIND),
     }
 }
 
@@ -92,7 +87,10 @@ pub fn table_at(tree: &[u8], store: &[u8], made: usize, root: Fields, key: &[u8]
 fn sections(board: u32, image: u32) -> Refusal
     ensures { λ r. ⌜ r ≡ fronts.sections board image ⌝ }
 {
-    crate::earlier(crate::in_section(1, board), crate::in_section(2, image))
+    crate::earlier(
+        crate::in_section(crate::IN_BOARD, board),
+        crate::in_section(crate::IN_IMAGE, image),
+    )
 }
 
 // The chip of a word in a section.
@@ -103,7 +101,7 @@ fn chip_word(store: &[u8], from: usize, len: usize, section: u32) -> ChipFound
     let chip = r.chip;
     ChipFound {
         fault: crate::in_section(section, r.fault),
-        chip: chip,
+        chip,
     }
 }
 
@@ -137,7 +135,7 @@ pub fn chip_of(tree: &[u8], store: &[u8], board: Fields, image: Fields) -> ChipF
     let chip = w.chip;
     ChipFound {
         fault: crate::earlier(sections(c.fault, p.fault), late),
-        chip: chip,
+        chip,
     }
 }
 
@@ -155,7 +153,7 @@ fn read_board(tree: &[u8], store: &[u8], f: Fields, chip: Chip, lent: Text) -> B
         ),
         board: Board {
             name: name.or(lent),
-            chip: chip,
+            chip,
             target: target.or(Text::Fixed(chip.default_target())),
             profile: profile.or(Text::Fixed(Word::Release)),
         },
@@ -216,13 +214,13 @@ fn read_image(tree: &[u8], store: &[u8], f: Fields, chip: Chip) -> ImageRead
             crate::field::first_fault(kept.fault, rest.fault),
         ),
         image: Image {
-            platform: platform,
-            product: product,
-            version: version,
-            media: media,
+            platform,
+            product,
+            version,
+            media,
             media_dev_id: rest.media_dev_id,
             media_id: id,
-            app: app,
+            app,
         },
     }
 }
@@ -242,8 +240,8 @@ fn front_of(tree: &[u8], store: &[u8], b: TableRead, i: TableRead, lent: Text) -
     let fields = crate::earlier(found, sections(board_read.fault, image_read.fault));
     Front {
         fault: crate::earlier(sections(b.fault, i.fault), fields),
-        board: board,
-        image: image,
+        board,
+        image,
     }
 }
 

@@ -20,6 +20,17 @@ ghost use Rattle.parse.specs.Verdict.{Judging, Told};
 ghost use Rattle.parse.specs.Refused as refused;
 ghost use Rattle.parse.specs.Refusals as refusals;
 
+// The sections of a preset that a refusal names.
+pub const IN_BOARD: u32 = 1;
+
+pub const IN_IMAGE: u32 = 2;
+
+pub const IN_PARTITION: u32 = 3;
+
+pub const IN_COMPONENT: u32 = 4;
+
+pub const IN_APPLICATION: u32 = 5;
+
 // A refusal's number, 0 for none, its section and its place.
 pub struct Refusal {
     pub number: u32,
@@ -31,9 +42,9 @@ pub fn refusal_at(section: u32, number: u32, place: usize) -> Refusal
     ensures { λ r. ⌜ r ≡ refusals.refusal number section place ⌝ }
 {
     Refusal {
-        number: number,
-        section: section,
-        place: place,
+        number,
+        section,
+        place,
     }
 }
 
@@ -42,8 +53,8 @@ pub fn in_section(section: u32, number: u32) -> Refusal
     ensures { λ r. ⌜ r ≡ refusals.inSection section number ⌝ }
 {
     Refusal {
-        number: number,
-        section: section,
+        number,
+        section,
         place: 0,
     }
 }
@@ -72,7 +83,7 @@ fn check_front(tree: &[u8], store: &[u8], made: usize, name: &[u8]) -> Refusal
     requires { ⌜ Rooms (now tree) made ⌝ }
     ensures { λ r. ⌜ r ≡ verdicts.frontFault (now (tree .entry)) (now (store .entry)) made (now (name .entry)) ⌝ }
 {
-    let root = tree::fields_at(tree, made, 1);
+    let root = tree::fields_at(tree, made, tree::ROOT);
     let f = front::read_front(tree, store, made, root, lent_name(name));
     f.fault
 }
@@ -83,7 +94,7 @@ fn check_partitions(tree: &[u8], store: &[u8], made: usize, limits: Limits) -> R
 {
     let l = view::partition_list(tree, store, made);
     let r = entry::read_partitions(tree, store, made, l, limits.partitions);
-    earlier(in_section(3, l.fault), r.fault)
+    earlier(in_section(IN_PARTITION, l.fault), r.fault)
 }
 
 fn check_components(tree: &[u8], store: &[u8], made: usize, limits: Limits) -> Refusal
@@ -92,7 +103,7 @@ fn check_components(tree: &[u8], store: &[u8], made: usize, limits: Limits) -> R
 {
     let l = view::component_list(tree, store, made);
     let r = entry::check_components(tree, store, made, l, limits.components, limits.features);
-    earlier(in_section(4, l.fault), r)
+    earlier(in_section(IN_COMPONENT, l.fault), r)
 }
 
 fn check_applications(tree: &[u8], store: &[u8], made: usize, limits: Limits) -> Refusal
@@ -101,7 +112,7 @@ fn check_applications(tree: &[u8], store: &[u8], made: usize, limits: Limits) ->
 {
     let l = view::application_list(tree, store, made);
     let r = entry::check_applications(tree, store, made, l, limits.applications, limits.features);
-    earlier(in_section(5, l.fault), r)
+    earlier(in_section(IN_APPLICATION, l.fault), r)
 }
 
 // The first refusal of the records, in 01's order.

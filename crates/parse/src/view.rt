@@ -32,7 +32,7 @@ pub fn partition_list(tree: &[u8], store: &[u8], made: usize) -> List
     requires { ⌜ Rooms (now tree) made ⌝ }
     ensures { λ r. ⌜ r ≡ views.partitionList (now (tree .entry)) (now (store .entry)) made ⌝ }
 {
-    let root = tree::fields_at(tree, made, 1);
+    let root = tree::fields_at(tree, made, tree::ROOT);
     crate::entry::list_at(tree, store, made, root, b"partition", b"partitions")
 }
 
@@ -40,7 +40,7 @@ pub fn component_list(tree: &[u8], store: &[u8], made: usize) -> List
     requires { ⌜ Rooms (now tree) made ⌝ }
     ensures { λ r. ⌜ r ≡ views.componentList (now (tree .entry)) (now (store .entry)) made ⌝ }
 {
-    let root = tree::fields_at(tree, made, 1);
+    let root = tree::fields_at(tree, made, tree::ROOT);
     crate::entry::list_at(tree, store, made, root, b"component", b"components")
 }
 
@@ -48,7 +48,7 @@ pub fn application_list(tree: &[u8], store: &[u8], made: usize) -> List
     requires { ⌜ Rooms (now tree) made ⌝ }
     ensures { λ r. ⌜ r ≡ views.applicationList (now (tree .entry)) (now (store .entry)) made ⌝ }
 {
-    let root = tree::fields_at(tree, made, 1);
+    let root = tree::fields_at(tree, made, tree::ROOT);
     crate::entry::keys_at(tree, store, made, root)
 }
 
@@ -144,13 +144,13 @@ pub fn holds_values(tree: &[u8], made: usize) -> bool
     if tree::capacity(tree) < made {
         return false;
     }
-    if 65000 < made {
+    if tree::MOST_VALUES < made {
         return false;
     }
     true
 }
 
-// How many entries the lists have; of applications no more than 65 are counted.
+// How many entries the lists have; of applications no more than one past the limit are counted.
 pub struct Counts {
     pub partitions: usize,
     pub components: usize,
@@ -167,11 +167,11 @@ pub fn counts_of(tree: &[u8], store: &[u8], made: usize) -> Counts
     Counts {
         partitions: tree::count_items(tree, p.end, p.place),
         components: tree::count_items(tree, c.end, c.place),
-        applications: crate::entry::count_keys(tree, store, a, 64),
+        applications: crate::entry::count_keys(tree, store, a, meaning::APPLICATIONS),
     }
 }
 
-// The same of any rooms: nothing where they are not sound.
+// The same of any rooms: nothing where they do not hold the values.
 pub fn counts_at(tree: &[u8], store: &[u8], made: usize) -> Counts
     ensures { λ r. ⌜ r ≡ views.countsAt (now (tree .entry)) (now (store .entry)) made ⌝ }
 {
@@ -196,7 +196,7 @@ pub fn device_of(tree: &[u8], store: &[u8], made: usize) -> Device
     requires { ⌜ Rooms (now tree) made ⌝ }
     ensures { λ r. ⌜ r ≡ views.deviceOf (now (tree .entry)) (now (store .entry)) made ⌝ }
 {
-    let root = tree::fields_at(tree, made, 1);
+    let root = tree::fields_at(tree, made, tree::ROOT);
     let b = crate::front::table_at(tree, store, made, root, b"board");
     let i = crate::front::table_at(tree, store, made, root, b"image");
     let f = i.fields;
@@ -204,8 +204,5 @@ pub fn device_of(tree: &[u8], store: &[u8], made: usize) -> Device
     let chip = c.chip;
     let m = crate::field::media(tree, store, f, chip.default_media());
     let media = m.media;
-    Device {
-        chip: chip,
-        media: media,
-    }
+    Device { chip, media }
 }

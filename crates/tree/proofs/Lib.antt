@@ -4,3 +4,4 @@ pub mod Ranking
 pub mod Opening
 pub mod Skipping
 pub mod Stepping
+pub mod Others

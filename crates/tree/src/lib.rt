@@ -14,18 +14,16 @@ ghost use Rattle.tree.specs.Order.{Stands};
 ghost use Rattle.tree.specs.Steps as steps;
 ghost use Rattle.tree.specs.Steps.{Gives, Ready, Begins, KeyGives};
 
-// Bytes per value.
-const WIDTH: usize = 32;
-
 // How many values a search tests before it decides to go on.
 const BLOCK: usize = 8;
 
-// A string's data has its start in the low two bytes and its length above.
-const STRING_UNIT: u64 = 65536;
+// Reading never makes more values, so that each has a place of two bytes.
+pub const MOST_VALUES: usize = 65000;
 
-const STRING_MOST: u64 = 4294967295;
+// The place under which the root's fields hang.
+pub const ROOT: u16 = 1;
 
-// A value. Its kind: 1 string, 2 integer, 3 boolean, 4 array, 5 table, 6 integer with a minus.
+// A value. Its kind is one of those below, KIND_NEGATIVE that of an integer with a minus.
 // Its parent: 0 none yet, 1 the root, n + 2 value number n. Its key is len bytes of the text store. Its data: an integer's magnitude; start + 65536 * length of a string; 0 or 1; else 0.
 pub struct Slot {
     pub kind: u8,
@@ -34,6 +32,26 @@ pub struct Slot {
     pub len: u16,
     pub data: u64,
 }
+
+// Its kinds.
+pub const KIND_STRING: u8 = 1;
+
+pub const KIND_INTEGER: u8 = 2;
+
+pub const KIND_BOOLEAN: u8 = 3;
+
+pub const KIND_ARRAY: u8 = 4;
+
+pub const KIND_TABLE: u8 = 5;
+
+pub const KIND_NEGATIVE: u8 = 6;
+// A string's data is where its bytes start, and so many times its length.
+pub const STRING_LENGTH_UNIT: u64 = 65536;
+// Bytes per value.
+pub const VALUE_BYTES: usize = 32;
+
+// The most that a string's data can be: both its start and its length below the unit.
+const STRING_MOST: u64 = 4294967295;
 
 pub enum Found {
     At(usize),
@@ -102,7 +120,7 @@ pub fn width() -> u32
 pub fn capacity(tree: &[u8]) -> usize
     ensures { λ r. ⌜ r ≡ length (now (tree .entry)) / 32 ⌝ }
 {
-    tree.len() / WIDTH
+    tree.len() / VALUE_BYTES
 }
 
 // The kind and the spare byte after it.
@@ -139,7 +157,7 @@ pub fn put(tree: &mut [u8], n: usize, v: Slot)
     requires { ⌜ Holds (now tree) (n + 1) ⌝ }
     ensures { λ _. ⌜ now (tree .exit) ≡ stored (now (tree .entry)) (32 * n) (cell v) ⌝ }
 {
-    let at = WIDTH * n;
+    let at = VALUE_BYTES * n;
     mark(tree, at, v.kind);
     link(tree, at + 2, v);
     fill(tree, at + 8, v);
@@ -150,7 +168,7 @@ fn get(tree: &[u8], n: usize) -> Slot
     requires { ⌜ Holds (now tree) (n + 1) ⌝ }
     ensures { λ r. ⌜ r ≡ slotAt (now (tree .entry)) n ⌝ }
 {
-    let at = WIDTH * n;
+    let at = VALUE_BYTES * n;
     let parent = slices::get2(tree, at + 2);
     let key = slices::get2(tree, at + 4);
     let len = slices::get2(tree, at + 6);
@@ -214,7 +232,7 @@ fn under(tree: &[u8], n: usize, parent: u16) -> bool
     requires { ⌜ Holds (now tree) (n + 1) ⌝ }
     ensures { λ r. ⌜ r ≡ room.under (now (tree .entry)) n parent ⌝ }
 {
-    let at = WIDTH * n;
+    let at = VALUE_BYTES * n;
     slices::get2(tree, at + 2) == parent
 }
 
@@ -567,8 +585,8 @@ fn text(bits: u64, size: usize) -> Value
     if STRING_MOST < bits {
         return Value::Absent;
     }
-    let from = (bits % STRING_UNIT) as usize;
-    let len = (bits / STRING_UNIT) as usize;
+    let from = (bits % STRING_LENGTH_UNIT) as usize;
+    let len = (bits / STRING_LENGTH_UNIT) as usize;
     if size < from + len {
         return Value::Absent;
     }
@@ -591,15 +609,15 @@ fn classify(v: Slot, size: usize, place: u16) -> Value
     let kind = v.kind;
     let data = v.data;
     match kind {
-        1 => text(data, size),
-        2 => Value::Number {
+        KIND_STRING => text(data, size),
+        KIND_INTEGER => Value::Number {
             negative: false,
             magnitude: data,
         },
-        3 => Value::Flag(nonzero(data)),
-        4 => Value::Array(place),
-        5 => Value::Table(place),
-        6 => Value::Number {
+        KIND_BOOLEAN => Value::Flag(nonzero(data)),
+        KIND_ARRAY => Value::Array(place),
+        KIND_TABLE => Value::Table(place),
+        KIND_NEGATIVE => Value::Number {
             negative: nonzero(data),
             magnitude: data,
         },

@@ -1,3 +1,4 @@
+-- The pieces met are the same in both lists, so the lists are the same where the rest is.
 use borrow.Author.Needs.{needs}
 use borrow.Author.Tests.{not-false}
 use Prim.Native.Nat.{_-_}

@@ -1,3 +1,4 @@
+-- The items given so far are the same, and those to come decide.
 use borrow.Author.Needs.{needs}
 use borrow.Author.Tests.{not-true, not-false}
 use Rattle.features.specs.Pieces.{pieces}

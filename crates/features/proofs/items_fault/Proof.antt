@@ -1,3 +1,4 @@
+-- The items met and those to come are all of them, and the fault so far is that of those met.
 use borrow.Author.Needs.{needs}
 use lib.ListN.{length}
 use Rattle.tree.specs.Steps.{toCome, item-room, item-stands, item-fewer}

@@ -1,3 +1,4 @@
+-- The best of the pieces met, and then of those to come, is the best of all.
 use borrow.Author.Needs.{needs}
 use Prim.Native.Nat.{_-_}
 use Rattle.features.specs.Pieces.{bound}

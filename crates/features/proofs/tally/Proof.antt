@@ -1,3 +1,4 @@
+-- Of the items n are given, and those after the last one given are all that is left.
 use borrow.Author.Needs.{needs}
 use Rattle.features.specs.Pieces.{piecesFrom}
 use Rattle.features.proofs.Tallying.{Tallied, tally-start, tally-end, tally-on, tally-last}

@@ -1,3 +1,4 @@
+-- All bytes from the start to before i are gaps.
 use borrow.Author.Needs.{needs}
 use Prim.Native.Nat.{_-_}
 use lib.ListN.{length}

@@ -1,3 +1,4 @@
+-- No byte from the start to before i is a gap.
 use borrow.Author.Needs.{needs}
 use Prim.Native.Nat.{_-_}
 use lib.ListN.{length}

@@ -5,13 +5,13 @@ use Rattle.host.proofs.single_values.tree_slot.Tie as tie
 use Rattle.host.proofs.single_values.tree_slot.Reads as reads
 use Rattle.host.proofs.single_values.tree_slot.Lts as lts
 use Rattle.tree.proofs.capacity.Reads as capacity-reads
-use Rattle.tree.proofs.get.Reads as get-reads
+use Rattle.tree.proofs.show_slot.Reads as show-slot-reads
 
 capacity-requires : tie.Need-capacity-requires
 capacity-requires c κs = search needs
 
-get-requires : tie.Need-get-requires
-get-requires c κs = search needs
+show-slot-requires : tie.Need-show-slot-requires
+show-slot-requires c κs = search needs
 
 cast-t6 : tie.Need-cast-t6
 cast-t6 c = search needs
@@ -34,4 +34,4 @@ returns-2 c = search (needs, slot-none)
 pub tree-slot-spec : {M : Type 1} → statement M
 tree-slot-spec =
     tie.close
-    (tie.spec capacity-requires get-requires cast-t6 cast-t7 cast-t8 cast-t9 returns returns-2)
+    (tie.spec capacity-requires show-slot-requires cast-t6 cast-t7 cast-t8 cast-t9 returns returns-2)

@@ -1,14 +1,11 @@
 use borrow.Author.Needs.{needs}
-use Rattle.parse.proofs.Composing.{name-at, name-fits, name-not}
+use Rattle.parse.proofs.Composing.{name-at, name-else, name-fits, name-none}
 use Rattle.parse.proofs.component.name_in.Statement.{statement}
 use Rattle.parse.proofs.component.name_in.Tie as tie
 use Rattle.parse.proofs.component.name_in.Reads as reads
 use Rattle.parse.proofs.component.name_in.Lts as lts
 use Rattle.parse.proofs.file.file_name.Reads as file-name-reads
 use Rattle.schema.proofs.stored.Reads as stored-reads
-
-enum-told : tie.Need-enum-told
-enum-told c = search needs
 
 enum-known-file : tie.Need-enum-known-file
 enum-known-file c = search needs
@@ -19,8 +16,8 @@ stored-requires c κs = search needs
 file-name-requires : tie.Need-file-name-requires
 file-name-requires c κs = search needs
 
-enum-told-2 : tie.Need-enum-told-2
-enum-told-2 c = search needs
+enum-told : tie.Need-enum-told
+enum-told c = search needs
 
 enum-known-p : tie.Need-enum-known-p
 enum-known-p c = search needs
@@ -28,50 +25,25 @@ enum-known-p c = search needs
 add-t11 : tie.Need-add-t11
 add-t11 c = search (needs, name-fits)
 
-enum-told-3 : tie.Need-enum-told-3
-enum-told-3 c = search needs
-
-enum-told-4 : tie.Need-enum-told-4
-enum-told-4 c = search needs
-
-enum-told-5 : tie.Need-enum-told-5
-enum-told-5 c = search needs
-
 returns : tie.Need-returns
-returns c = search needs
+returns c = search (needs, name-none)
 
 returns-2 : tie.Need-returns-2
-returns-2 c = search (needs, name-not)
+returns-2 c = search (needs, name-at)
 
 returns-3 : tie.Need-returns-3
-returns-3 c = search (needs, name-at)
-
-returns-4 : tie.Need-returns-4
-returns-4 c = search needs
-
-returns-5 : tie.Need-returns-5
-returns-5 c = search needs
-
-returns-6 : tie.Need-returns-6
-returns-6 c = search needs
+returns-3 c = search (needs, name-else)
 
 pub name-in-spec : {M : Type 1} → statement M
 name-in-spec =
     tie.close
     (tie.spec
-    enum-told
     enum-known-file
     stored-requires
     file-name-requires
-    enum-told-2
+    enum-told
     enum-known-p
     add-t11
-    enum-told-3
-    enum-told-4
-    enum-told-5
     returns
     returns-2
-    returns-3
-    returns-4
-    returns-5
-    returns-6)
+    returns-3)

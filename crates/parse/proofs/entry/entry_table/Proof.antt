@@ -7,79 +7,20 @@ use Rattle.parse.proofs.entry.entry_table.Lts as lts
 use Rattle.parse.proofs.front.no_table.Reads as no-table-reads
 use Rattle.tree.proofs.fields_at.Reads as fields-at-reads
 
-enum-told : tie.Need-enum-told
-enum-told c = search needs
-
-no-table-requires : tie.Need-no-table-requires
-no-table-requires c κs = search needs
-
-enum-told-2 : tie.Need-enum-told-2
-enum-told-2 c = search needs
-
-no-table-requires-2 : tie.Need-no-table-requires-2
-no-table-requires-2 c κs = search needs
-
-enum-told-3 : tie.Need-enum-told-3
-enum-told-3 c = search needs
-
-no-table-requires-3 : tie.Need-no-table-requires-3
-no-table-requires-3 c κs = search needs
-
-enum-told-4 : tie.Need-enum-told-4
-enum-told-4 c = search needs
-
-no-table-requires-4 : tie.Need-no-table-requires-4
-no-table-requires-4 c κs = search needs
-
-enum-told-5 : tie.Need-enum-told-5
-enum-told-5 c = search needs
-
-no-table-requires-5 : tie.Need-no-table-requires-5
-no-table-requires-5 c κs = search needs
-
 enum-known-v : tie.Need-enum-known-v
 enum-known-v c = search needs
 
 fields-at-requires : tie.Need-fields-at-requires
 fields-at-requires c κs = search needs
 
+no-table-requires : tie.Need-no-table-requires
+no-table-requires c κs = search needs
+
 returns : tie.Need-returns
-returns c = search (needs, table-not)
+returns c = search (needs, table-is)
 
 returns-2 : tie.Need-returns-2
 returns-2 c = search (needs, table-not)
 
-returns-3 : tie.Need-returns-3
-returns-3 c = search (needs, table-not)
-
-returns-4 : tie.Need-returns-4
-returns-4 c = search (needs, table-not)
-
-returns-5 : tie.Need-returns-5
-returns-5 c = search (needs, table-not)
-
-returns-6 : tie.Need-returns-6
-returns-6 c = search (needs, table-is)
-
 pub entry-table-spec : {M : Type 1} → statement M
-entry-table-spec =
-    tie.close
-    (tie.spec
-    enum-told
-    no-table-requires
-    enum-told-2
-    no-table-requires-2
-    enum-told-3
-    no-table-requires-3
-    enum-told-4
-    no-table-requires-4
-    enum-told-5
-    no-table-requires-5
-    enum-known-v
-    fields-at-requires
-    returns
-    returns-2
-    returns-3
-    returns-4
-    returns-5
-    returns-6)
+entry-table-spec = tie.close (tie.spec enum-known-v fields-at-requires no-table-requires returns returns-2)

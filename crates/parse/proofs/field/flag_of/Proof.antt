@@ -1,5 +1,5 @@
 use borrow.Author.Needs.{needs}
-use Rattle.parse.proofs.Fielding.{flag-is}
+use Rattle.parse.proofs.Fielding.{flag-is, flag-not}
 use Rattle.parse.proofs.field.flag_of.Statement.{statement}
 use Rattle.parse.proofs.field.flag_of.Tie as tie
 use Rattle.parse.proofs.field.flag_of.Reads as reads
@@ -12,32 +12,11 @@ enum-told c = search needs
 no-flag-requires : tie.Need-no-flag-requires
 no-flag-requires c κs = search needs
 
-enum-told-2 : tie.Need-enum-told-2
-enum-told-2 c = search needs
-
-no-flag-requires-2 : tie.Need-no-flag-requires-2
-no-flag-requires-2 c κs = search needs
-
-enum-told-3 : tie.Need-enum-told-3
-enum-told-3 c = search needs
-
-no-flag-requires-3 : tie.Need-no-flag-requires-3
-no-flag-requires-3 c κs = search needs
-
 enum-known-v : tie.Need-enum-known-v
 enum-known-v c = search needs
 
-enum-told-4 : tie.Need-enum-told-4
-enum-told-4 c = search needs
-
-no-flag-requires-4 : tie.Need-no-flag-requires-4
-no-flag-requires-4 c κs = search needs
-
-enum-told-5 : tie.Need-enum-told-5
-enum-told-5 c = search needs
-
-no-flag-requires-5 : tie.Need-no-flag-requires-5
-no-flag-requires-5 c κs = search needs
+no-flag-requires-2 : tie.Need-no-flag-requires-2
+no-flag-requires-2 c κs = search needs
 
 returns : tie.Need-returns
 returns c = search (needs, flag-is)
@@ -46,35 +25,7 @@ returns-2 : tie.Need-returns-2
 returns-2 c = search (needs, flag-is)
 
 returns-3 : tie.Need-returns-3
-returns-3 c = search (needs, flag-is)
-
-returns-4 : tie.Need-returns-4
-returns-4 c = search (needs, flag-is)
-
-returns-5 : tie.Need-returns-5
-returns-5 c = search (needs, flag-is)
-
-returns-6 : tie.Need-returns-6
-returns-6 c = search (needs, flag-is)
+returns-3 c = search (needs, flag-not)
 
 pub flag-of-spec : {M : Type 1} → statement M
-flag-of-spec =
-    tie.close
-    (tie.spec
-    enum-told
-    no-flag-requires
-    enum-told-2
-    no-flag-requires-2
-    enum-told-3
-    no-flag-requires-3
-    enum-known-v
-    enum-told-4
-    no-flag-requires-4
-    enum-told-5
-    no-flag-requires-5
-    returns
-    returns-2
-    returns-3
-    returns-4
-    returns-5
-    returns-6)
+flag-of-spec = tie.close (tie.spec enum-told no-flag-requires enum-known-v no-flag-requires-2 returns returns-2 returns-3)

@@ -1,5 +1,5 @@
 use borrow.Author.Needs.{needs}
-use Rattle.parse.proofs.Fielding.{number-is}
+use Rattle.parse.proofs.Fielding.{number-is, number-not}
 use Rattle.parse.proofs.field.number_of.Statement.{statement}
 use Rattle.parse.proofs.field.number_of.Tie as tie
 use Rattle.parse.proofs.field.number_of.Reads as reads
@@ -13,35 +13,14 @@ enum-told c = search needs
 no-number-requires : tie.Need-no-number-requires
 no-number-requires c κs = search needs
 
-enum-told-2 : tie.Need-enum-told-2
-enum-told-2 c = search needs
-
-no-number-requires-2 : tie.Need-no-number-requires-2
-no-number-requires-2 c κs = search needs
-
 enum-known-v : tie.Need-enum-known-v
 enum-known-v c = search needs
 
 ranged-requires : tie.Need-ranged-requires
 ranged-requires c κs = search needs
 
-enum-told-3 : tie.Need-enum-told-3
-enum-told-3 c = search needs
-
-no-number-requires-3 : tie.Need-no-number-requires-3
-no-number-requires-3 c κs = search needs
-
-enum-told-4 : tie.Need-enum-told-4
-enum-told-4 c = search needs
-
-no-number-requires-4 : tie.Need-no-number-requires-4
-no-number-requires-4 c κs = search needs
-
-enum-told-5 : tie.Need-enum-told-5
-enum-told-5 c = search needs
-
-no-number-requires-5 : tie.Need-no-number-requires-5
-no-number-requires-5 c κs = search needs
+no-number-requires-2 : tie.Need-no-number-requires-2
+no-number-requires-2 c κs = search needs
 
 returns : tie.Need-returns
 returns c = search (needs, number-is)
@@ -50,36 +29,7 @@ returns-2 : tie.Need-returns-2
 returns-2 c = search (needs, number-is)
 
 returns-3 : tie.Need-returns-3
-returns-3 c = search (needs, number-is)
-
-returns-4 : tie.Need-returns-4
-returns-4 c = search (needs, number-is)
-
-returns-5 : tie.Need-returns-5
-returns-5 c = search (needs, number-is)
-
-returns-6 : tie.Need-returns-6
-returns-6 c = search (needs, number-is)
+returns-3 c = search (needs, number-not)
 
 pub number-of-spec : {M : Type 1} → statement M
-number-of-spec =
-    tie.close
-    (tie.spec
-    enum-told
-    no-number-requires
-    enum-told-2
-    no-number-requires-2
-    enum-known-v
-    ranged-requires
-    enum-told-3
-    no-number-requires-3
-    enum-told-4
-    no-number-requires-4
-    enum-told-5
-    no-number-requires-5
-    returns
-    returns-2
-    returns-3
-    returns-4
-    returns-5
-    returns-6)
+number-of-spec = tie.close (tie.spec enum-told no-number-requires enum-known-v ranged-requires no-number-requires-2 returns returns-2 returns-3)

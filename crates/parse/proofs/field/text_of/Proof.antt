@@ -1,5 +1,5 @@
 use borrow.Author.Needs.{needs}
-use Rattle.parse.proofs.Fielding.{text-is}
+use Rattle.parse.proofs.Fielding.{text-is, text-not}
 use Rattle.parse.proofs.field.text_of.Statement.{statement}
 use Rattle.parse.proofs.field.text_of.Tie as tie
 use Rattle.parse.proofs.field.text_of.Reads as reads
@@ -15,29 +15,8 @@ no-text-requires c κs = search needs
 enum-known-v : tie.Need-enum-known-v
 enum-known-v c = search needs
 
-enum-told-2 : tie.Need-enum-told-2
-enum-told-2 c = search needs
-
 no-text-requires-2 : tie.Need-no-text-requires-2
 no-text-requires-2 c κs = search needs
-
-enum-told-3 : tie.Need-enum-told-3
-enum-told-3 c = search needs
-
-no-text-requires-3 : tie.Need-no-text-requires-3
-no-text-requires-3 c κs = search needs
-
-enum-told-4 : tie.Need-enum-told-4
-enum-told-4 c = search needs
-
-no-text-requires-4 : tie.Need-no-text-requires-4
-no-text-requires-4 c κs = search needs
-
-enum-told-5 : tie.Need-enum-told-5
-enum-told-5 c = search needs
-
-no-text-requires-5 : tie.Need-no-text-requires-5
-no-text-requires-5 c κs = search needs
 
 returns : tie.Need-returns
 returns c = search (needs, text-is)
@@ -46,35 +25,7 @@ returns-2 : tie.Need-returns-2
 returns-2 c = search (needs, text-is)
 
 returns-3 : tie.Need-returns-3
-returns-3 c = search (needs, text-is)
-
-returns-4 : tie.Need-returns-4
-returns-4 c = search (needs, text-is)
-
-returns-5 : tie.Need-returns-5
-returns-5 c = search (needs, text-is)
-
-returns-6 : tie.Need-returns-6
-returns-6 c = search (needs, text-is)
+returns-3 c = search (needs, text-not)
 
 pub text-of-spec : {M : Type 1} → statement M
-text-of-spec =
-    tie.close
-    (tie.spec
-    enum-told
-    no-text-requires
-    enum-known-v
-    enum-told-2
-    no-text-requires-2
-    enum-told-3
-    no-text-requires-3
-    enum-told-4
-    no-text-requires-4
-    enum-told-5
-    no-text-requires-5
-    returns
-    returns-2
-    returns-3
-    returns-4
-    returns-5
-    returns-6)
+text-of-spec = tie.close (tie.spec enum-told no-text-requires enum-known-v no-text-requires-2 returns returns-2 returns-3)

@@ -1,3 +1,4 @@
+-- The last piece of what is passed, and then of what is to come, is the last of all.
 use Prim.Native.Nat.{_-_}
 use lib.ListN.{length}
 use borrow.Author.Needs.{needs}

@@ -1,5 +1,5 @@
 use borrow.Author.Needs.{needs}
-use Rattle.parse.proofs.Fronting.{table-is, table-there}
+use Rattle.parse.proofs.Fronting.{table-is, table-not, table-there}
 use Rattle.parse.proofs.front.table_at.Statement.{statement}
 use Rattle.parse.proofs.front.table_at.Tie as tie
 use Rattle.parse.proofs.front.table_at.Reads as reads
@@ -17,74 +17,23 @@ enum-told c = search needs
 no-table-requires : tie.Need-no-table-requires
 no-table-requires c κs = search needs
 
-enum-told-2 : tie.Need-enum-told-2
-enum-told-2 c = search needs
-
-no-table-requires-2 : tie.Need-no-table-requires-2
-no-table-requires-2 c κs = search needs
-
-enum-told-3 : tie.Need-enum-told-3
-enum-told-3 c = search needs
-
-no-table-requires-3 : tie.Need-no-table-requires-3
-no-table-requires-3 c κs = search needs
-
-enum-told-4 : tie.Need-enum-told-4
-enum-told-4 c = search needs
-
-no-table-requires-4 : tie.Need-no-table-requires-4
-no-table-requires-4 c κs = search needs
-
-enum-told-5 : tie.Need-enum-told-5
-enum-told-5 c = search needs
-
-no-table-requires-5 : tie.Need-no-table-requires-5
-no-table-requires-5 c κs = search needs
-
 enum-known-v : tie.Need-enum-known-v
 enum-known-v c = search needs
 
 fields-at-requires : tie.Need-fields-at-requires
 fields-at-requires c κs = search needs
 
+no-table-requires-2 : tie.Need-no-table-requires-2
+no-table-requires-2 c κs = search needs
+
 returns : tie.Need-returns
 returns c = search (needs, table-is)
 
 returns-2 : tie.Need-returns-2
-returns-2 c = search (needs, table-is)
+returns-2 c = search (needs, table-there)
 
 returns-3 : tie.Need-returns-3
-returns-3 c = search (needs, table-is)
-
-returns-4 : tie.Need-returns-4
-returns-4 c = search (needs, table-is)
-
-returns-5 : tie.Need-returns-5
-returns-5 c = search (needs, table-is)
-
-returns-6 : tie.Need-returns-6
-returns-6 c = search (needs, table-there)
+returns-3 c = search (needs, table-not)
 
 pub table-at-spec : {M : Type 1} → statement M
-table-at-spec =
-    tie.close
-    (tie.spec
-    field-requires
-    enum-told
-    no-table-requires
-    enum-told-2
-    no-table-requires-2
-    enum-told-3
-    no-table-requires-3
-    enum-told-4
-    no-table-requires-4
-    enum-told-5
-    no-table-requires-5
-    enum-known-v
-    fields-at-requires
-    returns
-    returns-2
-    returns-3
-    returns-4
-    returns-5
-    returns-6)
+table-at-spec = tie.close (tie.spec field-requires enum-told no-table-requires enum-known-v fields-at-requires no-table-requires-2 returns returns-2 returns-3)
