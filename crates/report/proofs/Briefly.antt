@@ -3,10 +3,10 @@ use Prim.Native.Nat.{ℕ}
 use mathlib.Core.List.{List}
 use mathlib.Core.Path.{_≡_}
 use Rattle.meaning.specs.Base.{ascii}
-use Rattle.tree.specs.declared.Slot.{Slot}
+use Rattle.tree.specs.declared.Span.{Span}
 use Rattle.tree.specs.declared.Value.{Value}
-use Rattle.tree.specs.Room.{slotAt}
 use Rattle.tree.specs.Doors.{valueAt}
+use Rattle.tree.specs.Steps.{keyAt}
 use Rattle.schema.specs.declared.KindRead.{KindRead}
 use Rattle.schema.specs.declared.Text.{Text}
 use Rattle.schema.specs.declared.Text.the-variants as texts
@@ -27,7 +27,7 @@ module _ (room store : List ℕ) (made n : ℕ) (v : Value) (t : TableRead) (ev 
   unfolding componentAt componentRead headRead roleRead
   component-brief k ek e = rw (e, ek, eo, ep, et, ev)
 
-  pub application-brief : (s : Slot) (name : Text) → s ≡ slotAt room n → name ≡ orText (o .text) (texts.Stored (s .key) (s .len)) → partition ≡ orText (p .text) (texts.Fixed words.App)
-      → record { «package» = texts.Stored (s .key) (s .len); name = name; partition = partition } ≡ shown.applicationBrief (applicationAt room store made n 32 .application)
+  pub application-brief : (s : Span) (name : Text) → s ≡ keyAt room n → name ≡ orText (o .text) (texts.Stored (s .from) (s .len)) → partition ≡ orText (p .text) (texts.Fixed words.App)
+      → record { «package» = texts.Stored (s .from) (s .len); name = name; partition = partition } ≡ shown.applicationBrief (applicationAt room store made n 32 .application)
   unfolding applicationAt applicationRead names
   application-brief s name es en e = rw (e, en, es, eo, ep, et, ev)

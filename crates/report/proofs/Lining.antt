@@ -2,7 +2,6 @@
 use Prim.Native.Nat.{ℕ, _+_}
 use mathlib.Core.List.{List, [], _∷_, _++_, append-assoc, append-nil}
 use mathlib.Core.Path.{_≡_, ap}
-use lib.ListN.{length}
 use Rattle.meaning.specs.Base.{ascii}
 use Rattle.meaning.specs.Schema as meant
 use Rattle.meaning.specs.Listing.{spaced, decimal, dashed, stemLine, refusedLine}
@@ -14,8 +13,6 @@ use Rattle.schema.specs.declared.Media.the-variants as medias
 use Rattle.schema.specs.declared.Kind.{Kind}
 use Rattle.schema.specs.declared.Kind.the-variants as kinds
 use Rattle.schema.specs.declared.Partition.{Partition}
-use Rattle.schema.specs.declared.Component.{Component}
-use Rattle.schema.specs.declared.Application.{Application}
 use Rattle.schema.specs.Words.{word, chipMeant, mediaMeant, kindMeant, chipWord, mediaWord, kindWord}
 use Rattle.schema.specs.Texts.{clip, spelled}
 use Rattle.tree.specs.Room.{Holds, Counts as Counted}
@@ -25,31 +22,34 @@ use Rattle.parse.specs.declared.view.Counts.{Counts}
 use Rattle.parse.specs.declared.view.Device.{Device}
 use Rattle.parse.specs.Entries.{Keyed}
 use Rattle.parse.specs.Front.{boardRead, frontOf}
-use Rattle.parse.specs.Meant.{featureList}
-use Rattle.parse.specs.Views.{countsOf, deviceOf}
+use Rattle.parse.specs.Views.{partitionList, componentList, applicationList, countsOf, deviceOf}
 use Rattle.parse.proofs.Judging.{partitions-hold, components-hold, applications-hold, counts-are}
-use Rattle.plan.specs.declared.component.Build.{Build}
 use Rattle.report.specs.declared.brief.ComponentBrief.{ComponentBrief}
 use Rattle.report.specs.declared.brief.ApplicationBrief.{ApplicationBrief}
+use Rattle.report.specs.declared.lists.Lists.{Lists}
 use Rattle.page.specs.Page.{Wrote}
 use Rattle.report.specs.Shown as shown
 use Rattle.page.proofs.Pages.{wrote-then}
 use Rattle.page.proofs.Writing.{field-by}
 
 -- ---- where the lists stand
-module _ (room store : List ℕ) (made : ℕ) (p c a : Places) (h : Rooms room made) (l : shown.Listed room store made p c a) where
-  pub partitions-stand : Holds room (p .end)
-  partitions-stand = partitions-hold room store made p h (l .partitions)
+pub lists-stand : (room store : List ℕ) (made : ℕ) (p c a : Places) → p ≡ partitionList room store made → c ≡ componentList room store made → a ≡ applicationList room store made
+    → shown.Listed room store (record { made = made; partitions = p; components = c; applications = a })
+lists-stand room store made p c a ep ec ea = record { partitions = ep; components = ec; applications = ea }
 
-  pub components-stand : Holds room (c .end)
-  components-stand = components-hold room store made c h (l .components)
+module _ (room store : List ℕ) (l : Lists) (h : Rooms room (l .made)) (k : shown.Listed room store l) where
+  pub partitions-stand : Holds room (l .partitions .end)
+  partitions-stand = partitions-hold room store (l .made) (l .partitions) h (k .partitions)
 
-  pub applications-stand : Holds room (a .end)
-  applications-stand = applications-hold room store made a h (l .applications)
+  pub components-stand : Holds room (l .components .end)
+  components-stand = components-hold room store (l .made) (l .components) h (k .components)
 
-  pub counts-stand : (i j k : ℕ) → Counted room (p .end) (p .place) i → Counted room (c .end) (c .place) j → Keyed room store a 64 k
-      → record { partitions = i; components = j; applications = k } ≡ countsOf room store made
-  counts-stand i j k = counts-are room store made p c a i j k (l .partitions) (l .components) (l .applications)
+  pub applications-stand : Holds room (l .applications .end)
+  applications-stand = applications-hold room store (l .made) (l .applications) h (k .applications)
+
+  pub counts-stand : (p c a : ℕ) → Counted room (l .partitions .end) (l .partitions .place) p → Counted room (l .components .end) (l .components .place) c → Keyed room store (l .applications) 64 a
+      → record { partitions = p; components = c; applications = a } ≡ countsOf room store (l .made)
+  counts-stand p c a = counts-are room store (l .made) (l .partitions) (l .components) (l .applications) p c a (k .partitions) (k .components) (k .applications)
 
 -- ---- words
 chip-said : (c : Chip) (w : Word) → w ≡ chipWord c → word w ≡ meant.chipWord (chipMeant c)
@@ -75,12 +75,10 @@ module _ (o o1 o2 o3 : List ℕ) (n n1 n2 n3 : ℕ) where
   stem-line s w a z = simp append-assoc (wrote-then w (wrote-then a z))
 
   module _ (o4 : List ℕ) (n4 : ℕ) where
-    pub build-line : (room store : List ℕ) (made : ℕ) (name : List ℕ) (b : Build) (k : ℕ)
-        → Wrote (ascii "build") o n o1 n1 → Wrote (32 ∷ spelled store name (b .«package»)) o1 n1 o2 n2 → Wrote (32 ∷ decimal k) o2 n2 o3 n3 → Wrote (10 ∷ []) o3 n3 o4 n4
-        → k ≡ length (featureList room store made (b .features))
-        → Wrote (shown.build room store made name b) o n o4 n4
-    unfolding shown.build
-    build-line room store made name b k w x y z e = simp append-assoc (wrote-then w (wrote-then x (wrote-then (field-by y (ap decimal e)) z)))
+    pub build-line : (pack : List ℕ) (k : ℕ)
+        → Wrote (ascii "build") o n o1 n1 → Wrote (32 ∷ pack) o1 n1 o2 n2 → Wrote (32 ∷ decimal k) o2 n2 o3 n3 → Wrote (10 ∷ []) o3 n3 o4 n4
+        → Wrote (shown.built pack k) o n o4 n4
+    build-line pack k w x y z = simp append-assoc (wrote-then w (wrote-then x (wrote-then y z)))
 
     module _ (o5 : List ℕ) (n5 : ℕ) where
       pub part-line : (store : List ℕ) (p : Partition) (s : List ℕ) (end : ℕ)
@@ -97,22 +95,20 @@ module _ (o o1 o2 o3 : List ℕ) (n n1 n2 n3 : ℕ) where
       refused-line number section place w x y v z = simp append-assoc (wrote-then w (wrote-then x (wrote-then y (wrote-then v z))))
 
       module _ (store name : List ℕ) where
-        pub comp-line : (c : Component) (b : ComponentBrief) (k : Word)
+        pub comp-line : (b : ComponentBrief) (k : Word)
             → Wrote (ascii "comp") o n o1 n1 → Wrote (32 ∷ spelled store name (b .name)) o1 n1 o2 n2 → Wrote (32 ∷ word k) o2 n2 o3 n3
             → Wrote (32 ∷ dashed (spelled store name (b .partition))) o3 n3 o4 n4 → Wrote (10 ∷ []) o4 n4 o5 n5
-            → k ≡ kindWord (b .kind) → b ≡ shown.componentBrief c
-            → Wrote (shown.comp store name c) o n o5 n5
+            → k ≡ kindWord (b .kind)
+            → Wrote (shown.comp store name b) o n o5 n5
         unfolding shown.comp
-        comp-line c b k w x y v z e d =
-            simp append-assoc (wrote-then w (wrote-then (rw d at x) (wrote-then (field-by y (kind-said (c .head .kind) k (rw d at e))) (wrote-then (rw d at v) z))))
+        comp-line b k w x y v z e = simp append-assoc (wrote-then w (wrote-then x (wrote-then (field-by y (kind-said (b .kind) k e)) (wrote-then v z))))
 
-        pub app-line : (a : Application) (b : ApplicationBrief)
+        pub app-line : (b : ApplicationBrief)
             → Wrote (ascii "app") o n o1 n1 → Wrote (32 ∷ spelled store name (b .«package»)) o1 n1 o2 n2 → Wrote (32 ∷ spelled store name (b .name)) o2 n2 o3 n3
             → Wrote (32 ∷ dashed (spelled store name (b .partition))) o3 n3 o4 n4 → Wrote (10 ∷ []) o4 n4 o5 n5
-            → b ≡ shown.applicationBrief a
-            → Wrote (shown.app store name a) o n o5 n5
+            → Wrote (shown.app store name b) o n o5 n5
         unfolding shown.app
-        app-line a b w x y v z d = simp append-assoc (wrote-then w (wrote-then (rw d at x) (wrote-then (rw d at y) (wrote-then (rw d at v) z))))
+        app-line b w x y v z = simp append-assoc (wrote-then w (wrote-then x (wrote-then y (wrote-then v z))))
 
       pub counts-line : (room store : List ℕ) (made : ℕ) (c : Counts)
           → Wrote (32 ∷ decimal (c .partitions)) o n o1 n1 → Wrote (32 ∷ decimal (c .components)) o1 n1 o2 n2 → Wrote (32 ∷ decimal (c .applications)) o2 n2 o3 n3

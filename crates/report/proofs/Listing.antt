@@ -7,19 +7,23 @@ use native.Mathlib.Numerals.{add-one}
 use lib.ListN.{length, drop, getD, drop-of-length-le}
 use lib.Seq.{drop-cons}
 use Rattle.meaning.specs.Listing.{each, stemLine}
-use Rattle.tree.specs.declared.Found.{Found}
-use Rattle.tree.specs.declared.Found.the-variants.{At, Nothing}
-use Rattle.tree.specs.Room.{Finds, slotAt, child}
-use Rattle.tree.specs.Order.{next}
+use Rattle.tree.specs.declared.Found.the-variants.{Nothing}
+use Rattle.tree.specs.declared.Items.{Items}
+use Rattle.tree.specs.declared.Item.{Item}
+use Rattle.tree.specs.declared.Item.the-variants as given
+use Rattle.tree.specs.declared.Keys.{Keys}
+use Rattle.tree.specs.declared.Key.{Key}
+use Rattle.tree.specs.declared.Key.the-variants as keyed
 use Rattle.tree.specs.Doors.{Rooms, items}
-use Rattle.tree.specs.Spans.{items-step, items-end}
+use Rattle.tree.specs.Steps.{itemsFrom, toCome, Gives, item-given, item-ended, Over, Begins, KeyGives, key-given}
 use Rattle.schema.specs.declared.Text.{Text}
 use Rattle.schema.specs.Texts.{spelled}
 use Rattle.parse.specs.declared.entry.List.{List}
 use Rattle.parse.specs.declared.entry.PartitionRead.{PartitionRead}
-use Rattle.parse.specs.Entries.{partitionAt, walk}
-use Rattle.parse.specs.Views.{partitionList}
-use Rattle.parse.proofs.Judging.{partitions-among}
+use Rattle.parse.specs.Entries.{partitionAt, componentAt, applicationAt, walk}
+use Rattle.parse.specs.Meant.{featureList}
+use Rattle.parse.proofs.Entering.{walk-ended, walk-given}
+use Rattle.parse.proofs.Judging.{partitions-among, components-among, applications-among}
 use Rattle.plan.specs.declared.builds.Use.{Use}
 use Rattle.plan.specs.declared.builds.BuildList.{BuildList}
 use Rattle.plan.specs.declared.choice.Choice.the-variants.{BootChain}
@@ -28,6 +32,9 @@ use Rattle.plan.specs.Builds.{Used, blank, noUse, buildAt, buildsOf}
 use Rattle.plan.specs.Stems.{stem}
 use Rattle.plan.proofs.Building.{used-at}
 use Rattle.page.specs.Page.{Wrote}
+use Rattle.report.specs.declared.brief.ComponentBrief.{ComponentBrief}
+use Rattle.report.specs.declared.brief.ApplicationBrief.{ApplicationBrief}
+use Rattle.report.specs.declared.lists.Lists.{Lists}
 use Rattle.report.specs.Shown as shown
 use Rattle.page.proofs.Pages.{wrote-nil, wrote-then}
 
@@ -58,61 +65,111 @@ module _ {X : Type 0} (f : X → Seq ℕ) (all : Seq X) (out : Seq ℕ) (at : �
 
 -- ---- items one after the other
 
-module _ (f : ℕ → Seq ℕ) (room : Seq ℕ) (l m : List) (d : l ≡ m) (out : Seq ℕ) (at from : ℕ) (out′ : Seq ℕ) (at′ : ℕ)
-    (k : Left f (items room (l .end) (l .place) 0) (items room (l .end) (l .place) from) out at out′ at′) where
-  items-out : items room (l .end) (l .place) from ≡ [] → Wrote (each f (items room (m .end) (m .place) 0)) out at out′ at′
-  items-out e = rw d at (left-end f (items room (l .end) (l .place) 0) out at (items room (l .end) (l .place) from) out′ at′ k e)
+-- a walk over items has come from its start to here
+pub record Passed (f : ℕ → Seq ℕ) (room : Seq ℕ) (made : ℕ) (start : Items) (out : Seq ℕ) (at : ℕ) (w : Items) (out′ : Seq ℕ) (at′ : ℕ) : Type 0 where
+  pub within : w .end ≤ made
+  pub left : Left f (toCome room start) (toCome room w) out at out′ at′
 
-  pub items-past : l .end ≤ from → Wrote (each f (items room (m .end) (m .place) 0)) out at out′ at′
-  unfolding items
-  items-past h = let z : l .end - from ≡ 0 = omega arith in items-out (rw z)
+module _ (f : ℕ → Seq ℕ) (room : Seq ℕ) (made : ℕ) (start : Items) (out : Seq ℕ) (at : ℕ) (w : Items) (out′ : Seq ℕ) (at′ : ℕ)
+    (k : Passed f room made start out at w out′ at′) where
+  pub items-long : length out′ ≡ length out
+  items-long = k .left .wrote .long
 
-  pub items-none : (found : Found) → Finds from (l .end) (child room (l .end) (l .place) from) found → found ≡ Nothing → Wrote (each f (items room (m .end) (m .place) 0)) out at out′ at′
-  items-none found h g = items-out (items-end room (l .end) (l .place) from found h g)
+  module _ (step : Item) (h : Gives room w step) where
+    pub items-end : (l m : List) → start ≡ itemsFrom (l .place) 0 (l .end) → l ≡ m → step ≡ given.End → Wrote (each f (items room (m .end) (m .place) 0)) out at out′ at′
+    items-end l m s d g = rw (s, d) at (left-end f (toCome room start) out at (toCome room w) out′ at′ (k .left) (item-ended room w step h g))
 
-module _ (f : ℕ → Seq ℕ) (room : Seq ℕ) (end place : ℕ) (out : Seq ℕ) (at from : ℕ) (out′ : Seq ℕ) (at′ : ℕ)
-    (k : Left f (items room end place 0) (items room end place from) out at out′ at′) (found : Found) (h : Finds from end (child room end place from) found) (n : ℕ) (g : found ≡ At n) where
-  pub items-on : (out″ : Seq ℕ) (at″ : ℕ) → Wrote (f n) out′ at′ out″ at″ → Left f (items room end place 0) (items room end place (n + 1)) out at out″ at″
-  items-on = left-on f (items room end place 0) out at (items room end place from) out′ at′ k n (items room end place (n + 1)) (items-step room end place from n found h g)
+    items-on : (n : ℕ) (rest : Items) → step ≡ given.At n rest → (out″ : Seq ℕ) (at″ : ℕ) → Wrote (f n) out′ at′ out″ at″ → Passed f room made start out at rest out″ at″
+    items-on n rest g out″ at″ e =
+        let next = item-given room w step h n rest g in
+        record {
+          within = omega (arith, next .end, k .within);
+          left = left-on f (toCome room start) out at (toCome room w) out′ at′ (k .left) n (toCome room rest) (next .come) out″ at″ e;
+        }
 
--- ---- steps by key
+-- a list that stands among the values made
+items-start : (f : ℕ → Seq ℕ) (room : Seq ℕ) (made : ℕ) (l : List) (w : Items) (out : Seq ℕ) (at : ℕ) → l .end ≤ made → w ≡ itemsFrom (l .place) 0 (l .end) → Passed f room made w out at w out at
+items-start f room made l w out at h e =
+    record { within = rw e h; left = left-start f (toCome room w) out at }
 
-module _ (f : ℕ → Seq ℕ) (room store : Seq ℕ) (l m : List) (d : l ≡ m) (out : Seq ℕ) (at : ℕ) (after : Found) (i : ℕ) (out′ : Seq ℕ) (at′ : ℕ)
-    (k : Left f (walk room store (l .end) (l .place) 65 Nothing) (walk room store (l .end) (l .place) (65 - i) after) out at out′ at′) where
-  keys-out : walk room store (l .end) (l .place) (65 - i) after ≡ [] → Wrote (each f (walk room store (m .end) (m .place) 65 Nothing)) out at out′ at′
-  keys-out e = rw d at (left-end f (walk room store (l .end) (l .place) 65 Nothing) out at (walk room store (l .end) (l .place) (65 - i) after) out′ at′ k e)
+module _ (room store : Seq ℕ) (l : Lists) (r : Rooms room (l .made)) (h : shown.Listed room store l) (name : Seq ℕ) (w : Items) (out : Seq ℕ) (at : ℕ) where
+  pub parts-start : w ≡ itemsFrom (l .partitions .place) 0 (l .partitions .end) → Passed (shown.partAt room store (l .made) name) room (l .made) w out at w out at
+  parts-start =
+      items-start (shown.partAt room store (l .made) name) room (l .made) (l .partitions) w out at
+      (partitions-among room store (l .made) (l .partitions) r (h .partitions) .end)
 
-  pub keys-past : 65 ≤ i → Wrote (each f (walk room store (m .end) (m .place) 65 Nothing)) out at out′ at′
-  keys-past h = let z : 65 - i ≡ 0 = omega arith in keys-out (rw z)
+  pub comps-start : w ≡ itemsFrom (l .components .place) 0 (l .components .end) → Passed (shown.compAt room store (l .made) name) room (l .made) w out at w out at
+  comps-start =
+      items-start (shown.compAt room store (l .made) name) room (l .made) (l .components) w out at
+      (components-among room store (l .made) (l .components) r (h .components) .end)
 
-  pub keys-none : i < 65 → (found : Found) → Finds 0 (l .end) (next (slotAt room) store (l .end) (l .place) after) found → found ≡ Nothing
-      → Wrote (each f (walk room store (m .end) (m .place) 65 Nothing)) out at out′ at′
-  keys-none b found h g =
-      let z : 65 - i ≡ suc (64 - i) = omega arith in
-      let e : next (slotAt room) store (l .end) (l .place) after ≡ Nothing = sym (h .is) ∙ g in
-      keys-out (rw (z, e))
+module _ (room store : Seq ℕ) (made : ℕ) (name : Seq ℕ) (start : Items) (out : Seq ℕ) (at : ℕ) (w : Items) (out′ : Seq ℕ) (at′ : ℕ)
+    (step : Item) (h : Gives room w step) (n : ℕ) (rest : Items) (g : step ≡ given.At n rest) (out″ : Seq ℕ) (at″ : ℕ) where
+  pub parts-on : Passed (shown.partAt room store made name) room made start out at w out′ at′
+      → (r : PartitionRead) → r ≡ partitionAt room store made n → Wrote (shown.part store (r .partition)) out′ at′ out″ at″
+      → Passed (shown.partAt room store made name) room made start out at rest out″ at″
+  parts-on k r e x = items-on (shown.partAt room store made name) room made start out at w out′ at′ k step h n rest g out″ at″ (rw e at x)
 
-module _ (f : ℕ → Seq ℕ) (room store : Seq ℕ) (end place : ℕ) (out : Seq ℕ) (at : ℕ) (after : Found) (i : ℕ) (out′ : Seq ℕ) (at′ : ℕ)
-    (k : Left f (walk room store end place 65 Nothing) (walk room store end place (65 - i) after) out at out′ at′) (b : i < 65)
-    (found : Found) (h : Finds 0 end (next (slotAt room) store end place after) found) (n : ℕ) (g : found ≡ At n) where
-  pub keys-on : (out″ : Seq ℕ) (at″ : ℕ) → Wrote (f n) out′ at′ out″ at″ → Left f (walk room store end place 65 Nothing) (walk room store end place (65 - (i + 1)) (At n)) out at out″ at″
-  keys-on =
+  pub comps-on : Passed (shown.compAt room store made name) room made start out at w out′ at′
+      → (b : ComponentBrief) → b ≡ shown.componentBrief (componentAt room store made n 32 .component) → Wrote (shown.comp store name b) out′ at′ out″ at″
+      → Passed (shown.compAt room store made name) room made start out at rest out″ at″
+  comps-on k b e x = items-on (shown.compAt room store made name) room made start out at w out′ at′ k step h n rest g out″ at″ (rw e at x)
+
+-- ---- keys in byte order
+
+-- a walk over keys has come from its start to here in i steps
+pub record Stepped (f : ℕ → Seq ℕ) (room store : Seq ℕ) (made : ℕ) (start : Keys) (out : Seq ℕ) (at : ℕ) (w : Keys) (i : ℕ) (out′ : Seq ℕ) (at′ : ℕ) : Type 0 where
+  pub over : Over room (start .place) (start .end) w
+  pub within : start .end ≤ made
+  pub left : Left f (walk room store (start .end) (start .place) 65 Nothing) (walk room store (start .end) (start .place) (65 - i) (w .after)) out at out′ at′
+
+module _ (f : ℕ → Seq ℕ) (room store : Seq ℕ) (made : ℕ) (start : Keys) (out : Seq ℕ) (at : ℕ) (w : Keys) (i : ℕ) (out′ : Seq ℕ) (at′ : ℕ)
+    (k : Stepped f room store made start out at w i out′ at′) where
+  pub keys-long : length out′ ≡ length out
+  keys-long = k .left .wrote .long
+
+  module _ (l m : List) (b : Begins room (l .place) (l .end) Nothing start) (d : l ≡ m) where
+    keys-out : walk room store (start .end) (start .place) (65 - i) (w .after) ≡ [] → Wrote (each f (walk room store (m .end) (m .place) 65 Nothing)) out at out′ at′
+    keys-out e =
+        rw (b .over .place, b .over .end, d) at
+        (left-end f (walk room store (start .end) (start .place) 65 Nothing) out at (walk room store (start .end) (start .place) (65 - i) (w .after)) out′ at′ (k .left) e)
+
+    pub keys-past : 65 ≤ i → Wrote (each f (walk room store (m .end) (m .place) 65 Nothing)) out at out′ at′
+    keys-past h = let z : 65 - i ≡ 0 = omega arith in keys-out (rw z)
+
+    pub keys-end : (step : Key) → KeyGives room store w step → step ≡ keyed.End → Wrote (each f (walk room store (m .end) (m .place) 65 Nothing)) out at out′ at′
+    keys-end step h g = keys-out (walk-ended room store (start .place) (start .end) w (k .over) step h (65 - i) g)
+
+  keys-on : (step : Key) → KeyGives room store w step → (n : ℕ) (rest : Keys) → step ≡ keyed.At n rest → i < 65 → (out″ : Seq ℕ) (at″ : ℕ) → Wrote (f n) out′ at′ out″ at″
+      → Stepped f room store made start out at rest (i + 1) out″ at″
+  keys-on step h n rest g b out″ at″ e =
       let z : 65 - i ≡ suc (65 - (i + 1)) = omega arith in
-      let e : next (slotAt room) store end place after ≡ At n = sym (h .is) ∙ g in
-      left-on f (walk room store end place 65 Nothing) out at (walk room store end place (65 - i) after) out′ at′ k n (walk room store end place (65 - (i + 1)) (At n)) (rw (z, e))
+      record {
+        over = key-given room store (start .place) (start .end) w (k .over) step h n rest g .over;
+        within = k .within;
+        left = left-on f (walk room store (start .end) (start .place) 65 Nothing) out at (walk room store (start .end) (start .place) (65 - i) (w .after)) out′ at′ (k .left) n
+            (walk room store (start .end) (start .place) (65 - (i + 1)) (rest .after))
+            (rw z (walk-given room store (start .place) (start .end) w (k .over) step h (65 - (i + 1)) n rest g)) out″ at″ e;
+      }
 
--- ---- partitions
+pub apps-start : (room store : Seq ℕ) (l : Lists) → Rooms room (l .made) → shown.Listed room store l → (name : Seq ℕ) (w : Keys) (out : Seq ℕ) (at : ℕ)
+    → Begins room (l .applications .place) (l .applications .end) Nothing w
+    → Stepped (shown.appAt room store (l .made) name) room store (l .made) w out at w 0 out at
+apps-start room store l r h name w out at b =
+    record {
+      over = record { ready = b .over .ready; place = refl; end = refl };
+      within = omega (arith, b .over .end, applications-among room store (l .made) (l .applications) r (h .applications) .end);
+      left = rw (b .after) (left-start (shown.appAt room store (l .made) name) (walk room store (w .end) (w .place) 65 Nothing) out at);
+    }
 
-module _ (room store : Seq ℕ) (made : ℕ) (name : Seq ℕ) (end place : ℕ) (out : Seq ℕ) (at : ℕ) where
-  pub parts-on : (from : ℕ) (out′ : Seq ℕ) (at′ : ℕ) → Left (shown.partAt room store made name) (items room end place 0) (items room end place from) out at out′ at′
-      → (found : Found) → Finds from end (child room end place from) found → (n : ℕ) → found ≡ At n
-      → (r : PartitionRead) → r ≡ partitionAt room store made n → (out″ : Seq ℕ) (at″ : ℕ) → Wrote (shown.part store (r .partition)) out′ at′ out″ at″
-      → Left (shown.partAt room store made name) (items room end place 0) (items room end place (n + 1)) out at out″ at″
-  parts-on from out′ at′ k found h n g r e out″ at″ w = items-on (shown.partAt room store made name) room end place out at from out′ at′ k found h n g out″ at″ (rw e at w)
-
--- the partitions stand among the values made
-pub parts-within : (room store : Seq ℕ) (made : ℕ) (l : List) → Rooms room made → l ≡ partitionList room store made → l .end ≤ made
-parts-within room store made l r e = partitions-among room store made l r e .end
+pub apps-on : (room store : Seq ℕ) (made : ℕ) (name : Seq ℕ) (start : Keys) (out : Seq ℕ) (at : ℕ) (w : Keys) (i : ℕ) (out′ : Seq ℕ) (at′ : ℕ)
+    → Stepped (shown.appAt room store made name) room store made start out at w i out′ at′
+    → (step : Key) → KeyGives room store w step → (n : ℕ) (rest : Keys) → step ≡ keyed.At n rest → i < 65
+    → (b : ApplicationBrief) → b ≡ shown.applicationBrief (applicationAt room store made n 32 .application)
+    → (out″ : Seq ℕ) (at″ : ℕ) → Wrote (shown.app store name b) out′ at′ out″ at″
+    → Stepped (shown.appAt room store made name) room store made start out at rest (i + 1) out″ at″
+apps-on room store made name start out at w i out′ at′ k step h n rest g low b e out″ at″ x =
+    keys-on (shown.appAt room store made name) room store made start out at w i out′ at′ k step h n rest g low out″ at″ (rw e at x)
 
 -- ---- builds
 
@@ -127,14 +184,16 @@ module _ (room store : Seq ℕ) (made : ℕ) (name : Seq ℕ) (b : BuildList) (u
       let l : length bs ≤ i = omega (arith, u .count, h) in
       left-end (shown.build room store made name) bs out at (drop i bs) out′ at′ k (drop-of-length-le bs l)
 
-  pub builds-on : i < b .count → (y : Use) (x : Build) → y ≡ getD (b .items) i noUse → x ≡ buildAt y → (out″ : Seq ℕ) (at″ : ℕ) → Wrote (shown.build room store made name x) out′ at′ out″ at″
+  pub builds-on : i < b .count → (y : Use) (x : Build) → y ≡ getD (b .items) i noUse → x ≡ buildAt y
+      → (n : ℕ) → n ≡ length (featureList room store made (x .features)) → (out″ : Seq ℕ) (at″ : ℕ) → Wrote (shown.built (spelled store name (x .«package»)) n) out′ at′ out″ at″
       → Left (shown.build room store made name) bs (drop (i + 1) bs) out at out″ at″
-  builds-on h y x e g out″ at″ w =
+  unfolding shown.build
+  builds-on h y x e g n c out″ at″ w =
       let d : getD bs i blank ≡ x = used-at 129 bs b i u h ∙ sym (g ∙ ap buildAt e) in
       left-on (shown.build room store made name) bs out at (drop i bs) out′ at′ k x (drop (i + 1) bs)
-      (rw (add-one i, ← d) (drop-cons bs i blank (omega (arith, h, u .count)))) out″ at″ w
+      (rw (add-one i, ← d) (drop-cons bs i blank (omega (arith, h, u .count)))) out″ at″ (rw c at w)
 
--- the builds and the stem behind them
+-- the builds and the stem after them
 pub outcome-wrote : (room store : Seq ℕ) (made : ℕ) (name out out′ out″ : Seq ℕ) (at at′ at″ : ℕ) (t : Text) → Wrote (shown.builds room store made name) out at out′ at′ → t ≡ stem room store made name BootChain
     → Wrote (stemLine (spelled store name t)) out′ at′ out″ at″ → Wrote (shown.outcome room store made name) out at out″ at″
 outcome-wrote room store made name out out′ out″ at at′ at″ t h e k = wrote-then h (rw e at k)

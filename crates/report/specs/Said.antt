@@ -52,11 +52,11 @@ module _ (room store : Seq ℕ) (made : ℕ) (name : Seq ℕ) where
   unfolding shown.part meant.partLine
   part-says p = refl
 
-  comp-says : (c : Component) → shown.comp store name c ≡ meant.compLine (componentMeant room store made name c)
+  comp-says : (c : Component) → shown.comp store name (shown.componentBrief c) ≡ meant.compLine (componentMeant room store made name c)
   unfolding shown.comp meant.compLine
   comp-says c = refl
 
-  app-says : (a : Application) → shown.app store name a ≡ meant.appLine (applicationMeant room store made name a)
+  app-says : (a : Application) → shown.app store name (shown.applicationBrief a) ≡ meant.appLine (applicationMeant room store made name a)
   unfolding shown.app meant.appLine
   app-says a = refl
 

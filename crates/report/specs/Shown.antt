@@ -14,7 +14,6 @@ use Rattle.schema.specs.declared.Component.{Component}
 use Rattle.schema.specs.declared.Application.{Application}
 use Rattle.schema.specs.Words.{chipMeant, mediaMeant, kindMeant}
 use Rattle.schema.specs.Texts.{clip, spelled}
-use Rattle.parse.specs.declared.entry.List.{List}
 use Rattle.parse.specs.Entries.{partitionAt, componentAt, applicationAt, walk}
 use Rattle.parse.specs.Views.{partitionList, componentList, applicationList, countsOf}
 use Rattle.parse.specs.Front.{frontRead}
@@ -26,6 +25,7 @@ use Rattle.plan.specs.Builds.{buildsOf}
 use Rattle.plan.specs.Stems as stems
 use Rattle.report.specs.declared.brief.ComponentBrief.{ComponentBrief}
 use Rattle.report.specs.declared.brief.ApplicationBrief.{ApplicationBrief}
+use Rattle.report.specs.declared.lists.Lists.{Lists}
 
 -- ---- what a line says of an entry
 
@@ -40,19 +40,23 @@ applicationBrief a = record { «package» = a .«package»; name = a .name; part
 unfoldable pub part : Seq ℕ → Partition → Seq ℕ
 part store p = line (ascii "part") (clip (p .from) (p .len) store ∷ decimal (p .offset) ∷ decimal (p .offset + p .size) ∷ [])
 
-unfoldable pub comp : Seq ℕ → Seq ℕ → Component → Seq ℕ
+unfoldable pub comp : Seq ℕ → Seq ℕ → ComponentBrief → Seq ℕ
 comp store name c =
-    line (ascii "comp") (spelled store name (c .head .name) ∷ schemas.kindWord (kindMeant (c .head .kind)) ∷ dashed (spelled store name (c .role .partition)) ∷ [])
+    line (ascii "comp") (spelled store name (c .name) ∷ schemas.kindWord (kindMeant (c .kind)) ∷ dashed (spelled store name (c .partition)) ∷ [])
 
-unfoldable pub app : Seq ℕ → Seq ℕ → Application → Seq ℕ
+unfoldable pub app : Seq ℕ → Seq ℕ → ApplicationBrief → Seq ℕ
 app store name a =
     line (ascii "app") (spelled store name (a .«package») ∷ spelled store name (a .name) ∷ dashed (spelled store name (a .partition)) ∷ [])
 
+-- of a package with so many features
+abbrev pub built : Seq ℕ → ℕ → Seq ℕ
+built pack count = line (ascii "build") (pack ∷ decimal count ∷ [])
+
 -- where the lists stand
-pub record Listed (room store : Seq ℕ) (made : ℕ) (p c a : List) : Type 0 where
-  pub partitions : p ≡ partitionList room store made
-  pub components : c ≡ componentList room store made
-  pub applications : a ≡ applicationList room store made
+pub record Listed (room store : Seq ℕ) (l : Lists) : Type 0 where
+  pub partitions : l .partitions ≡ partitionList room store (l .made)
+  pub components : l .components ≡ componentList room store (l .made)
+  pub applications : l .applications ≡ applicationList room store (l .made)
 
 module _ (room store : Seq ℕ) (made : ℕ) where
   -- how many entries there are, and values made
@@ -63,7 +67,7 @@ module _ (room store : Seq ℕ) (made : ℕ) where
 
   module _ (name : Seq ℕ) where
     unfoldable pub build : Build → Seq ℕ
-    build b = line (ascii "build") (spelled store name (b .«package») ∷ decimal (length (featureList room store made (b .features))) ∷ [])
+    build b = built (spelled store name (b .«package»)) (length (featureList room store made (b .features)))
 
     unfoldable pub ok : Seq ℕ
     ok =
@@ -77,10 +81,10 @@ module _ (room store : Seq ℕ) (made : ℕ) where
     partAt n = part store (partitionAt room store made n .partition)
 
     abbrev pub compAt : ℕ → Seq ℕ
-    compAt n = comp store name (componentAt room store made n 32 .component)
+    compAt n = comp store name (componentBrief (componentAt room store made n 32 .component))
 
     abbrev pub appAt : ℕ → Seq ℕ
-    appAt n = app store name (applicationAt room store made n 32 .application)
+    appAt n = app store name (applicationBrief (applicationAt room store made n 32 .application))
 
     abbrev pub parts : Seq ℕ
     parts = each partAt (items room (partitionList room store made .end) (partitionList room store made .place) 0)

@@ -33,8 +33,8 @@ pub fn component(tree: &[u8], store: &[u8], made: usize, n: usize) -> ComponentB
     let kind = k.kind;
     let name = o.text;
     ComponentBrief {
-        kind: kind,
-        name: name,
+        kind,
+        name,
         partition: p.or(Text::Stored { from: 0, len: 0 }),
     }
 }
@@ -46,10 +46,10 @@ pub fn application(tree: &[u8], store: &[u8], made: usize, n: usize) -> Applicat
 {
     let t = parse::entry::entry_table(tree, made, tree::value_at(tree, store, n));
     let f = t.fields;
-    let v = tree::get(tree, n);
+    let k = tree::key_at(tree, n);
     let key = Text::Stored {
-        from: v.key as usize,
-        len: v.len as usize,
+        from: k.from,
+        len: k.len,
     };
     let o = parse::field::text(tree, store, f, b"name");
     let p = parse::field::text(tree, store, f, b"partition");

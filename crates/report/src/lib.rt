@@ -1,10 +1,10 @@
-// The listing of an accepted preset's boot chain: its lines, one behind the other, into a lent output.
+// The listing of an accepted preset's boot chain: its lines, one after the other, into a lent output.
 
 pub mod brief;
 pub mod line;
 pub mod lists;
 
-use parse::entry::List;
+use crate::lists::Lists;
 use plan::choice::Choice;
 ghost use Rattle.tree.specs.Doors.{Rooms};
 ghost use Rattle.page.specs.Page.{Wrote};
@@ -17,19 +17,16 @@ fn entry_lines(
     at: usize,
     tree: &[u8],
     store: &[u8],
-    made: usize,
     name: &[u8],
-    p: List,
-    c: List,
-    a: List,
+    lists: Lists,
 ) -> usize
-    requires { ⌜ Rooms (now tree) made × Listed (now tree) (now store) made p c a ⌝ }
-    ensures { λ r. ⌜ Wrote (shown.entries (now (tree .entry)) (now (store .entry)) made (now (name .entry))) (now (out .entry)) at (now (out .exit)) r ⌝ }
+    requires { ⌜ Rooms (now tree) (lists .made) × Listed (now tree) (now store) lists ⌝ }
+    ensures { λ r. ⌜ Wrote (shown.entries (now (tree .entry)) (now (store .entry)) (lists .made) (now (name .entry))) (now (out .entry)) at (now (out .exit)) r ⌝ }
 {
-    let i = line::ok(out, at, tree, store, made, name, p, c, a);
-    let j = lists::parts(out, i, tree, store, made, name, p);
-    let k = lists::comps(out, j, tree, store, made, name, c);
-    lists::apps(out, k, tree, store, made, name, a)
+    let i = line::ok(out, at, tree, store, name, lists);
+    let j = lists::parts(out, i, tree, store, name, lists);
+    let k = lists::comps(out, j, tree, store, name, lists);
+    lists::apps(out, k, tree, store, name, lists)
 }
 
 // `ok`, and a line for each entry of the lists, which are looked up once for both.
@@ -37,10 +34,13 @@ fn entries(out: &mut [u8], at: usize, tree: &[u8], store: &[u8], made: usize, na
     requires { ⌜ Rooms (now tree) made ⌝ }
     ensures { λ r. ⌜ Wrote (shown.entries (now (tree .entry)) (now (store .entry)) made (now (name .entry))) (now (out .entry)) at (now (out .exit)) r ⌝ }
 {
-    let p = parse::view::partition_list(tree, store, made);
-    let c = parse::view::component_list(tree, store, made);
-    let a = parse::view::application_list(tree, store, made);
-    entry_lines(out, at, tree, store, made, name, p, c, a)
+    let lists = Lists {
+        made,
+        partitions: parse::view::partition_list(tree, store, made),
+        components: parse::view::component_list(tree, store, made),
+        applications: parse::view::application_list(tree, store, made),
+    };
+    entry_lines(out, at, tree, store, name, lists)
 }
 
 // What is built, and the stem.

@@ -1,9 +1,9 @@
 // The lines of the listing, one function for each.
 
-use crate::page;
-use parse::entry::List;
+use crate::brief::ApplicationBrief;
+use crate::brief::ComponentBrief;
+use crate::lists::Lists;
 use parse::view::Counts;
-use plan::component::Build;
 use schema::Chip;
 use schema::Media;
 use schema::Partition;
@@ -15,17 +15,20 @@ ghost use Rattle.meaning.specs.Schema as schemas;
 ghost use Rattle.meaning.specs.Listing as meant;
 ghost use Rattle.schema.specs.Texts.{spelled};
 ghost use Rattle.schema.specs.Words.{chipMeant, mediaMeant};
-ghost use Rattle.tree.specs.Doors.{Rooms, Stood};
+ghost use Rattle.tree.specs.Doors.{Rooms};
 ghost use Rattle.parse.specs.Views.{countsOf};
 ghost use Rattle.page.specs.Page.{Wrote};
 ghost use Rattle.report.specs.Shown as shown;
 ghost use Rattle.report.specs.Shown.{Listed};
 
 // How many entries the lists have.
-fn counted(tree: &[u8], store: &[u8], made: usize, p: List, c: List, a: List) -> Counts
-    requires { ⌜ Rooms (now tree) made × Listed (now tree) (now store) made p c a ⌝ }
-    ensures { λ r. ⌜ r ≡ countsOf (now (tree .entry)) (now (store .entry)) made ⌝ }
+fn count_entries(tree: &[u8], store: &[u8], lists: Lists) -> Counts
+    requires { ⌜ Rooms (now tree) (lists .made) × Listed (now tree) (now store) lists ⌝ }
+    ensures { λ r. ⌜ r ≡ countsOf (now (tree .entry)) (now (store .entry)) (lists .made) ⌝ }
 {
+    let p = lists.partitions;
+    let c = lists.components;
+    let a = lists.applications;
     Counts {
         partitions: tree::count_items(tree, p.end, p.place),
         components: tree::count_items(tree, c.end, c.place),
@@ -34,29 +37,20 @@ fn counted(tree: &[u8], store: &[u8], made: usize, p: List, c: List, a: List) ->
 }
 
 // The same, and how many values were made.
-fn counts(
-    out: &mut [u8],
-    at: usize,
-    tree: &[u8],
-    store: &[u8],
-    made: usize,
-    p: List,
-    c: List,
-    a: List,
-) -> usize
-    requires { ⌜ Rooms (now tree) made × Listed (now tree) (now store) made p c a ⌝ }
-    ensures { λ r. ⌜ Wrote (shown.counts (now (tree .entry)) (now (store .entry)) made) (now (out .entry)) at (now (out .exit)) r ⌝ }
+fn put_counts(out: &mut [u8], at: usize, tree: &[u8], store: &[u8], lists: Lists) -> usize
+    requires { ⌜ Rooms (now tree) (lists .made) × Listed (now tree) (now store) lists ⌝ }
+    ensures { λ r. ⌜ Wrote (shown.counts (now (tree .entry)) (now (store .entry)) (lists .made)) (now (out .entry)) at (now (out .exit)) r ⌝ }
 {
-    let n = counted(tree, store, made, p, c, a);
-    let q = page::number(out, at, n.partitions as u64);
-    let r = page::number(out, q, n.components as u64);
-    let s = page::number(out, r, n.applications as u64);
-    let t = page::number(out, s, made as u64);
-    page::put(out, t, b"\n")
+    let n = count_entries(tree, store, lists);
+    let p = page::number(out, at, n.partitions as u64);
+    let c = page::number(out, p, n.components as u64);
+    let a = page::number(out, c, n.applications as u64);
+    let m = page::number(out, a, lists.made as u64);
+    page::put(out, m, b"\n")
 }
 
 // `ok`, chip and media.
-fn device(out: &mut [u8], at: usize, chip: Chip, media: Media) -> usize
+fn put_device(out: &mut [u8], at: usize, chip: Chip, media: Media) -> usize
     ensures { λ r. ⌜ Wrote (ascii "ok" ++ meant.spaced (schemas.chipWord (chipMeant chip) ∷ schemas.mediaWord (mediaMeant media) ∷ [])) (now (out .entry)) at (now (out .exit)) r ⌝ }
 {
     let a = page::put(out, at, b"ok");
@@ -65,25 +59,15 @@ fn device(out: &mut [u8], at: usize, chip: Chip, media: Media) -> usize
 }
 
 // `ok`: chip, media, partitions, components, applications, values made.
-pub fn ok(
-    out: &mut [u8],
-    at: usize,
-    tree: &[u8],
-    store: &[u8],
-    made: usize,
-    name: &[u8],
-    p: List,
-    c: List,
-    a: List,
-) -> usize
-    requires { ⌜ Rooms (now tree) made × Listed (now tree) (now store) made p c a ⌝ }
-    ensures { λ r. ⌜ Wrote (shown.ok (now (tree .entry)) (now (store .entry)) made (now (name .entry))) (now (out .entry)) at (now (out .exit)) r ⌝ }
+pub fn ok(out: &mut [u8], at: usize, tree: &[u8], store: &[u8], name: &[u8], lists: Lists) -> usize
+    requires { ⌜ Rooms (now tree) (lists .made) × Listed (now tree) (now store) lists ⌝ }
+    ensures { λ r. ⌜ Wrote (shown.ok (now (tree .entry)) (now (store .entry)) (lists .made) (now (name .entry))) (now (out .entry)) at (now (out .exit)) r ⌝ }
 {
-    let d = parse::view::device_of(tree, store, made);
+    let d = parse::view::device_of(tree, store, lists.made);
     let chip = d.chip;
     let media = d.media;
-    let to = device(out, at, chip, media);
-    counts(out, to, tree, store, made, p, c, a)
+    let to = put_device(out, at, chip, media);
+    put_counts(out, to, tree, store, lists)
 }
 
 // `part`: name, start, end.
@@ -97,20 +81,10 @@ pub fn part(out: &mut [u8], at: usize, store: &[u8], p: Partition) -> usize
     page::put(out, d, b"\n")
 }
 
-// `comp` of the component that value number n is: name, kind, reference.
-pub fn comp(
-    out: &mut [u8],
-    at: usize,
-    tree: &[u8],
-    store: &[u8],
-    made: usize,
-    name: &[u8],
-    n: usize,
-) -> usize
-    requires { ⌜ Rooms (now tree) made × Stood (now tree) n ⌝ }
-    ensures { λ r. ⌜ Wrote (shown.compAt (now (tree .entry)) (now (store .entry)) made (now (name .entry)) n) (now (out .entry)) at (now (out .exit)) r ⌝ }
+// `comp`: name, kind, reference.
+pub fn comp(out: &mut [u8], at: usize, store: &[u8], name: &[u8], x: ComponentBrief) -> usize
+    ensures { λ r. ⌜ Wrote (shown.comp (now (store .entry)) (now (name .entry)) x) (now (out .entry)) at (now (out .exit)) r ⌝ }
 {
-    let x = crate::brief::component(tree, store, made, n);
     let kind = x.kind;
     let own = x.name;
     let partition = x.partition;
@@ -121,20 +95,10 @@ pub fn comp(
     page::put(out, d, b"\n")
 }
 
-// `app` of the application that value number n is: package, name, partition.
-pub fn app(
-    out: &mut [u8],
-    at: usize,
-    tree: &[u8],
-    store: &[u8],
-    made: usize,
-    name: &[u8],
-    n: usize,
-) -> usize
-    requires { ⌜ Rooms (now tree) made × Stood (now tree) n ⌝ }
-    ensures { λ r. ⌜ Wrote (shown.appAt (now (tree .entry)) (now (store .entry)) made (now (name .entry)) n) (now (out .entry)) at (now (out .exit)) r ⌝ }
+// `app`: package, name, partition.
+pub fn app(out: &mut [u8], at: usize, store: &[u8], name: &[u8], x: ApplicationBrief) -> usize
+    ensures { λ r. ⌜ Wrote (shown.app (now (store .entry)) (now (name .entry)) x) (now (out .entry)) at (now (out .exit)) r ⌝ }
 {
-    let x = crate::brief::application(tree, store, made, n);
     let package = x.package;
     let own = x.name;
     let partition = x.partition;
@@ -149,21 +113,16 @@ pub fn app(
 pub fn build(
     out: &mut [u8],
     at: usize,
-    tree: &[u8],
     store: &[u8],
-    made: usize,
     name: &[u8],
-    x: Build,
+    pack: Text,
+    count: usize,
 ) -> usize
-    requires { ⌜ Rooms (now tree) made ⌝ }
-    ensures { λ r. ⌜ Wrote (shown.build (now (tree .entry)) (now (store .entry)) made (now (name .entry)) x) (now (out .entry)) at (now (out .exit)) r ⌝ }
+    ensures { λ r. ⌜ Wrote (shown.built (spelled (now (store .entry)) (now (name .entry)) pack) count) (now (out .entry)) at (now (out .exit)) r ⌝ }
 {
-    let package = x.package;
-    let list = x.features;
-    let n = features::count_features(tree, store, made, list);
     let a = page::put(out, at, b"build");
-    let b = page::text(out, a, store, name, package);
-    let c = page::number(out, b, n as u64);
+    let b = page::text(out, a, store, name, pack);
+    let c = page::number(out, b, count as u64);
     page::put(out, c, b"\n")
 }
 

@@ -2,12 +2,23 @@
 
 use parse::entry::List;
 use plan::choice::Choice;
-use tree::Found;
-ghost use mathlib.Core.Path.{_≡_};
+use tree::Item;
+use tree::Key;
 ghost use Rattle.tree.specs.Doors.{Rooms};
-ghost use Rattle.parse.specs.Views.{partitionList, componentList, applicationList};
 ghost use Rattle.page.specs.Page.{Wrote};
 ghost use Rattle.report.specs.Shown as shown;
+ghost use Rattle.report.specs.Shown.{Listed};
+
+// As many applications as a preset may have, and one more: so far its keys are counted.
+const APPLICATIONS_MOST: usize = 65;
+
+// Where a preset's lists stand, among so many values made.
+pub struct Lists {
+    pub made: usize,
+    pub partitions: List,
+    pub components: List,
+    pub applications: List,
+}
 
 // The partitions, in their order.
 pub fn parts(
@@ -15,30 +26,28 @@ pub fn parts(
     at: usize,
     tree: &[u8],
     store: &[u8],
-    made: usize,
     name: &[u8],
-    l: List,
+    lists: Lists,
 ) -> usize
-    requires { ⌜ Rooms (now tree) made × (l ≡ partitionList (now tree) (now store) made) ⌝ }
-    ensures { λ r. ⌜ Wrote (shown.parts (now (tree .entry)) (now (store .entry)) made (now (name .entry))) (now (out .entry)) at (now (out .exit)) r ⌝ }
+    requires { ⌜ Rooms (now tree) (lists .made) × Listed (now tree) (now store) lists ⌝ }
+    ensures { λ r. ⌜ Wrote (shown.parts (now (tree .entry)) (now (store .entry)) (lists .made) (now (name .entry))) (now (out .entry)) at (now (out .exit)) r ⌝ }
 {
-    let place = l.place;
-    let end = l.end;
+    let made = lists.made;
+    let list = lists.partitions;
     let mut to = at;
-    let mut from = 0;
-    while from < end {
-        let found = tree::child(tree, end, place, from);
-        match found {
-            Found::Nothing => return to,
-            Found::At(n) => {
-                let r = parse::entry::partition_at(tree, store, made, n);
+    let mut w = tree::items_of(list.place, list.end);
+    loop {
+        let step = tree::next_item(tree, w);
+        match step {
+            Item::End => return to,
+            Item::At { value, rest } => {
+                let r = parse::entry::partition_at(tree, store, made, value);
                 let p = r.partition;
                 to = crate::line::part(out, to, store, p);
-                from = n + 1;
+                w = rest;
             }
         }
     }
-    to
 }
 
 // The components, in their order.
@@ -47,28 +56,27 @@ pub fn comps(
     at: usize,
     tree: &[u8],
     store: &[u8],
-    made: usize,
     name: &[u8],
-    l: List,
+    lists: Lists,
 ) -> usize
-    requires { ⌜ Rooms (now tree) made × (l ≡ componentList (now tree) (now store) made) ⌝ }
-    ensures { λ r. ⌜ Wrote (shown.comps (now (tree .entry)) (now (store .entry)) made (now (name .entry))) (now (out .entry)) at (now (out .exit)) r ⌝ }
+    requires { ⌜ Rooms (now tree) (lists .made) × Listed (now tree) (now store) lists ⌝ }
+    ensures { λ r. ⌜ Wrote (shown.comps (now (tree .entry)) (now (store .entry)) (lists .made) (now (name .entry))) (now (out .entry)) at (now (out .exit)) r ⌝ }
 {
-    let place = l.place;
-    let end = l.end;
+    let made = lists.made;
+    let list = lists.components;
     let mut to = at;
-    let mut from = 0;
-    while from < end {
-        let found = tree::child(tree, end, place, from);
-        match found {
-            Found::Nothing => return to,
-            Found::At(n) => {
-                to = crate::line::comp(out, to, tree, store, made, name, n);
-                from = n + 1;
+    let mut w = tree::items_of(list.place, list.end);
+    loop {
+        let step = tree::next_item(tree, w);
+        match step {
+            Item::End => return to,
+            Item::At { value, rest } => {
+                let x = crate::brief::component(tree, store, made, value);
+                to = crate::line::comp(out, to, store, name, x);
+                w = rest;
             }
         }
     }
-    to
 }
 
 // The applications, in byte order of key.
@@ -77,25 +85,24 @@ pub fn apps(
     at: usize,
     tree: &[u8],
     store: &[u8],
-    made: usize,
     name: &[u8],
-    l: List,
+    lists: Lists,
 ) -> usize
-    requires { ⌜ Rooms (now tree) made × (l ≡ applicationList (now tree) (now store) made) ⌝ }
-    ensures { λ r. ⌜ Wrote (shown.apps (now (tree .entry)) (now (store .entry)) made (now (name .entry))) (now (out .entry)) at (now (out .exit)) r ⌝ }
+    requires { ⌜ Rooms (now tree) (lists .made) × Listed (now tree) (now store) lists ⌝ }
+    ensures { λ r. ⌜ Wrote (shown.apps (now (tree .entry)) (now (store .entry)) (lists .made) (now (name .entry))) (now (out .entry)) at (now (out .exit)) r ⌝ }
 {
-    let place = l.place;
-    let end = l.end;
-    let low = tree::skip_up(tree, end, place, 0);
+    let made = lists.made;
+    let list = lists.applications;
     let mut to = at;
-    let mut after = Found::Nothing;
-    for _i in 0..65usize {
-        let found = tree::next(tree, store, low, end, place, after);
-        match found {
-            Found::Nothing => return to,
-            Found::At(n) => {
-                to = crate::line::app(out, to, tree, store, made, name, n);
-                after = Found::At(n);
+    let mut w = tree::keys_of(tree, list.place, list.end);
+    for _i in 0..APPLICATIONS_MOST {
+        let step = tree::next_key(tree, store, w);
+        match step {
+            Key::End => return to,
+            Key::At { value, rest } => {
+                let x = crate::brief::application(tree, store, made, value);
+                to = crate::line::app(out, to, store, name, x);
+                w = rest;
             }
         }
     }
@@ -121,7 +128,10 @@ pub fn builds(
     for i in 0..count {
         let u = items[i];
         let x = plan::builds::build_at(u);
-        to = crate::line::build(out, to, tree, store, made, name, x);
+        let package = x.package;
+        let list = x.features;
+        let n = features::count_features(tree, store, made, list);
+        to = crate::line::build(out, to, store, name, package, n);
     }
     to
 }

@@ -3,9 +3,6 @@ use Rattle.report.proofs.Lining.{app-line}
 use Rattle.report.proofs.line.app.Statement.{statement}
 use Rattle.report.proofs.line.app.Tie as tie
 
-application-requires : tie.Need-application-requires
-application-requires c κs = search needs
-
 slice-aggregate-put : tie.Need-slice-aggregate-put
 slice-aggregate-put c = search needs
 
@@ -37,7 +34,6 @@ pub app-spec : {M : Type 1} → statement M
 app-spec =
     tie.close
     (tie.spec
-    application-requires
     slice-aggregate-put
     put-requires
     text-requires

@@ -3,9 +3,6 @@ use Rattle.report.proofs.Lining.{build-line}
 use Rattle.report.proofs.line.build.Statement.{statement}
 use Rattle.report.proofs.line.build.Tie as tie
 
-count-requires : tie.Need-count-requires
-count-requires c κs = search needs
-
 slice-aggregate-put : tie.Need-slice-aggregate-put
 slice-aggregate-put c = search needs
 
@@ -34,7 +31,6 @@ pub build-spec : {M : Type 1} → statement M
 build-spec =
     tie.close
     (tie.spec
-    count-requires
     slice-aggregate-put
     put-requires
     text-requires

@@ -3,9 +3,6 @@ use Rattle.report.proofs.Lining.{comp-line}
 use Rattle.report.proofs.line.comp.Statement.{statement}
 use Rattle.report.proofs.line.comp.Tie as tie
 
-component-requires : tie.Need-component-requires
-component-requires c κs = search needs
-
 slice-aggregate-put : tie.Need-slice-aggregate-put
 slice-aggregate-put c = search needs
 
@@ -40,7 +37,6 @@ pub comp-spec : {M : Type 1} → statement M
 comp-spec =
     tie.close
     (tie.spec
-    component-requires
     slice-aggregate-put
     put-requires
     text-requires

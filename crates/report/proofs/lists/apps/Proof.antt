@@ -1,47 +1,51 @@
+-- The lines on the page and those of the keys not yet met are the lines of all applications.
 use borrow.Author.Needs.{needs}
 use Prim.Native.Nat.{_-_}
-use Rattle.tree.specs.declared.Found.the-variants.{Nothing}
-use Rattle.parse.specs.Entries.{walk}
-use Rattle.parse.proofs.Judging.{applications-hold, application-stood}
+use Rattle.tree.specs.Steps.{key-stands}
 use Rattle.report.specs.Shown as shown
-use Rattle.report.proofs.Listing.{Left, left-start, left-long, keys-past, keys-none, keys-on}
+use Rattle.report.proofs.Lining.{applications-stand}
+use Rattle.report.proofs.Listing.{Stepped, apps-start, apps-on, keys-long, keys-end, keys-past}
 use Rattle.report.proofs.lists.apps.Statement.{statement}
 use Rattle.report.proofs.lists.apps.Tie as tie
 use Rattle.report.proofs.lists.apps.Reads as reads
 use Rattle.report.proofs.lists.apps.Lts as lts
+use Rattle.report.proofs.brief.application.Reads as application-reads
 use Rattle.report.proofs.line.app.Reads as app-reads
-use Rattle.tree.proofs.next.Reads as next-reads
-use Rattle.tree.proofs.skip_up.Reads as skip-up-reads
+use Rattle.tree.proofs.keys_of.Reads as keys-of-reads
+use Rattle.tree.proofs.next_key.Reads as next-key-reads
 
 abbrev Inv-loop : tie.InvT-loop
-Inv-loop out₀ at tree store made name place end low to₀ after₀ -i₀ out to after -i = Left (shown.appAt tree store made name) (walk tree store end place 65 Nothing) (walk tree store end place (65 - -i) after) out₀ at out to
+Inv-loop out₀ at tree store name made to₀ w₀ -i₀ out to w -i = Stepped (shown.appAt tree store made name) tree store made w₀ out₀ at w -i out to
 
 abbrev μ-loop : tie.MeasureT-loop
-μ-loop out₀ at tree store made name place end low to₀ after₀ -i₀ out to after -i = 65 - -i
+μ-loop out₀ at tree store name made to₀ w₀ -i₀ out to w -i = 65 - -i
 
-skip-up-requires : tie.Need-skip-up-requires Inv-loop μ-loop
-skip-up-requires c κs = search (needs, applications-hold)
+keys-of-requires : tie.Need-keys-of-requires Inv-loop μ-loop
+keys-of-requires c κs = search (needs, applications-stand)
 
 loop-holds : tie.Need-loop-holds Inv-loop μ-loop
-loop-holds c = search (needs, left-start)
+loop-holds c = search (needs, apps-start)
 
-next-requires : tie.Need-next-requires Inv-loop μ-loop
-next-requires c κs = search (needs, applications-hold)
+next-key-requires : tie.Need-next-key-requires Inv-loop μ-loop
+next-key-requires c κs = search needs
 
 enum-told : tie.Need-enum-told Inv-loop μ-loop
 enum-told c = search needs
 
 same-length : tie.Need-same-length Inv-loop μ-loop
-same-length c = search (needs, left-long)
+same-length c = search (needs, keys-long)
 
 returns : tie.Need-returns Inv-loop μ-loop
-returns c = search (needs, keys-none)
+returns c = search (needs, keys-end)
 
-enum-known-found : tie.Need-enum-known-found Inv-loop μ-loop
-enum-known-found c = search needs
+enum-known-step : tie.Need-enum-known-step Inv-loop μ-loop
+enum-known-step c = search needs
+
+application-requires : tie.Need-application-requires Inv-loop μ-loop
+application-requires c κs = search (needs, key-stands)
 
 app-requires : tie.Need-app-requires Inv-loop μ-loop
-app-requires c κs = search (needs, application-stood)
+app-requires c κs = search needs
 
 add--i : tie.Need-add--i Inv-loop μ-loop
 add--i c = search needs
@@ -50,10 +54,10 @@ loop-less : tie.Need-loop-less Inv-loop μ-loop
 loop-less c = search needs
 
 loop-again : tie.Need-loop-again Inv-loop μ-loop
-loop-again c = search (needs, keys-on)
+loop-again c = search (needs, apps-on)
 
 same-length-2 : tie.Need-same-length-2 Inv-loop μ-loop
-same-length-2 c = search (needs, left-long)
+same-length-2 c = search (needs, keys-long)
 
 returns-2 : tie.Need-returns-2 Inv-loop μ-loop
 returns-2 c = search (needs, keys-past)
@@ -64,13 +68,14 @@ apps-spec =
     (tie.spec
     Inv-loop
     μ-loop
-    skip-up-requires
+    keys-of-requires
     loop-holds
-    next-requires
+    next-key-requires
     enum-told
     same-length
     returns
-    enum-known-found
+    enum-known-step
+    application-requires
     app-requires
     add--i
     loop-less

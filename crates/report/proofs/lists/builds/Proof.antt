@@ -1,3 +1,4 @@
+-- The lines on the page and those of the builds not yet met are the lines of all builds.
 use borrow.Author.Needs.{needs}
 use Prim.Native.Nat.{_-_}
 use lib.ListN.{drop}
@@ -9,6 +10,7 @@ use Rattle.report.proofs.lists.builds.Statement.{statement}
 use Rattle.report.proofs.lists.builds.Tie as tie
 use Rattle.report.proofs.lists.builds.Reads as reads
 use Rattle.report.proofs.lists.builds.Lts as lts
+use Rattle.features.proofs.count_features.Reads as count-features-reads
 use Rattle.plan.proofs.builds.build_at.Reads as build-at-reads
 use Rattle.plan.proofs.builds.builds.Reads as builds-reads
 use Rattle.report.proofs.line.build.Reads as build-reads
@@ -33,6 +35,9 @@ array-copy-out-u c = search needs
 
 build-at-requires : tie.Need-build-at-requires Inv-loop μ-loop
 build-at-requires c κs = search needs
+
+count-features-requires : tie.Need-count-features-requires Inv-loop μ-loop
+count-features-requires c κs = search needs
 
 build-requires : tie.Need-build-requires Inv-loop μ-loop
 build-requires c κs = search needs
@@ -63,6 +68,7 @@ builds-spec =
     mul-u
     array-copy-out-u
     build-at-requires
+    count-features-requires
     build-requires
     add-i
     loop-less

@@ -1,59 +1,56 @@
+-- The lines on the page and those of the components not yet met are the lines of all components.
 use borrow.Author.Needs.{needs}
-use Prim.Native.Nat.{_-_}
-use Rattle.tree.specs.Doors.{items}
-use Rattle.parse.proofs.Entering.{item-less}
-use Rattle.parse.proofs.Judging.{components-hold}
-use Rattle.plan.proofs.Walking.{component-stood, component-fits}
+use lib.ListN.{length}
+use Rattle.tree.specs.Steps.{toCome, item-room, item-stands, item-fewer}
 use Rattle.report.specs.Shown as shown
-use Rattle.report.proofs.Listing.{Left, left-start, left-long, items-past, items-none, items-on}
+use Rattle.report.proofs.Listing.{Passed, comps-start, comps-on, items-long, items-end}
 use Rattle.report.proofs.lists.comps.Statement.{statement}
 use Rattle.report.proofs.lists.comps.Tie as tie
 use Rattle.report.proofs.lists.comps.Reads as reads
 use Rattle.report.proofs.lists.comps.Lts as lts
+use Rattle.report.proofs.brief.component.Reads as component-reads
 use Rattle.report.proofs.line.comp.Reads as comp-reads
-use Rattle.tree.proofs.child.Reads as child-reads
+use Rattle.tree.proofs.items_of.Reads as items-of-reads
+use Rattle.tree.proofs.next_item.Reads as next-item-reads
 
 abbrev Inv-loop : tie.InvT-loop
-Inv-loop out₀ at tree store made name place end to₀ from₀ out to from = Left (shown.compAt tree store made name) (items tree end place 0) (items tree end place from) out₀ at out to
+Inv-loop out₀ at tree store name made to₀ w₀ out to w = Passed (shown.compAt tree store made name) tree made w₀ out₀ at w out to
 
 abbrev μ-loop : tie.MeasureT-loop
-μ-loop out₀ at tree store made name place end to₀ from₀ out to from = end - from
+μ-loop out₀ at tree store name made to₀ w₀ out to w = length (toCome tree w)
+
+items-of-requires : tie.Need-items-of-requires Inv-loop μ-loop
+items-of-requires c κs = search needs
 
 loop-holds : tie.Need-loop-holds Inv-loop μ-loop
-loop-holds c = search (needs, left-start)
+loop-holds c = search (needs, comps-start)
 
-child-requires : tie.Need-child-requires Inv-loop μ-loop
-child-requires c κs = search (needs, components-hold)
+next-item-requires : tie.Need-next-item-requires Inv-loop μ-loop
+next-item-requires c κs = search (needs, item-room)
 
 enum-told : tie.Need-enum-told Inv-loop μ-loop
 enum-told c = search needs
 
 same-length : tie.Need-same-length Inv-loop μ-loop
-same-length c = search (needs, left-long)
+same-length c = search (needs, items-long)
 
 returns : tie.Need-returns Inv-loop μ-loop
-returns c = search (needs, items-none)
+returns c = search (needs, items-end)
 
-enum-known-found : tie.Need-enum-known-found Inv-loop μ-loop
-enum-known-found c = search needs
+enum-known-step : tie.Need-enum-known-step Inv-loop μ-loop
+enum-known-step c = search needs
+
+component-requires : tie.Need-component-requires Inv-loop μ-loop
+component-requires c κs = search (needs, item-stands)
 
 comp-requires : tie.Need-comp-requires Inv-loop μ-loop
-comp-requires c κs = search (needs, component-stood)
-
-add-from : tie.Need-add-from Inv-loop μ-loop
-add-from c = search (needs, component-fits)
+comp-requires c κs = search needs
 
 loop-less : tie.Need-loop-less Inv-loop μ-loop
-loop-less c = search (needs, item-less)
+loop-less c = search (needs, item-fewer)
 
 loop-again : tie.Need-loop-again Inv-loop μ-loop
-loop-again c = search (needs, items-on)
-
-same-length-2 : tie.Need-same-length-2 Inv-loop μ-loop
-same-length-2 c = search (needs, left-long)
-
-returns-2 : tie.Need-returns-2 Inv-loop μ-loop
-returns-2 c = search (needs, items-past)
+loop-again c = search (needs, comps-on)
 
 pub comps-spec : {M : Type 1} → statement M
 comps-spec =
@@ -61,15 +58,14 @@ comps-spec =
     (tie.spec
     Inv-loop
     μ-loop
+    items-of-requires
     loop-holds
-    child-requires
+    next-item-requires
     enum-told
     same-length
     returns
-    enum-known-found
+    enum-known-step
+    component-requires
     comp-requires
-    add-from
     loop-less
-    loop-again
-    same-length-2
-    returns-2)
+    loop-again)

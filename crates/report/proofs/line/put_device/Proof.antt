@@ -1,7 +1,7 @@
 use borrow.Author.Needs.{needs}
 use Rattle.report.proofs.Lining.{device-line}
-use Rattle.report.proofs.line.device.Statement.{statement}
-use Rattle.report.proofs.line.device.Tie as tie
+use Rattle.report.proofs.line.put_device.Statement.{statement}
+use Rattle.report.proofs.line.put_device.Tie as tie
 
 slice-aggregate-put : tie.Need-slice-aggregate-put
 slice-aggregate-put c = search needs
@@ -27,8 +27,8 @@ same-length c = search needs
 returns : tie.Need-returns
 returns c = search (needs, device-line)
 
-pub device-spec : {M : Type 1} → statement M
-device-spec =
+pub put-device-spec : {M : Type 1} → statement M
+put-device-spec =
     tie.close
     (tie.spec
     slice-aggregate-put

@@ -1,10 +1,10 @@
 use borrow.Author.Needs.{needs}
 use Rattle.report.proofs.Lining.{counts-line}
-use Rattle.report.proofs.line.counts.Statement.{statement}
-use Rattle.report.proofs.line.counts.Tie as tie
+use Rattle.report.proofs.line.put_counts.Statement.{statement}
+use Rattle.report.proofs.line.put_counts.Tie as tie
 
-counted-requires : tie.Need-counted-requires
-counted-requires c κs = search needs
+count-entries-requires : tie.Need-count-entries-requires
+count-entries-requires c κs = search needs
 
 number-requires : tie.Need-number-requires
 number-requires c κs = search needs
@@ -30,11 +30,11 @@ same-length c = search needs
 returns : tie.Need-returns
 returns c = search (needs, counts-line)
 
-pub counts-spec : {M : Type 1} → statement M
-counts-spec =
+pub put-counts-spec : {M : Type 1} → statement M
+put-counts-spec =
     tie.close
     (tie.spec
-    counted-requires
+    count-entries-requires
     number-requires
     number-requires-2
     number-requires-3
