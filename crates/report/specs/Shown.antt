@@ -48,7 +48,7 @@ unfoldable pub app : Seq ℕ → Seq ℕ → ApplicationBrief → Seq ℕ
 app store name a =
     line (ascii "app") (spelled store name (a .«package») ∷ spelled store name (a .name) ∷ dashed (spelled store name (a .partition)) ∷ [])
 
--- of a package with so many features
+-- the line of a package with so many features
 abbrev pub built : Seq ℕ → ℕ → Seq ℕ
 built pack count = line (ascii "build") (pack ∷ decimal count ∷ [])
 

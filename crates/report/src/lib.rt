@@ -23,10 +23,10 @@ fn entry_lines(
     requires { ⌜ Rooms (now tree) (lists .made) × Listed (now tree) (now store) lists ⌝ }
     ensures { λ r. ⌜ Wrote (shown.entries (now (tree .entry)) (now (store .entry)) (lists .made) (now (name .entry))) (now (out .entry)) at (now (out .exit)) r ⌝ }
 {
-    let i = line::ok(out, at, tree, store, name, lists);
-    let j = lists::parts(out, i, tree, store, name, lists);
-    let k = lists::comps(out, j, tree, store, name, lists);
-    lists::apps(out, k, tree, store, name, lists)
+    let after_ok = line::ok(out, at, tree, store, name, lists);
+    let after_parts = lists::parts(out, after_ok, tree, store, name, lists);
+    let after_comps = lists::comps(out, after_parts, tree, store, name, lists);
+    lists::apps(out, after_comps, tree, store, name, lists)
 }
 
 // `ok`, and a line for each entry of the lists, which are looked up once for both.
@@ -48,9 +48,9 @@ fn outcome(out: &mut [u8], at: usize, tree: &[u8], store: &[u8], made: usize, na
     requires { ⌜ Rooms (now tree) made ⌝ }
     ensures { λ r. ⌜ Wrote (shown.outcome (now (tree .entry)) (now (store .entry)) made (now (name .entry))) (now (out .entry)) at (now (out .exit)) r ⌝ }
 {
-    let a = lists::builds(out, at, tree, store, made, name);
+    let after_builds = lists::builds(out, at, tree, store, made, name);
     let t = plan::stem::stem(tree, store, made, name, Choice::BootChain);
-    line::stem(out, a, store, name, t)
+    line::stem(out, after_builds, store, name, t)
 }
 
 // All lines of the listing, from a place of the output on; where they do not fit nothing is promised of it.
@@ -65,6 +65,6 @@ pub fn lines(
     requires { ⌜ Rooms (now tree) made ⌝ }
     ensures { λ r. ⌜ Wrote (shown.lines (now (tree .entry)) (now (store .entry)) made (now (name .entry))) (now (out .entry)) at (now (out .exit)) r ⌝ }
 {
-    let a = entries(out, at, tree, store, made, name);
-    outcome(out, a, tree, store, made, name)
+    let after_entries = entries(out, at, tree, store, made, name);
+    outcome(out, after_entries, tree, store, made, name)
 }

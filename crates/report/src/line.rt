@@ -36,7 +36,7 @@ fn count_entries(tree: &[u8], store: &[u8], lists: Lists) -> Counts
     }
 }
 
-// The same, and how many values were made.
+// How many entries the lists have, and how many values were made.
 fn put_counts(out: &mut [u8], at: usize, tree: &[u8], store: &[u8], lists: Lists) -> usize
     requires { ⌜ Rooms (now tree) (lists .made) × Listed (now tree) (now store) lists ⌝ }
     ensures { λ r. ⌜ Wrote (shown.counts (now (tree .entry)) (now (store .entry)) (lists .made)) (now (out .entry)) at (now (out .exit)) r ⌝ }

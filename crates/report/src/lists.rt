@@ -9,8 +9,8 @@ ghost use Rattle.page.specs.Page.{Wrote};
 ghost use Rattle.report.specs.Shown as shown;
 ghost use Rattle.report.specs.Shown.{Listed};
 
-// As many applications as a preset may have, and one more: so far its keys are counted.
-const APPLICATIONS_MOST: usize = 65;
+// As many keys as are counted: the limit on applications and one more.
+const KEYS_MOST: usize = 65;
 
 // Where a preset's lists stand, among so many values made.
 pub struct Lists {
@@ -95,7 +95,7 @@ pub fn apps(
     let list = lists.applications;
     let mut to = at;
     let mut w = tree::keys_of(tree, list.place, list.end);
-    for _i in 0..APPLICATIONS_MOST {
+    for _i in 0..KEYS_MOST {
         let step = tree::next_key(tree, store, w);
         match step {
             Key::End => return to,

@@ -1,3 +1,4 @@
+-- The lists looked up are where the lines of their entries ask them to stand.
 use borrow.Author.Needs.{needs}
 use Rattle.report.proofs.Lining.{lists-stand}
 use Rattle.report.proofs.entries.Statement.{statement}
