@@ -5,12 +5,19 @@ ghost use Rattle.meaning.specs.Limits as limits;
 
 // 01, "Sizes": bytes of a text, values made, arrays inside one another, segments of a key, entries of the lists.
 pub const TEXT_BYTES: usize = 32768;
+
 pub const VALUES: usize = 2048;
+
 pub const ARRAYS: usize = 16;
+
 pub const SEGMENTS: usize = 16;
+
 pub const PARTITIONS: usize = 32;
+
 pub const COMPONENTS: usize = 64;
+
 pub const APPLICATIONS: usize = 64;
+
 pub const FEATURES: usize = 32;
 
 // Figures of that kind; 01's are one value of them.
