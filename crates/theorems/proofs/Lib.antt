@@ -1,9 +1,11 @@
 pub mod Standing
-pub mod Refusals
-pub mod Demand3
-pub mod Demand3Needs
+pub mod Answers
+pub mod Lines
 pub mod NeverMet
 pub mod AcceptedLayout
 pub mod AcceptedComponents
-pub mod Lines
 pub mod Listing
+pub mod Refusals
+pub mod Demand3
+pub mod Demand3Needs
+pub mod Proved

@@ -1,5 +1,5 @@
--- What the components of a preset have that validation accepts: each has its own name, a package or a file, and a partition
--- that is there. The numbers are those of the refusals that see to it.
+-- What the components of a preset have that validation accepts: each has its own name, a package or a file, and a
+-- partition that is there. The numbers are those of the refusals that see to it.
 use Prim.Native.Nat.{ℕ, _%_, _≤_, _<_}
 use mathlib.Core.Bool.{true, false}
 use mathlib.Core.List.{List}

@@ -1,5 +1,5 @@
--- What a layout has that validation accepts: partitions with distinct names, in whole erase blocks, in rising order from
--- 0 on, that end below 4 GiB and share no byte. The numbers are those of the refusals that see to it.
+-- What a layout has that validation accepts: partitions with distinct names, in whole erase blocks, in rising order
+-- from 0 on, that end below 4 GiB and share no byte. The numbers are those of the refusals that see to it.
 use Prim.Native.Nat.{ℕ, _%_, _≤_, _<_}
 use mathlib.Core.Bool.{false}
 use mathlib.Core.List.{List}

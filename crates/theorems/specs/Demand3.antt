@@ -1,6 +1,6 @@
--- A passed preset does not fail later. Planning a preset that obeys the rules is refused for two reasons only, 80 and 81.
--- Otherwise there is a plan, and in it each component has one payload, each reference finds one partition, and each
--- package is built once. Two of these statements have a premise; `Demand3Needs` says that both are needed.
+-- A passed preset does not fail later. Planning a preset that obeys the rules is refused for two reasons only, 80 and
+-- 81. Otherwise there is a plan, and in it each component has one payload, each reference finds one partition, and
+-- each package is built once. Two of these statements have a premise; `Demand3Needs` says that both are needed.
 use Prim.Native.Nat.{ℕ, suc, _+_, _*_, _≤_, _<_}
 use mathlib.Core.Bool.{false}
 use mathlib.Core.List.{List}
@@ -18,8 +18,8 @@ use Rattle.meaning.specs.Layout.{endOf}
 use Rattle.meaning.specs.Rules.{nameOf, rules}
 use Rattle.meaning.specs.Preset.{Read, validate}
 use Rattle.meaning.specs.Plan as meant
-use Rattle.meaning.specs.Plan.{Selection, app, Build, built, Source, fromPackage, fromFile, PlannedComponent, Plan, planned}
-use Rattle.meaning.specs.Plan.{Planned, componentOf, chosen, partitionFor, planOf}
+use Rattle.meaning.specs.Plan.{Selection, app, Build, built, Source, fromPackage, fromFile, PlannedComponent, Plan}
+use Rattle.meaning.specs.Plan.{Planned, planned, componentOf, chosen, partitionFor, planOf}
 use Rattle.theorems.specs.Words.{At, In, Holds}
 
 -- ---- the two reasons
@@ -52,7 +52,7 @@ pub data Origin (r : Preset) (s : Selection) (c : Component) : Type 0 where
   own : (j : ℕ) → At (r .components) j c → Origin r s c
   selected : (a : Application) → chosen r s ≡ accepted (some a) → c ≡ componentOf a → Origin r s c
 
--- a component has a package and no file, and the package is its payload; or it has a file and no package, and the file is
+-- a component has a package and no file, and that is its payload; or it has a file and no package, and that is
 pub data Payload (c : Component) (source : Source) : Type 0 where
   package-only : (p : List ℕ) → c .head .pack ≡ some p → c .head .file ≡ none
       → source ≡ fromPackage (built p (c .head .bin) (c .role .features)) → Payload c source

@@ -7,7 +7,7 @@ use mathlib.Core.Option.{Option, none, some}
 use mathlib.Core.Path.{_≡_}
 use Rattle.meaning.specs.Base.{ascii}
 use Rattle.meaning.specs.Refusal.{accepted}
-use Rattle.meaning.specs.Schema.{kindRaw, Component, Application, Preset}
+use Rattle.meaning.specs.Schema.{kindRaw, Partition, Component, Application, Preset}
 use Rattle.meaning.specs.Verdict.{fine}
 use Rattle.meaning.specs.Rules.{rules}
 use Rattle.meaning.specs.Plan.{Selection, bootChain, app, Plan, planOf}
@@ -36,13 +36,17 @@ desk name =
       entryOffset = none;
     }
 
+-- one erase block
+abbrev pub block : List ℕ → ℕ → Partition
+block name offset = record { name = name; offset = offset; size = 4096 }
+
 -- 01's example with a second partition of that name, to which its application goes
 abbrev pub going : List ℕ → Preset
 going name =
     record {
       board = given.preset .board;
       image = given.preset .image;
-      partitions = record { name = ascii "boot"; offset = 0; size = 4096 } ∷ record { name = name; offset = 4096; size = 4096 } ∷ [];
+      partitions = block (ascii "boot") 0 ∷ block name 4096 ∷ [];
       components = given.first ∷ [];
       applications = desk name ∷ [];
     }
@@ -61,7 +65,15 @@ NeedsTrimmed = PlannedWithout (going (ascii " a")) (app (ascii "desk")) Referenc
 abbrev pub asking : List ℕ → List (List ℕ) → Option (List ℕ) → List (List ℕ) → Component
 asking name features pbpPack pbpFeatures =
     record {
-      head = record { kind = kindRaw; name = name; pack = some (ascii "p"); bin = none; file = none; filename = ascii "p" };
+      head =
+          record {
+            kind = kindRaw;
+            name = name;
+            pack = some (ascii "p");
+            bin = none;
+            file = none;
+            filename = ascii "p";
+          };
       role =
           record {
             features = features;

@@ -1,8 +1,10 @@
 pub mod Words
-pub mod Demand3
-pub mod Demand3Needs
+pub mod Answers
+pub mod Lines
 pub mod NeverMet
 pub mod AcceptedLayout
 pub mod AcceptedComponents
-pub mod Lines
 pub mod Listing
+pub mod Demand3
+pub mod Demand3Needs
+pub mod Proved

@@ -1,5 +1,5 @@
--- The original's parser has six more errors, without a number here: an unknown table, something else where a table or an
--- array should be, an empty path, an array without elements, or whose last is no table. No text is refused by one of them.
+-- The original's parser has six more errors, without a number here: an unknown table, something else where a table or
+-- an array should be, an empty path, an array without elements, or whose last is no table. No text meets one of them.
 use Prim.Native.Nat.{ℕ}
 use mathlib.Core.List.{List}
 use mathlib.Core.Path.{_≡_}

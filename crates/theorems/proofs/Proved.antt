@@ -1,0 +1,53 @@
+-- Each statement of the table, with its proof.
+use Rattle.theorems.specs.Proved.{Proved}
+use Rattle.theorems.proofs.Answers as answers
+use Rattle.theorems.proofs.Lines as lines
+use Rattle.theorems.proofs.NeverMet.{never-met}
+use Rattle.theorems.proofs.AcceptedLayout as layouts
+use Rattle.theorems.proofs.AcceptedComponents.{accepted-components}
+use Rattle.theorems.proofs.Listing.{listing-fits}
+use Rattle.theorems.proofs.Refusals as refusals
+use Rattle.theorems.proofs.Demand3 as demands
+use Rattle.theorems.proofs.Demand3Needs as needs
+
+pub proved : Proved
+proved =
+    record {
+      answering =
+          record {
+            read-says = answers.read-says;
+            validate-says = answers.validate-says;
+            plan-says = answers.plan-says;
+            plan-is-shown = answers.plan-is-shown;
+            listing-says = answers.listing-says;
+            one-answer = answers.one-answer;
+            one-listing = answers.one-listing;
+          };
+      accepting =
+          record {
+            no-line-is-blank = lines.no-line-is-blank;
+            segments-are-names = lines.segments-are-names;
+            no-key-twice = lines.no-key-twice;
+            never-met = never-met;
+            accepted-layout = layouts.accepted-layout;
+            preset-layout = layouts.preset-layout;
+            accepted-components = accepted-components;
+            listing-fits = listing-fits;
+          };
+      planning =
+          record {
+            refused-why = refusals.refused-why;
+            why-refused = refusals.why-refused;
+            else-planned = refusals.else-planned;
+            demand = demands.demand;
+            plan-size = demands.plan-size;
+            plain-name = demands.plain-name;
+            text-demand = demands.text-demand;
+            text-refused = refusals.text-refused;
+            refused-first = refusals.refused-first;
+            refused-then = refusals.refused-then;
+            needs-no-semicolon = needs.needs-no-semicolon;
+            needs-trimmed = needs.needs-trimmed;
+            needs-one-set = needs.needs-one-set;
+          };
+    }

@@ -1,0 +1,82 @@
+-- The table of what is proved: one line of plain words for each statement. `proofs/Proved.proved` has a proof of each.
+use Rattle.theorems.specs.Answers.{ReadSays, ValidateSays, PlanSays, PlanIsShown, ListingSays}
+use Rattle.theorems.specs.Answers.{OneAnswer, OneListing}
+use Rattle.theorems.specs.Lines.{NoLineIsBlank, SegmentsAreNames, NoKeyTwice}
+use Rattle.theorems.specs.NeverMet.{NeverMet}
+use Rattle.theorems.specs.AcceptedLayout.{AcceptedLayoutIsSound, PresetLayoutIsSound}
+use Rattle.theorems.specs.AcceptedComponents.{AcceptedComponentsAreSound}
+use Rattle.theorems.specs.Demand3.{RefusedOnlyFor80And81, AlwaysRefusedFor80And81, ElsePlanned, PlanMeetsDemand}
+use Rattle.theorems.specs.Demand3.{PlanIsSmall, PlainNameIsFound, TextMeetsDemand, TextRefusedOnlyFor80And81}
+use Rattle.theorems.specs.Demand3.{TextRefusedByValidation, TextAlwaysRefusedFor80And81}
+use Rattle.theorems.specs.Demand3Needs.{NeedsNoSemicolon, NeedsTrimmed, NeedsOneSet}
+use Rattle.theorems.specs.Listing.{ListingFits}
+
+-- what the functions answer
+pub record Answering : Type 0 where
+  -- what meets the contract of preset_read says what 01 says of reading
+  pub read-says : ReadSays
+  -- that of preset_validate, what 01 says of validation
+  pub validate-says : ValidateSays
+  -- that of preset_plan, what 01 says of planning
+  pub plan-says : PlanSays
+  -- and then the views of the rooms show 01's plan
+  pub plan-is-shown : PlanIsShown
+  -- that of preset_listing, 01's listing
+  pub listing-says : ListingSays
+  -- two results that meet one of the first three contracts are equal, answer and rooms
+  pub one-answer : OneAnswer
+  -- and two that meet that of the listing, with the output
+  pub one-listing : OneListing
+
+-- what a text and an accepted preset have
+pub record Accepting : Type 0 where
+  -- no joined line is blank
+  pub no-line-is-blank : NoLineIsBlank
+  -- no segment of a key is empty or holds a dot
+  pub segments-are-names : SegmentsAreNames
+  -- no table has a key twice
+  pub no-key-twice : NoKeyTwice
+  -- no text is refused by one of the original's six other parser errors
+  pub never-met : NeverMet
+  -- accepted partitions have distinct names and whole blocks, end below 4 GiB and share no byte
+  pub accepted-layout : AcceptedLayoutIsSound
+  -- so do those of a preset that obeys the rules
+  pub preset-layout : PresetLayoutIsSound
+  -- its components have distinct names, one payload each, and a partition that is there
+  pub accepted-components : AcceptedComponentsAreSound
+  -- an output of the size asked for takes every listing
+  pub listing-fits : ListingFits
+
+-- a passed preset does not fail later
+pub record Planning : Type 0 where
+  -- planning is refused for no other reason than 80 and 81
+  pub refused-why : RefusedOnlyFor80And81
+  -- and always for these
+  pub why-refused : AlwaysRefusedFor80And81
+  -- otherwise there is a plan
+  pub else-planned : ElsePlanned
+  -- each component of a plan has one payload, each reference one partition, and each package one build
+  pub demand : PlanMeetsDemand
+  -- a plan has no more components and builds than the preset gives cause for
+  pub plan-size : PlanIsSmall
+  -- premise 1 holds of a name without `;` and without white space at its ends
+  pub plain-name : PlainNameIsFound
+  -- all of it for the plan of a text
+  pub text-demand : TextMeetsDemand
+  -- a text is refused by validation, or for 80 or 81
+  pub text-refused : TextRefusedOnlyFor80And81
+  -- by validation first
+  pub refused-first : TextRefusedByValidation
+  -- then for 80 and 81
+  pub refused-then : TextAlwaysRefusedFor80And81
+  -- without premise 1 a reference may find nothing: where the name holds a `;`
+  pub needs-no-semicolon : NeedsNoSemicolon
+  -- or begins with white space
+  pub needs-trimmed : NeedsTrimmed
+  -- without premise 2 a package may be built with other features than a use has
+  pub needs-one-set : NeedsOneSet
+
+pub record Proved : Type 0 where
+  pub answering : Answering
+  pub accepting : Accepting
+  pub planning : Planning
