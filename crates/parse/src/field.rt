@@ -1,7 +1,6 @@
 // One field of a table, read in one way. Every reader gives its fault, 0 for none, beside what it read.
 
 use features::WRONG_KIND;
-use schema::ChipRead;
 use schema::Kind;
 use schema::KindRead;
 use schema::Media;

@@ -4,7 +4,6 @@ use crate::Refusal;
 use features::WRONG_KIND;
 use schema::Board;
 use schema::Chip;
-use schema::ChipRead;
 use schema::Image;
 use schema::Text;
 use schema::Word;
