@@ -32,7 +32,7 @@ same-at store x y p q r e f h = rw (e, f) h
 
 -- ---- how many steps a walk has left
 
--- one more than behind it, where there is one
+-- one more than after it, where there is one
 abbrev more : Feature → ℕ → ℕ
 more Nothing n = 0
 more (At p) n = suc n

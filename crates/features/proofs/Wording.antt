@@ -18,7 +18,7 @@ use Rattle.features.specs.Reading.{wordAt, behind, found}
 use Rattle.features.specs.Pieces.{close, wordsAt}
 use Rattle.features.specs.Ordered.{words-count}
 
--- ---- behind a run of gaps and behind a run of other bytes
+-- ---- after a run of gaps and after a run of other bytes
 
 gaps-fit : (s : List ℕ) → gaps s ≤ length s
 gaps-fit [] = omega arith
@@ -28,7 +28,7 @@ run-fit : (s : List ℕ) → run s ≤ length s
 run-fit [] = omega arith
 run-fit (b ∷ s) = on (gap b) (λ e. rw e (omega arith)) (λ e. rw e (omega (arith, run-fit s)))
 
--- behind the gaps stands a byte that is none
+-- after the gaps stands a byte that is none
 run-some : (s : List ℕ) → gaps s < length s → 0 < run (drop (gaps s) s)
 run-some [] h = absurd (omega arith)
 run-some (b ∷ s) h =
@@ -115,7 +115,7 @@ pub record Counting (s : List ℕ) (n at : ℕ) : Type 0 where
   pub most : n ≤ at
   pub left : n + length (wordsAt at 0 (drop at s)) ≡ length (all s)
 
--- and one more behind the next one
+-- and one more after the next one
 pub record Counted (s : List ℕ) (n at next : ℕ) : Type 0 where
   pub on : Counting s (n + 1) next
   pub rises : at < next

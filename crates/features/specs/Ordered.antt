@@ -40,7 +40,7 @@ bytes-length store (p ∷ ps) = ap suc (bytes-length store ps)
 abbrev parts : List ℕ → List (List ℕ)
 parts s = split (tt {0}) (λ u b. u) (λ u b. gap b) (tt {0}) s
 
--- the first part behind the bytes of an open word
+-- the first part after the bytes of an open word
 abbrev onto : List ℕ → List (List ℕ) → List (List ℕ)
 onto w [] = w ∷ []
 onto w (l ∷ ls) = (w ++ l) ∷ ls
@@ -70,7 +70,7 @@ module _ (store : List ℕ) where
       let d : j + suc (length w) - suc (length w) ≡ j = omega arith in
       rw (d, clip-is j (a ∷ w) u e (omega arith))
 
-  -- behind the open word w the bytes s stand in the store
+  -- after the open word w the bytes s stand in the store
   words-open : (s : List ℕ) (j : ℕ) (w t : List ℕ) → drop j store ≡ w ++ (s ++ t) → bytesAll store (wordsAt (j + length w) (length w) s) ≡ filled (onto w (parts s))
   words-open [] j w t e = rw append-nil (close-bytes j w t [] e)
   words-open (b ∷ s) j w t e =

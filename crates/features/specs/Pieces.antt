@@ -28,7 +28,7 @@ abbrev pub close : ℕ → ℕ → List Piece → List Piece
 close i zero ps = ps
 close i (suc n) ps = record { from = i - suc n; len = suc n } ∷ ps
 
--- the pieces between gaps of bytes that stand at position i, behind n bytes of an open word
+-- the pieces between gaps of bytes that stand at position i, after n bytes of an open word
 abbrev pub wordsAt : ℕ → ℕ → List ℕ → List Piece
 wordsAt i n [] = close i n []
 wordsAt i n (b ∷ s) = pick (gap b) (close i n (wordsAt (i + 1) 0 s)) (wordsAt (i + 1) (n + 1) s)

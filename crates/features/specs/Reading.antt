@@ -20,7 +20,7 @@ upTo s a = pick (ltb a (a + run (drop a s))) (At a (a + run (drop a s))) End
 unfoldable pub wordAt : List ℕ → ℕ → Word
 wordAt s at = upTo s (at + gaps (drop at s))
 
--- the place behind a word that was met from a place on; of the end, that place
+-- the place after a word that was met from a place on; of the end, that place
 abbrev pub behind : Word → ℕ → ℕ
 behind End at = at
 behind (At a b) at = b
@@ -30,7 +30,7 @@ abbrev pub found : Word → Bool
 found End = false
 found (At a b) = true
 
--- the word that a reader stands before, and the reader behind it
+-- the word that a reader stands before, and the reader after it
 abbrev pub stepped : Reader → Step
 stepped d =
     let word = wordAt (now (d .words)) (d .at) in

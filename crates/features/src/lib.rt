@@ -34,10 +34,11 @@ pub enum Raw {
     At(Piece, usize),
 }
 
-// Refusals of a list: an item that is no text, and too many of them.
-const WRONG_KIND: u32 = 20;
+// The refusal of a value of another kind than is asked for.
+pub const WRONG_KIND: u32 = 20;
 
-const TOO_MANY: u32 = 25;
+// The refusal of a list with more items or entries than it may have.
+pub const TOO_MANY: u32 = 25;
 
 // fault 0 where the list is right.
 pub struct FeaturesRead {

@@ -163,12 +163,12 @@ module _ (room store : Seq ℕ) where
     abbrev pub components : List → ℕ → ℕ → Refusal
     components l most limit = refusalOf (listed (componentR limit) inComponent most (items room (l .end) (l .place) 0))
 
-  -- a number found, and the numbers behind it
+  -- a number found, and the numbers after it
   abbrev pub onward : Found → (Found → Seq ℕ) → Seq ℕ
   onward Nothing rest = []
   onward (At n) rest = n ∷ rest (At n)
 
-  -- the numbers that a walk in byte order of key meets behind a value, at most k of them
+  -- the numbers that a walk in byte order of key meets after a value, at most k of them
   abbrev pub walk : ℕ → ℕ → ℕ → Found → Seq ℕ
   walk end place zero after = []
   walk end place (suc k) after = onward (next (slotAt room) store end place after) (walk end place k)

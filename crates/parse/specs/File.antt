@@ -28,7 +28,7 @@ pub record Ends (s : List ℕ) (at r : ℕ) : Type 0 where
 unfoldable pub closed : List ℕ → Piece → ℕ → ℕ → Piece
 closed path best from len = pick (piece? (part from (from + len) path)) (At from len) best
 
--- the last piece: of the one that is open len bytes are behind, and s is ahead
+-- the last piece: of the one that is open len bytes are passed, and s is to come
 abbrev pub lastAt : List ℕ → Piece → ℕ → ℕ → List ℕ → Piece
 lastAt path best from len [] = closed path best from len
 lastAt path best from len (b ∷ s) = pick (eqb b 47) (lastAt path (closed path best from len) (from + len + 1) 0 s) (lastAt path best from (len + 1) s)

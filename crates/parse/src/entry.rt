@@ -3,8 +3,9 @@
 use crate::Refusal;
 use crate::application::ApplicationRead;
 use crate::component::ComponentRead;
-use crate::field::WRONG_KIND;
 use crate::field::first_fault;
+use features::TOO_MANY;
+use features::WRONG_KIND;
 use schema::Partition;
 use schema::Text;
 use tree::Fields;
@@ -20,10 +21,8 @@ ghost use Rattle.parse.specs.Entries as entries;
 ghost use Rattle.parse.specs.Entries.{Among, Few, Partitioned, Keyed};
 ghost use Rattle.parse.specs.Refusals as refusals;
 
-// Refusals: an entry that is no table, and more entries than a list may have.
+// The refusal of an entry that is no table.
 const NO_TABLE: u32 = 23;
-
-const TOO_MANY: u32 = 25;
 
 // A list's place, and how many values stand before the end of its items: none where it is absent.
 pub struct List {

@@ -1,6 +1,6 @@
 // One field of a table, read in one way. Every reader gives its fault, 0 for none, beside what it read.
 
-use schema::ChipRead;
+use features::WRONG_KIND;
 use schema::Kind;
 use schema::KindRead;
 use schema::Media;
@@ -14,11 +14,10 @@ ghost use Rattle.tree.specs.Doors.{Spread};
 ghost use Rattle.schema.specs.Texts.{orText, orNumber};
 ghost use Rattle.parse.specs.Fields as fields;
 
-// Refusals of a field: of another kind, out of range, missing.
-pub const WRONG_KIND: u32 = 20;
-
+// The refusal of a number out of range.
 const OUT_OF_RANGE: u32 = 21;
 
+// The refusal of a field that must be there and is not.
 const MISSING: u32 = 24;
 
 // The greatest number that a field takes.

@@ -1,10 +1,9 @@
 // The board and the image, which share the chip.
 
 use crate::Refusal;
-use crate::field::WRONG_KIND;
+use features::WRONG_KIND;
 use schema::Board;
 use schema::Chip;
-use schema::ChipRead;
 use schema::Image;
 use schema::Text;
 use schema::Word;
@@ -179,7 +178,7 @@ fn image_names(tree: &[u8], store: &[u8], f: Fields, chip: Chip) -> ImageNames
     }
 }
 
-// What stands behind an image's media.
+// What stands after an image's media.
 fn image_rest(tree: &[u8], store: &[u8], f: Fields) -> ImageRest
     requires { ⌜ Spread (now tree) f ⌝ }
     ensures { λ r. ⌜ r ≡ fronts.imageRest (now (tree .entry)) (now (store .entry)) f ⌝ }

@@ -79,7 +79,7 @@ pub fn lent_name(name: &[u8]) -> Text
     Text::Fixed(Word::Board)
 }
 
-fn check_front(tree: &[u8], store: &[u8], made: usize, name: &[u8]) -> Refusal
+fn front_refusal(tree: &[u8], store: &[u8], made: usize, name: &[u8]) -> Refusal
     requires { ⌜ Rooms (now tree) made ⌝ }
     ensures { λ r. ⌜ r ≡ verdicts.frontFault (now (tree .entry)) (now (store .entry)) made (now (name .entry)) ⌝ }
 {
@@ -88,7 +88,7 @@ fn check_front(tree: &[u8], store: &[u8], made: usize, name: &[u8]) -> Refusal
     f.fault
 }
 
-fn check_partitions(tree: &[u8], store: &[u8], made: usize, limits: Limits) -> Refusal
+fn partition_refusal(tree: &[u8], store: &[u8], made: usize, limits: Limits) -> Refusal
     requires { ⌜ Judging (now tree) made limits ⌝ }
     ensures { λ r. ⌜ r ≡ verdicts.partitionFault (now (tree .entry)) (now (store .entry)) made limits ⌝ }
 {
@@ -97,7 +97,7 @@ fn check_partitions(tree: &[u8], store: &[u8], made: usize, limits: Limits) -> R
     earlier(in_section(IN_PARTITION, l.fault), r.fault)
 }
 
-fn check_components(tree: &[u8], store: &[u8], made: usize, limits: Limits) -> Refusal
+fn component_refusal(tree: &[u8], store: &[u8], made: usize, limits: Limits) -> Refusal
     requires { ⌜ Judging (now tree) made limits ⌝ }
     ensures { λ r. ⌜ r ≡ verdicts.componentFault (now (tree .entry)) (now (store .entry)) made limits ⌝ }
 {
@@ -106,7 +106,7 @@ fn check_components(tree: &[u8], store: &[u8], made: usize, limits: Limits) -> R
     earlier(in_section(IN_COMPONENT, l.fault), r)
 }
 
-fn check_applications(tree: &[u8], store: &[u8], made: usize, limits: Limits) -> Refusal
+fn application_refusal(tree: &[u8], store: &[u8], made: usize, limits: Limits) -> Refusal
     requires { ⌜ Judging (now tree) made limits ⌝ }
     ensures { λ r. ⌜ r ≡ verdicts.applicationFault (now (tree .entry)) (now (store .entry)) made limits ⌝ }
 {
@@ -120,19 +120,19 @@ pub fn check_records(tree: &[u8], store: &[u8], made: usize, name: &[u8], limits
     requires { ⌜ Judging (now tree) made limits ⌝ }
     ensures { λ r. ⌜ r ≡ verdicts.verdict (now (tree .entry)) (now (store .entry)) made (now (name .entry)) limits ⌝ }
 {
-    let a = check_front(tree, store, made, name);
+    let a = front_refusal(tree, store, made, name);
     if a.number != 0 {
         return a;
     }
-    let b = check_partitions(tree, store, made, limits);
+    let b = partition_refusal(tree, store, made, limits);
     if b.number != 0 {
         return b;
     }
-    let c = check_components(tree, store, made, limits);
+    let c = component_refusal(tree, store, made, limits);
     if c.number != 0 {
         return c;
     }
-    check_applications(tree, store, made, limits)
+    application_refusal(tree, store, made, limits)
 }
 
 // The same within 01's limits: the judge of records.

@@ -135,20 +135,6 @@ found-below r high n b e = rw e at b
 pub found-from : (r : Found) (low n : ℕ) → From low r → r ≡ At n → low ≤ n
 found-from r low n b e = rw e at b
 
--- the next search begins after what was found, so a walk ends
-pub found-less : (r : Found) (low high n : ℕ) → From low r → Below high r → r ≡ At n → high - (n + 1) < high - low
-found-less r low high n a b e = omega (arith, found-from r low n a e, found-below r high n b e)
-
-pub found-next : (r : Found) (high n : ℕ) → Below high r → r ≡ At n → n + 1 ≤ high
-found-next r high n b e = omega (arith, found-below r high n b e)
-
-pub found-fits : (r : Found) (high n : ℕ) → Fits w64 high → Below high r → r ≡ At n → Fits w64 (n + 1)
-found-fits r high n h b e = record { fits = omega (arith, found-below r high n b e, h .fits) }
-
--- what was found stands in the room
-pub holds-found : (room : List ℕ) (made n : ℕ) (r : Found) → Holds room made → Below made r → r ≡ At n → Holds room (n + 1)
-holds-found room made n r h b e = record { fits = omega (arith, h .fits, found-below r made n b e) }
-
 -- what was put is got
 pub put-got : (room room' : List ℕ) (n : ℕ) (v r : Slot) → Holds room (n + 1) → Sized v → room' ≡ stored room (32 * n) (cell v) → r ≡ slotAt room' n → r ≡ v
 put-got room room' n v r h s e f = f ∙ ap (λ (x : List ℕ). slotAt x n) e ∙ slot-same room n v h s

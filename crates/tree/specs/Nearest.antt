@@ -226,11 +226,6 @@ module _ (at : ℕ → Slot) (store : List ℕ) where
         (λ t. let h : Next after 0 made n = rw e at (next-best after made t) in ahead-less after n made (h .below) (h .here))
         (λ t. let z : _≡_ {A = ℕ} 0 1 = cc (next-unmade after made t) in absurd (omega arith))
 
--- the measure of a walk, by what the function says
-pub found-ahead : (room store : List ℕ) (made parent n : ℕ) (after r : Found) → Finds 0 made (next (slotAt room) store made parent after) r → r ≡ At n
-    → ahead (slotAt room) store parent (At n) made < ahead (slotAt room) store parent after made
-found-ahead room store made parent n after r f e = next-less (slotAt room) store parent made n after (sym (f .is) ∙ e)
-
 -- ---- values read in two ways
 
 pub better-below : (at : ℕ → Slot) (store : List ℕ) (made parent n : ℕ) (after best : Found) → n < made → Below made best → Below made (better at store parent after best n)

@@ -202,15 +202,6 @@ module _ (room : List ℕ) (made parent from : ℕ) where
     pub item-child : child room made parent from ≡ At n
     item-child = items-child ∙ ap firstOf e
 
-    pub item-from : from ≤ n
-    item-from = items-from 0 n (ap (λ (l : List ℕ). nthOf l 0) e)
-
-    pub item-below : n < made
-    item-below = items-below 0 n (ap (λ (l : List ℕ). nthOf l 0) e)
-
-    pub item-rest : ns ≡ items room made parent (n + 1)
-    item-rest = let f = items-next n item-child in cc
-
 -- its items are those from the first child to the newest, and nothing is lost
 module _ (room : List ℕ) (place : ℕ) where
   fewer-items : (n : ℕ) → under room n place ≡ false → items room (suc n) place 0 ≡ items room n place 0

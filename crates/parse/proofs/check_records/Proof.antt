@@ -4,31 +4,31 @@ use Rattle.parse.proofs.check_records.Statement.{statement}
 use Rattle.parse.proofs.check_records.Tie as tie
 use Rattle.parse.proofs.check_records.Reads as reads
 use Rattle.parse.proofs.check_records.Lts as lts
-use Rattle.parse.proofs.check_applications.Reads as check-applications-reads
-use Rattle.parse.proofs.check_components.Reads as check-components-reads
-use Rattle.parse.proofs.check_front.Reads as check-front-reads
-use Rattle.parse.proofs.check_partitions.Reads as check-partitions-reads
+use Rattle.parse.proofs.application_refusal.Reads as application-refusal-reads
+use Rattle.parse.proofs.component_refusal.Reads as component-refusal-reads
+use Rattle.parse.proofs.front_refusal.Reads as front-refusal-reads
+use Rattle.parse.proofs.partition_refusal.Reads as partition-refusal-reads
 
-check-front-requires : tie.Need-check-front-requires
-check-front-requires c κs = search needs
+front-refusal-requires : tie.Need-front-refusal-requires
+front-refusal-requires c κs = search needs
 
 returns : tie.Need-returns
 returns c = search (needs, front-refused)
 
-check-partitions-requires : tie.Need-check-partitions-requires
-check-partitions-requires c κs = search needs
+partition-refusal-requires : tie.Need-partition-refusal-requires
+partition-refusal-requires c κs = search needs
 
 returns-2 : tie.Need-returns-2
 returns-2 c = search (needs, partitions-refused)
 
-check-components-requires : tie.Need-check-components-requires
-check-components-requires c κs = search needs
+component-refusal-requires : tie.Need-component-refusal-requires
+component-refusal-requires c κs = search needs
 
 returns-3 : tie.Need-returns-3
 returns-3 c = search (needs, components-refused)
 
-check-applications-requires : tie.Need-check-applications-requires
-check-applications-requires c κs = search needs
+application-refusal-requires : tie.Need-application-refusal-requires
+application-refusal-requires c κs = search needs
 
 returns-4 : tie.Need-returns-4
 returns-4 c = search (needs, all-judged)
@@ -37,11 +37,11 @@ pub check-records-spec : {M : Type 1} → statement M
 check-records-spec =
     tie.close
     (tie.spec
-    check-front-requires
+    front-refusal-requires
     returns
-    check-partitions-requires
+    partition-refusal-requires
     returns-2
-    check-components-requires
+    component-refusal-requires
     returns-3
-    check-applications-requires
+    application-refusal-requires
     returns-4)

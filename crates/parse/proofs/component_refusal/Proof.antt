@@ -1,9 +1,9 @@
 use Rattle.parse.proofs.Judging.{components-among, components-judged}
 use borrow.Author.Needs.{needs}
-use Rattle.parse.proofs.check_components.Statement.{statement}
-use Rattle.parse.proofs.check_components.Tie as tie
-use Rattle.parse.proofs.check_components.Reads as reads
-use Rattle.parse.proofs.check_components.Lts as lts
+use Rattle.parse.proofs.component_refusal.Statement.{statement}
+use Rattle.parse.proofs.component_refusal.Tie as tie
+use Rattle.parse.proofs.component_refusal.Reads as reads
+use Rattle.parse.proofs.component_refusal.Lts as lts
 use Rattle.parse.proofs.earlier.Reads as earlier-reads
 use Rattle.parse.proofs.entry.check_components.Reads as check-components-reads
 use Rattle.parse.proofs.in_section.Reads as in-section-reads
@@ -24,8 +24,8 @@ earlier-requires c κs = search needs
 returns : tie.Need-returns
 returns c = search (needs, components-judged)
 
-pub check-components-spec : {M : Type 1} → statement M
-check-components-spec =
+pub component-refusal-spec : {M : Type 1} → statement M
+component-refusal-spec =
     tie.close
     (tie.spec
     component-list-requires

@@ -1,9 +1,9 @@
 use Rattle.parse.proofs.Judging.{partitions-among, partitions-judged}
 use borrow.Author.Needs.{needs}
-use Rattle.parse.proofs.check_partitions.Statement.{statement}
-use Rattle.parse.proofs.check_partitions.Tie as tie
-use Rattle.parse.proofs.check_partitions.Reads as reads
-use Rattle.parse.proofs.check_partitions.Lts as lts
+use Rattle.parse.proofs.partition_refusal.Statement.{statement}
+use Rattle.parse.proofs.partition_refusal.Tie as tie
+use Rattle.parse.proofs.partition_refusal.Reads as reads
+use Rattle.parse.proofs.partition_refusal.Lts as lts
 use Rattle.parse.proofs.earlier.Reads as earlier-reads
 use Rattle.parse.proofs.entry.read_partitions.Reads as read-partitions-reads
 use Rattle.parse.proofs.in_section.Reads as in-section-reads
@@ -24,8 +24,8 @@ earlier-requires c κs = search needs
 returns : tie.Need-returns
 returns c = search (needs, partitions-judged)
 
-pub check-partitions-spec : {M : Type 1} → statement M
-check-partitions-spec =
+pub partition-refusal-spec : {M : Type 1} → statement M
+partition-refusal-spec =
     tie.close
     (tie.spec
     partition-list-requires

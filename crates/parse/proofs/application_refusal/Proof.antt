@@ -1,9 +1,9 @@
 use Rattle.parse.proofs.Judging.{applications-among, applications-judged}
 use borrow.Author.Needs.{needs}
-use Rattle.parse.proofs.check_applications.Statement.{statement}
-use Rattle.parse.proofs.check_applications.Tie as tie
-use Rattle.parse.proofs.check_applications.Reads as reads
-use Rattle.parse.proofs.check_applications.Lts as lts
+use Rattle.parse.proofs.application_refusal.Statement.{statement}
+use Rattle.parse.proofs.application_refusal.Tie as tie
+use Rattle.parse.proofs.application_refusal.Reads as reads
+use Rattle.parse.proofs.application_refusal.Lts as lts
 use Rattle.parse.proofs.earlier.Reads as earlier-reads
 use Rattle.parse.proofs.entry.check_applications.Reads as check-applications-reads
 use Rattle.parse.proofs.in_section.Reads as in-section-reads
@@ -24,8 +24,8 @@ earlier-requires c κs = search needs
 returns : tie.Need-returns
 returns c = search (needs, applications-judged)
 
-pub check-applications-spec : {M : Type 1} → statement M
-check-applications-spec =
+pub application-refusal-spec : {M : Type 1} → statement M
+application-refusal-spec =
     tie.close
     (tie.spec
     application-list-requires
