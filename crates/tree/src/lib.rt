@@ -22,6 +22,23 @@ pub struct Slot {
     pub data: u64,
 }
 
+// Its kinds.
+pub const KIND_STRING: u8 = 1;
+
+pub const KIND_INTEGER: u8 = 2;
+
+pub const KIND_BOOLEAN: u8 = 3;
+
+pub const KIND_ARRAY: u8 = 4;
+
+pub const KIND_TABLE: u8 = 5;
+
+pub const KIND_NEGATIVE: u8 = 6;
+// A string's data is where its bytes start, and so many times its length.
+pub const STRING_LENGTH_UNIT: u64 = 65536;
+// Bytes per value.
+pub const VALUE_BYTES: usize = 32;
+
 pub enum Found {
     At(usize),
     Nothing,
