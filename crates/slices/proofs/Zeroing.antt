@@ -97,7 +97,7 @@ pub left-alone : (k : ℕ) (s : List ℕ) (at : ℕ) (r : Bool) → at + k ≤ l
 left-alone k s at r h e p = alone k s at h (sym e ∙ p)
 
 -- ---- a room emptied
-length-zeros : (n : ℕ) → length (zeros n) ≡ n
+pub length-zeros : (n : ℕ) → length (zeros n) ≡ n
 length-zeros n = length-replicate n 0
 
 pub record Emptying (s₀ s : List ℕ) (i : ℕ) : Type 0 where

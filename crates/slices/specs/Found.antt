@@ -12,7 +12,7 @@ pub record Other (c b : ℕ) : Type 0 where
 pub record Free (c : ℕ) (s : List ℕ) (at n : ℕ) : Type 0 where
   pub all : (k : ℕ) → k < n → Other c (getD s (at + k) 0)
 
--- no c stands before i, so that the first stands as far behind i as in what is left from there on
+-- no c stands before i, so that the first stands as far after i as in what is left from there on
 pub record Passed (c : ℕ) (s : List ℕ) (i : ℕ) : Type 0 where
   pub high : i ≤ length s
   pub left : i + before c (drop i s) ≡ before c s

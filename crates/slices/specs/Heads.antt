@@ -12,7 +12,7 @@ xors [] b = b
 xors (x ∷ a) [] = x ∷ a
 xors (x ∷ a) (y ∷ b) = bitXor x y ∷ xors a b
 
--- both have i bytes, and their order is that of what stands behind these
+-- both have i bytes, and their order is that of what stands after these
 pub record Ranked (a b : List ℕ) (i : ℕ) : Type 0 where
   pub high : i ≤ length a
   pub low : i ≤ length b

@@ -68,7 +68,7 @@ module _ (k : ℕ) (room : List ℕ) (at : ℕ) (bs : List ℕ) (h : at ≤ leng
       number-same k (stored room at bs) bs (at + i) i
       (λ j m. let p : at + i + j ≡ at + (i + j) = omega arith in rw p (stored-in room at bs (i + j) h (omega arith)))
 
-  -- one that ends before them, and one that begins behind them
+  -- one that ends before them, and one that begins after them
   pub number-before : (p : ℕ) → p + k ≤ at → number k (stored room at bs) p ≡ number k room p
   number-before p l = number-same k (stored room at bs) room p p (λ j m. stored-before room at bs (p + j) h (omega arith))
 

@@ -57,15 +57,15 @@ over-over xs ys room h =
 
 -- bytes between others
 module _ (room a b c : List ℕ) (at : ℕ) (e : room ≡ a ++ (b ++ c)) (n : length a ≡ at) where
-  behind : drop (at + length b) room ≡ c
-  behind = sym (drop-drop (length b) at room) ∙ ap (λ (l : List ℕ). drop (length b) (drop at l)) e ∙ ap (drop (length b)) (drop-at a (b ++ c) at n) ∙ drop-at b c (length b) refl
+  after : drop (at + length b) room ≡ c
+  after = sym (drop-drop (length b) at room) ∙ ap (λ (l : List ℕ). drop (length b) (drop at l)) e ∙ ap (drop (length b)) (drop-at a (b ++ c) at n) ∙ drop-at b c (length b) refl
 
   -- as many bytes in their place
   stored-between : (d : List ℕ) → length d ≡ length b → stored room at d ≡ a ++ (d ++ c)
   unfolding stored
   stored-between d m =
       let t : take at room ≡ a = ap (take at) e ∙ take-at a (b ++ c) at n in
-      rw (t, m, behind)
+      rw (t, m, after)
 
 module _ (tree : List ℕ) (slots : List Slot) (h : Carries tree slots) where
   rest : List ℕ
@@ -98,7 +98,7 @@ module _ (tree : List ℕ) (slots : List Slot) (h : Carries tree slots) where
   pub slots-are : slotsOf tree (length slots) ≡ slots
   slots-are = slots-take (length slots) (le-refl _) ∙ take-length slots
 
-  -- values laid behind them
+  -- values laid after them
   pub lay-over : (ws : List Slot) → stored tree (32 * length slots) (cells ws) ≡ over (cells (slots ++ ws)) tree
   unfolding stored rest
   lay-over ws =
@@ -107,7 +107,7 @@ module _ (tree : List ℕ) (slots : List Slot) (h : Carries tree slots) where
       let t : take (32 * length slots) tree ≡ cells slots = ap (take (32 * length slots)) (h .is) ∙ take-at (cells slots) rest (32 * length slots) n in
       rw (cells-append slots ws, m, t) (sym (append-assoc (cells slots) (cells ws) (drop (32 * length slots + length (cells ws)) tree)))
 
-  -- a value made behind them
+  -- a value made after them
   pub put-over : (v : Slot) → stored tree (32 * length slots) (cell v) ≡ over (cells (slots ++ (v ∷ []))) tree
   put-over v = ap (stored tree (32 * length slots)) (sym (append-nil (cell v))) ∙ lay-over (v ∷ [])
 
@@ -131,16 +131,6 @@ over-carries tree tree' vs s f e =
       sized = s;
       fits = omega (arith, ap length e, length-over (cells vs) tree (omega (arith, length-cells vs)));
     }
-
-pub sized-append : (vs ws : List Slot) → AllSized vs → AllSized ws → AllSized (vs ++ ws)
-sized-append [] ws h k = k
-sized-append (v ∷ vs) ws h k = (h .0, sized-append vs ws (h .1) k)
-
--- what a reader of values lays is carried behind what was there
-pub lay-carries : (tree tree' : List ℕ) (slots ws : List Slot) → Carries tree slots → AllSized ws → 32 * (length slots + length ws) ≤ length tree
-    → tree' ≡ stored tree (32 * length slots) (cells ws) → Carries tree' (slots ++ ws)
-lay-carries tree tree' slots ws h s f e =
-    over-carries tree tree' (slots ++ ws) (sized-append slots ws (h .sized) s) (omega (arith, length-append slots ws)) (e ∙ lay-over tree slots h ws)
 
 -- a room carries no values
 pub carries-none : (tree : List ℕ) → Carries tree []

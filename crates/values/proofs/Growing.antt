@@ -114,7 +114,7 @@ module _ (limit : ℕ) (tree store : List ℕ) (made p at end : ℕ) (r : Found)
   unfolding enterS
   enter-new tree' g e w = rw (← s .is, e) w
 
--- ---- one step behind another
+-- ---- one step after another
 -- where an accepted step came to
 pub record Came (limit : ℕ) (tree tree' : List ℕ) (made : ℕ) (g : Grown) (m q : ℕ) : Type 0 where
   pub is : g ≡ grown (slotsOf tree' m) q

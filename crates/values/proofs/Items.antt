@@ -58,7 +58,7 @@ module _ (limit depth parent : ℕ) where
   unfolding listOut
   first u m t = ap (itemsOut limit one u m) (split-step step parts? fresh fresh t)
 
-  -- the first item, and those behind its comma
+  -- the first item, and those after its comma
   pub next-list : (u m : ℕ) (t : List ℕ) → list u m t ≡ headed u m (itemSize t) t (λ x y. list x y (drop (suc (itemSize t)) t))
   next-list u m t = first u m t ∙ λ i. headed u m (itemSize t) t (λ x y. rest-same (itemSize t) x y t i)
 
@@ -142,8 +142,8 @@ module _ (limit depth parent : ℕ) (s store₀ tree₀ : List ℕ) (st : State)
         let e : i + k - i ≡ k = omega arith in
         rw e (length-take-le k (drop i s) (whole .fits))
 
-    behind : drop (suc (itemSize (drop i s))) (drop i s) ≡ drop (i + k + 1) s
-    behind =
+    after-comma : drop (suc (itemSize (drop i s))) (drop i s) ≡ drop (i + k + 1) s
+    after-comma =
         let e : i + suc (itemSize (drop i s)) ≡ i + k + 1 = omega (arith, whole .is) in
         drop-drop (suc (itemSize (drop i s))) i s ∙ ap (λ (n : ℕ). drop n s) e
 
@@ -157,8 +157,8 @@ module _ (limit depth parent : ℕ) (s store₀ tree₀ : List ℕ) (st : State)
     unrolled =
         next-list limit depth parent (cur .used) (cur .made) (drop i s)
         ∙ λ j.
-        pick (blank (part-is j)) (listOut limit depth parent (cur .used) (cur .made) (behind j))
-        (andThen (cur .used) (cur .made) (valueOut limit depth parent (cur .used) (cur .made) (part-is j)) (λ u m. listOut limit depth parent u m (behind j)))
+        pick (blank (part-is j)) (listOut limit depth parent (cur .used) (cur .made) (after-comma j))
+        (andThen (cur .used) (cur .made) (valueOut limit depth parent (cur .used) (cur .made) (part-is j)) (λ u m. listOut limit depth parent u m (after-comma j)))
 
     pub item-ready : Ready limit part store tree cur
     item-ready = record {

@@ -9,4 +9,3 @@ pub mod Carrying
 pub mod Growing
 pub mod Descending
 pub mod Beginning
-pub mod Telling

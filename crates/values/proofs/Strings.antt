@@ -1,4 +1,4 @@
--- A string behind its opening quote: one law for each way out.
+-- A string after its opening quote: one law for each way out.
 use Prim.Native.Nat.{ℕ, _+_, _*_, _-_, _≤_, _<_}
 use mathlib.Core.Bool.{Bool, true, false}
 use mathlib.Core.List.{List, [], _∷_, append-nil}

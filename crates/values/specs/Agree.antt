@@ -26,7 +26,7 @@ use Rattle.values.specs.Out.{Out, fine, wrong, join, andThen}
 use Rattle.values.specs.Fill.{intSlot, boolSlot, arraySlot, makes, stringBy, stringOut, intOut, plainOut, oneOut, itemsOut, openOut, bracketsOut, valueOut}
 use Rattle.values.specs.Layout.{spelled, spelledAll, size, layout, layouts, Tableless, AllTableless, length-layout, seen, seens, length-seens, seens-append, seen-int}
 
--- o is a value v that was read, of which bs is in the store and m values are made behind it
+-- o is a value v that was read, of which bs is in the store and m values are made after it
 pub record Lays (parent used made : ℕ) (v : Value) (bs : List ℕ) (m : ℕ) (o : Out) : Type 0 where
   pub fault : o .fault ≡ 0
   pub bytes : o .bytes ≡ bs
@@ -145,9 +145,9 @@ module _ (limit : ℕ) where
 
   -- ---- items
 
-  -- a value, and behind it the other items
+  -- a value, and after it the other items
   module _ (parent used made : ℕ) (o : Out) where
-    -- the value is read, and p are the items behind it
+    -- the value is read, and p are the items after it
     read-then : (p : Out) (v : Value) (bs : List ℕ) (m : ℕ) → Lays parent used made v bs m o → (g : Got Items)
         → Meets (LaysAll parent (used + length (o .bytes)) (made + length (o .slots))) g p
         → Meets (LaysAll parent used made) (adding bs (gotMap (item v) g)) (join o p)
@@ -183,7 +183,7 @@ module _ (limit : ℕ) where
         on (blank l) (λ e. rw e (items-meet ls used made))
         (λ e. rw e (then-meets parent used made (v used made l) (λ u m. itemsOut limit v u m ls) (each read (nonblank ls)) (read l made) (h used made l) (λ u m. items-meet ls u m)))
 
-  -- an array, and behind it its items
+  -- an array, and after it its items
   module _ (parent used made : ℕ) where
     boxed : (g : Got Items) (p : Out) → Meets (LaysAll (made + 2) used (made + 1)) g p
         → Meets (Lays parent used made) (gotMap array g) (join (fine [] (arraySlot parent ∷ [])) p)

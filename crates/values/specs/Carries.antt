@@ -2,16 +2,16 @@
 use Prim.Native.Nat.{ℕ, zero, suc, _+_, _-_, _*_, _≤_, _<_}
 use mathlib.Core.List.{List, [], _∷_, _++_}
 use mathlib.Core.Path.{_≡_}
-use mathlib.Core.Logic.{_⊎_}
 use lib.Dec.{eqb}
 use lib.ListN.{length, getD, take}
 use Rattle.meaning.specs.Base.{pick}
 use Rattle.scalar.specs.Stores.{over}
-use Rattle.scalar.specs.declared.key.Key.{Key}
 use Rattle.tree.specs.declared.Slot.{Slot}
 use Rattle.tree.specs.declared.Found.{Found}
 use Rattle.tree.specs.Room.{Sized, Below, slotAt}
 use Rattle.values.specs.declared.grow.Grown as code
+use Rattle.values.specs.declared.grow.Path.{Path}
+use Rattle.values.specs.declared.grow.Segment.{Segment}
 use Rattle.values.specs.declared.grow.Grown.the-variants.{At, Full, Clash}
 use Rattle.values.specs.Out.{cells}
 use Rattle.values.specs.Grow.{Seg, Grown, grown, stuck, segOf}
@@ -47,11 +47,6 @@ SegsWithin top (k ∷ ks) = (k .at + k .len ≤ top) × SegsWithin top ks
 abbrev pub GrownWithin : ℕ → Grown → Type 0
 GrownWithin top (grown vs p) = AllWithin top vs
 GrownWithin top (stuck n) = Unit
-
--- the faults of steps: 16 or 13
-abbrev pub Told : Grown → Type 0
-Told (grown vs p) = Unit
-Told (stuck n) = (n ≡ 16) ⊎ (n ≡ 13)
 
 -- what every step asks: "values" up to a limit whose places fit two bytes
 pub record Grows (limit : ℕ) (tree : List ℕ) (made : ℕ) : Type 0 where
@@ -102,37 +97,26 @@ abbrev pub Rising : List ℕ → ℕ → List ℕ → Type 0
 Rising store at [] = Unit
 Rising store at (e ∷ es) = Lies store at e × Rising store e es
 
--- what a walk along n segments of a key asks
-pub record Paths (limit : ℕ) (tree store : List ℕ) (made : ℕ) (key : Key) (at n : ℕ) : Type 0 where
+-- what a walk along n segments of a path asks
+pub record Paths (limit : ℕ) (tree store : List ℕ) (made : ℕ) (path : Path) (n : ℕ) : Type 0 where
   pub grows : Grows limit tree made
-  pub rising : Rising store at (take n (key .ends))
+  pub rising : Rising store (path .from) (take n (path .ends))
   pub few : n ≤ 16
-  pub there : n ≤ length (key .ends)
+  pub there : n ≤ length (path .ends)
 
--- where segment i begins
-abbrev pub startOf : ℕ → List ℕ → ℕ → ℕ
-startOf at ends zero = at
-startOf at ends (suc i) = getD ends i 0
+-- a path of more than one segment
+pub record Long (path : Path) : Type 0 where
+  pub long : 1 < path .n
+  pub few : path .n ≤ 16
 
--- the last segment of a key
-abbrev pub lastSeg : Key → ℕ → Seg
-lastSeg key at = segOf (startOf at (key .ends) (key .n - 1)) (getD (key .ends) (key .n - 1) 0)
+-- its last segment, by where it stands in the store
+abbrev pub lastOf : Path → Segment
+lastOf path = record { from = getD (path .ends) (path .n - 1 - 1) 0; end = getD (path .ends) (path .n - 1) 0 }
 
--- what a step with the last segment asks
-pub record Lasts (limit : ℕ) (tree store : List ℕ) (made : ℕ) (key : Key) (at : ℕ) : Type 0 where
-  pub grows : Grows limit tree made
-  pub some : 0 < key .n
-  pub few : key .n ≤ 16
-  pub lies : Lies store (startOf at (key .ends) (key .n - 1)) (getD (key .ends) (key .n - 1) 0)
-
-pub record HangsLast (limit : ℕ) (tree store : List ℕ) (made : ℕ) (key : Key) (at n : ℕ) : Type 0 where
-  pub lasts : Lasts limit tree store made key at
-  pub below : n < made
-
--- what a walk along a whole key asks, which has a segment
-pub record Keyed (limit : ℕ) (tree store : List ℕ) (made : ℕ) (key : Key) (at : ℕ) : Type 0 where
-  pub path : Paths limit tree store made key at (key .n)
-  pub some : 0 < key .n
+-- what a walk along a whole path asks, which has a segment
+pub record Keyed (limit : ℕ) (tree store : List ℕ) (made : ℕ) (path : Path) : Type 0 where
+  pub along : Paths limit tree store made path (path .n)
+  pub some : 0 < path .n
 
 -- what hanging value number n up asks
 pub record Hangs (limit : ℕ) (tree : List ℕ) (made at end n : ℕ) : Type 0 where
@@ -140,8 +124,8 @@ pub record Hangs (limit : ℕ) (tree : List ℕ) (made at end n : ℕ) : Type 0 
   pub below : n < made
 
 -- what an assignment of value number n asks
-pub record Assigns (limit : ℕ) (tree store : List ℕ) (made : ℕ) (key : Key) (at n : ℕ) : Type 0 where
-  pub keyed : Keyed limit tree store made key at
+pub record Assigns (limit : ℕ) (tree store : List ℕ) (made : ℕ) (path : Path) (n : ℕ) : Type 0 where
+  pub keyed : Keyed limit tree store made path
   pub below : n < made
 
 -- the answer of the code: 16 is Full, 13 is Clash

@@ -27,14 +27,14 @@ unfolding computes
 minus = refl
 
 -- `[1] 2`: the last byte is no bracket
-behind-array : read (ascii "[1] 2") ≡ wrong 11 []
+after-array : read (ascii "[1] 2") ≡ wrong 11 []
 unfolding computes
-behind-array = refl
+after-array = refl
 
 -- `"x" y`: its byte stays
-behind-string : read (ascii "\"x\" y") ≡ wrong 10 (ascii "x")
+after-string : read (ascii "\"x\" y") ≡ wrong 10 (ascii "x")
 unfolding computes
-behind-string = refl
+after-string = refl
 
 -- `["a", "b]`: what was read before the fault stays, with the byte of the string that is not ended
 unended-item : read (ascii "[\"a\", \"b]") ≡ record { fault = 9; bytes = ascii "ab"; slots = valued 0 4 0 ∷ valued 2 1 65536 ∷ [] }

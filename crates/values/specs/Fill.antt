@@ -47,14 +47,14 @@ module _ (limit : ℕ) where
   unfoldable pub makes : ℕ → Slot → Out
   makes made v = pick (leb limit made) (wrong 16 []) (fine [] (v ∷ []))
 
-  -- the bytes of a string are laid before the text behind it and the limit are looked at: 10, then 16
+  -- the bytes of a string are laid before the text after it and the limit are looked at: 10, then 16
   abbrev pub stringBy : ℕ → ℕ → ℕ → List ℕ → Ending → List ℕ → ℕ → Out
   stringBy parent used made s closed bs k =
       pick (blank (drop k s)) (pick (leb limit made) (wrong 16 bs) (fine bs (stringSlot parent used (length bs) ∷ []))) (wrong 10 bs)
   stringBy parent used made s escape bs k = wrong 8 bs
   stringBy parent used made s unended bs k = wrong 9 bs
 
-  -- s is behind the opening quote
+  -- s is after the opening quote
   unfoldable pub stringOut : ℕ → ℕ → ℕ → List ℕ → Out
   stringOut parent used made s = stringBy parent used made s (decode Plain s .how) (decode Plain s .bytes) (decode Plain s .span)
 

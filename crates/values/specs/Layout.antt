@@ -1,4 +1,4 @@
--- How a value of 01 stands in the two rooms: its strings in the store, one behind the other, and its slots in the tree room in the order of making.
+-- How a value of 01 stands in the two rooms: its strings in the store, one after the other, and its slots in the tree room in the order of making.
 use Prim.Native.Nat.{ℕ, zero, suc, _+_}
 use mathlib.Core.Bool.{Bool, true, false}
 use mathlib.Core.List.{List, [], _∷_, _++_}

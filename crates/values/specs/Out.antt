@@ -1,4 +1,4 @@
--- What a reader leaves in the two rooms: bytes behind those of the store, values behind those of the tree room, refused or not.
+-- What a reader leaves in the two rooms: bytes after those of the store, values after those of the tree room, refused or not.
 use Prim.Native.Nat.{ℕ, _+_, _*_, _≤_, _<_}
 use mathlib.Core.List.{List, [], _∷_, _++_}
 use mathlib.Core.Path.{_≡_}
@@ -32,7 +32,7 @@ join o p = record { fault = p .fault; bytes = o .bytes ++ p .bytes; slots = o .s
 abbrev pub andThen : ℕ → ℕ → Out → (ℕ → ℕ → Out) → Out
 andThen used made o k = pick (eqb (o .fault) 0) (join o (k (used + length (o .bytes)) (made + length (o .slots)))) o
 
--- the state behind o
+-- the state after o
 abbrev pub moved : State → Out → State
 moved st o = record { used = st .used + length (o .bytes); made = st .made + length (o .slots) }
 

@@ -1,14 +1,34 @@
 // What headers and keys do to the tree room: tables and arrays entered or made, values hung up.
 
-use scalar::key::Key;
 use tree::Found;
+use tree::KIND_ARRAY;
+use tree::KIND_TABLE;
 use tree::Slot;
 ghost use mathlib.Core.Path.{_≡_};
 ghost use Prim.Native.Nat.{_+_, _-_, _≤_, _<_};
 ghost use lib.ListN.{length, getD, take};
 ghost use Rattle.tree.specs.declared.Found.the-variants.{Nothing};
 ghost use Rattle.values.specs.Grow.{segOf, segsOf, void, keyedSlot, spelt, lookS, onward, makeS, itemS, enterS, downS, pushS, toLastS, hangS};
-ghost use Rattle.values.specs.Carries.{slotsOf, Grows, Makes, Keys, Numbered, Seeks, Sought, Enters, Paths, startOf, lastSeg, Lasts, HangsLast, Keyed, Hangs, Assigns, Grew};
+ghost use Rattle.values.specs.Carries.{slotsOf, Grows, Makes, Keys, Numbered, Seeks, Sought, Enters, Paths, Long, lastOf, Keyed, Hangs, Assigns, Grew};
+
+// How many values are made, and the place that a walk has come to.
+pub struct Here {
+    pub made: usize,
+    pub place: u16,
+}
+
+// A segment of a key, by where its bytes stand in the store.
+pub struct Segment {
+    pub from: usize,
+    pub end: usize,
+}
+
+// A key of n segments by where they stand in the store: where the first begins, and where each ends.
+pub struct Path {
+    pub from: usize,
+    pub n: usize,
+    pub ends: [usize; 16],
+}
 
 // What a step comes to: how many values are made, and the place it comes to; or 16, or 13.
 pub enum Grown {
@@ -17,7 +37,7 @@ pub enum Grown {
     Clash,
 }
 
-// Makes one value behind those there are.
+// Makes one value after those there are.
 pub fn make_slot(tree: &mut [u8], made: usize, limit: usize, v: Slot) -> Grown
     requires { ⌜ Makes limit (now tree) made v ⌝ }
     ensures { λ r. ⌜ Grew limit (now (tree .entry)) (now (tree .exit)) made (makeS limit (slotsOf (now (tree .entry)) made) v) r ⌝ }
@@ -32,27 +52,19 @@ pub fn make_slot(tree: &mut [u8], made: usize, limit: usize, v: Slot) -> Grown
     }
 }
 
-// Makes a value without data, under a place and with a segment of the store as its key.
-fn make_keyed(
-    tree: &mut [u8],
-    made: usize,
-    limit: usize,
-    kind: u8,
-    p: u16,
-    at: usize,
-    end: usize,
-) -> Grown
-    requires { ⌜ Keys limit (now tree) made at end ⌝ }
-    ensures { λ r. ⌜ Grew limit (now (tree .entry)) (now (tree .exit)) made (makeS limit (slotsOf (now (tree .entry)) made) (keyedSlot kind p (segOf at end))) r ⌝ }
+// Makes a value without data, under the place and with a segment of the store as its key.
+fn make_keyed(tree: &mut [u8], limit: usize, kind: u8, here: Here, segment: Segment) -> Grown
+    requires { ⌜ Keys limit (now tree) (here .made) (segment .from) (segment .end) ⌝ }
+    ensures { λ r. ⌜ Grew limit (now (tree .entry)) (now (tree .exit)) (here .made) (makeS limit (slotsOf (now (tree .entry)) (here .made)) (keyedSlot kind (here .place) (segOf (segment .from) (segment .end)))) r ⌝ }
 {
     let v = Slot {
         kind,
-        parent: p,
-        key: at as u16,
-        len: (end - at) as u16,
+        parent: here.place,
+        key: segment.from as u16,
+        len: (segment.end - segment.from) as u16,
         data: 0,
     };
-    make_slot(tree, made, limit, v)
+    make_slot(tree, here.made, limit, v)
 }
 
 // The kind of value number n.
@@ -64,112 +76,98 @@ fn kind_at(tree: &[u8], made: usize, n: usize) -> u8
 }
 
 // The newest value under the place whose key is a segment of the store.
-fn seek(tree: &[u8], store: &[u8], made: usize, p: u16, at: usize, end: usize) -> Found
-    requires { ⌜ Seeks (now tree) (now store) made at end ⌝ }
-    ensures { λ r. ⌜ Sought made (lookS (now (store .entry)) 0 (slotsOf (now (tree .entry)) made) p (spelt (now (store .entry)) (segOf at end)) Nothing) r ⌝ }
+fn seek(tree: &[u8], store: &[u8], here: Here, segment: Segment) -> Found
+    requires { ⌜ Seeks (now tree) (now store) (here .made) (segment .from) (segment .end) ⌝ }
+    ensures { λ r. ⌜ Sought (here .made) (lookS (now (store .entry)) 0 (slotsOf (now (tree .entry)) (here .made)) (here .place) (spelt (now (store .entry)) (segOf (segment .from) (segment .end))) Nothing) r ⌝ }
 {
-    tree::find_child(tree, store, made, p, &store[at..end])
+    let from = segment.from;
+    let end = segment.end;
+    tree::find_child(tree, store, here.made, here.place, &store[from..end])
 }
 
 // Walks into the table of that name under the place, or makes one in the place of anything else.
-pub fn enter(
-    tree: &mut [u8],
-    store: &[u8],
-    made: usize,
-    limit: usize,
-    p: u16,
-    at: usize,
-    end: usize,
-) -> Grown
-    requires { ⌜ Enters limit (now tree) (now store) made at end ⌝ }
-    ensures { λ r. ⌜ Grew limit (now (tree .entry)) (now (tree .exit)) made (enterS limit (now (store .entry)) (slotsOf (now (tree .entry)) made) p (segOf at end)) r ⌝ }
+fn enter(tree: &mut [u8], store: &[u8], limit: usize, here: Here, segment: Segment) -> Grown
+    requires { ⌜ Enters limit (now tree) (now store) (here .made) (segment .from) (segment .end) ⌝ }
+    ensures { λ r. ⌜ Grew limit (now (tree .entry)) (now (tree .exit)) (here .made) (enterS limit (now (store .entry)) (slotsOf (now (tree .entry)) (here .made)) (here .place) (segOf (segment .from) (segment .end))) r ⌝ }
 {
-    let f = seek(tree, store, made, p, at, end);
+    let f = seek(tree, store, here, segment);
     match f {
         Found::At(n) => {
-            if kind_at(tree, made, n) == 5 {
+            if kind_at(tree, here.made, n) == KIND_TABLE {
                 return Grown::At {
-                    made,
+                    made: here.made,
                     place: (n + 2) as u16,
                 };
             }
-            make_keyed(tree, made, limit, 5, p, at, end)
+            make_keyed(tree, limit, KIND_TABLE, here, segment)
         }
-        Found::Nothing => make_keyed(tree, made, limit, 5, p, at, end),
+        Found::Nothing => make_keyed(tree, limit, KIND_TABLE, here, segment),
     }
 }
 
-// Makes the next table of an array at this place.
-fn make_item(tree: &mut [u8], made: usize, limit: usize, p: u16) -> Grown
-    requires { ⌜ Grows limit (now tree) made ⌝ }
-    ensures { λ r. ⌜ Grew limit (now (tree .entry)) (now (tree .exit)) made (itemS limit (slotsOf (now (tree .entry)) made) p) r ⌝ }
+// Makes the next table of the array at this place; an array's item has the key of no bytes.
+fn make_item(tree: &mut [u8], limit: usize, here: Here) -> Grown
+    requires { ⌜ Grows limit (now tree) (here .made) ⌝ }
+    ensures { λ r. ⌜ Grew limit (now (tree .entry)) (now (tree .exit)) (here .made) (itemS limit (slotsOf (now (tree .entry)) (here .made)) (here .place)) r ⌝ }
 {
-    make_keyed(tree, made, limit, 5, p, 0, 0)
+    make_keyed(tree, limit, KIND_TABLE, here, Segment { from: 0, end: 0 })
 }
 
 // Makes an array and its first table.
-fn push_new(tree: &mut [u8], made: usize, limit: usize, p: u16, at: usize, end: usize) -> Grown
-    requires { ⌜ Keys limit (now tree) made at end ⌝ }
-    ensures { λ r. ⌜ Grew limit (now (tree .entry)) (now (tree .exit)) made (onward (makeS limit (slotsOf (now (tree .entry)) made) (keyedSlot 4 p (segOf at end))) (itemS limit)) r ⌝ }
+fn push_new(tree: &mut [u8], limit: usize, here: Here, segment: Segment) -> Grown
+    requires { ⌜ Keys limit (now tree) (here .made) (segment .from) (segment .end) ⌝ }
+    ensures { λ r. ⌜ Grew limit (now (tree .entry)) (now (tree .exit)) (here .made) (onward (makeS limit (slotsOf (now (tree .entry)) (here .made)) (keyedSlot 4 (here .place) (segOf (segment .from) (segment .end)))) (itemS limit)) r ⌝ }
 {
-    let g = make_keyed(tree, made, limit, 4, p, at, end);
+    let g = make_keyed(tree, limit, KIND_ARRAY, here, segment);
     match g {
-        Grown::At { made: m, place: q } => make_item(tree, m, limit, q),
+        Grown::At { made, place } => make_item(tree, limit, Here { made, place }),
         Grown::Full => Grown::Full,
         Grown::Clash => Grown::Clash,
     }
 }
 
 // The next table of the array of that name under the place; 13 over anything else.
-pub fn push(
-    tree: &mut [u8],
-    store: &[u8],
-    made: usize,
-    limit: usize,
-    p: u16,
-    at: usize,
-    end: usize,
-) -> Grown
-    requires { ⌜ Enters limit (now tree) (now store) made at end ⌝ }
-    ensures { λ r. ⌜ Grew limit (now (tree .entry)) (now (tree .exit)) made (pushS limit (now (store .entry)) (slotsOf (now (tree .entry)) made) p (segOf at end)) r ⌝ }
+fn push(tree: &mut [u8], store: &[u8], limit: usize, here: Here, segment: Segment) -> Grown
+    requires { ⌜ Enters limit (now tree) (now store) (here .made) (segment .from) (segment .end) ⌝ }
+    ensures { λ r. ⌜ Grew limit (now (tree .entry)) (now (tree .exit)) (here .made) (pushS limit (now (store .entry)) (slotsOf (now (tree .entry)) (here .made)) (here .place) (segOf (segment .from) (segment .end))) r ⌝ }
 {
-    let f = seek(tree, store, made, p, at, end);
+    let f = seek(tree, store, here, segment);
     match f {
         Found::At(n) => {
-            if kind_at(tree, made, n) == 4 {
-                return make_item(tree, made, limit, (n + 2) as u16);
+            if kind_at(tree, here.made, n) == KIND_ARRAY {
+                let array = Here {
+                    made: here.made,
+                    place: (n + 2) as u16,
+                };
+                return make_item(tree, limit, array);
             }
             Grown::Clash
         }
-        Found::Nothing => push_new(tree, made, limit, p, at, end),
+        Found::Nothing => push_new(tree, limit, here, segment),
     }
 }
 
-// Along the first n segments of a key, the first of which begins at at in the store.
-pub fn down(
+// Along the first so many segments of a path, from the place.
+pub fn enter_path(
     tree: &mut [u8],
     store: &[u8],
-    made: usize,
     limit: usize,
-    p: u16,
-    key: Key,
-    at: usize,
-    n: usize,
+    start: Here,
+    path: Path,
+    steps: usize,
 ) -> Grown
-    requires { ⌜ Paths limit (now tree) (now store) made key at n ⌝ }
-    ensures { λ r. ⌜ Grew limit (now (tree .entry)) (now (tree .exit)) made (downS limit (now (store .entry)) (segsOf at (take n (key .ends))) (slotsOf (now (tree .entry)) made) p) r ⌝ }
+    requires { ⌜ Paths limit (now tree) (now store) (start .made) path steps ⌝ }
+    ensures { λ r. ⌜ Grew limit (now (tree .entry)) (now (tree .exit)) (start .made) (downS limit (now (store .entry)) (segsOf (path .from) (take steps (path .ends))) (slotsOf (now (tree .entry)) (start .made)) (start .place)) r ⌝ }
 {
-    let mut m = made;
-    let mut q = p;
-    let mut from = at;
+    let mut here = start;
+    let mut from = path.from;
     let mut i = 0;
-    while i < n {
-        let end = key.ends[i];
-        let g = enter(tree, store, m, limit, q, from, end);
+    while i < steps {
+        let end = path.ends[i];
+        let g = enter(tree, store, limit, here, Segment { from, end });
         match g {
-            Grown::At { made: more, place } => {
-                m = more;
-                q = place;
+            Grown::At { made, place } => {
+                here = Here { made, place };
                 from = end;
                 i += 1;
             }
@@ -177,94 +175,55 @@ pub fn down(
             Grown::Clash => return Grown::Clash,
         }
     }
-    Grown::At { made: m, place: q }
+    Grown::At {
+        made: here.made,
+        place: here.place,
+    }
 }
 
-// Where segment i of a key begins, the first of which begins at at.
-fn begins(key: Key, at: usize, i: usize) -> usize
-    requires { ⌜ i ≤ 16 ⌝ }
-    ensures { λ r. ⌜ r ≡ startOf at (key .ends) i ⌝ }
+// The last segment of a path that has more than one.
+fn last_segment(path: Path) -> Segment
+    requires { ⌜ Long path ⌝ }
+    ensures { λ r. ⌜ r ≡ lastOf path ⌝ }
 {
-    if i == 0 {
-        return at;
-    }
-    key.ends[i - 1]
+    let last = path.n - 1;
+    let from = path.ends[last - 1];
+    let end = path.ends[last];
+    Segment { from, end }
 }
 
 // Hangs value number n up under the place, with a segment of the store as its key.
-fn hang_up(
-    tree: &mut [u8],
-    made: usize,
-    limit: usize,
-    p: u16,
-    at: usize,
-    end: usize,
-    n: usize,
-) -> Grown
-    requires { ⌜ Hangs limit (now tree) made at end n ⌝ }
-    ensures { λ r. ⌜ Grew limit (now (tree .entry)) (now (tree .exit)) made (hangS n (slotsOf (now (tree .entry)) made) p (segOf at end)) r ⌝ }
+fn hang_up(tree: &mut [u8], limit: usize, here: Here, segment: Segment, n: usize) -> Grown
+    requires { ⌜ Hangs limit (now tree) (here .made) (segment .from) (segment .end) n ⌝ }
+    ensures { λ r. ⌜ Grew limit (now (tree .entry)) (now (tree .exit)) (here .made) (hangS n (slotsOf (now (tree .entry)) (here .made)) (here .place) (segOf (segment .from) (segment .end))) r ⌝ }
 {
-    tree::hang(tree, n, p, at as u16, (end - at) as u16);
-    Grown::At { made, place: p }
-}
-
-// Pushes under the last segment of a key.
-fn push_last(
-    tree: &mut [u8],
-    store: &[u8],
-    made: usize,
-    limit: usize,
-    p: u16,
-    key: Key,
-    at: usize,
-) -> Grown
-    requires { ⌜ Lasts limit (now tree) (now store) made key at ⌝ }
-    ensures { λ r. ⌜ Grew limit (now (tree .entry)) (now (tree .exit)) made (pushS limit (now (store .entry)) (slotsOf (now (tree .entry)) made) p (lastSeg key at)) r ⌝ }
-{
-    let last = key.n - 1;
-    let from = begins(key, at, last);
-    let end = key.ends[last];
-    push(tree, store, made, limit, p, from, end)
-}
-
-// Hangs value number n up under the last segment of a key.
-fn hang_last(
-    tree: &mut [u8],
-    store: &[u8],
-    made: usize,
-    limit: usize,
-    p: u16,
-    key: Key,
-    at: usize,
-    n: usize,
-) -> Grown
-    requires { ⌜ HangsLast limit (now tree) (now store) made key at n ⌝ }
-    ensures { λ r. ⌜ Grew limit (now (tree .entry)) (now (tree .exit)) made (hangS n (slotsOf (now (tree .entry)) made) p (lastSeg key at)) r ⌝ }
-{
-    let last = key.n - 1;
-    let from = begins(key, at, last);
-    let end = key.ends[last];
-    hang_up(tree, made, limit, p, from, end, n)
+    let key = segment.from as u16;
+    let len = (segment.end - segment.from) as u16;
+    tree::hang(tree, n, here.place, key, len);
+    Grown::At {
+        made: here.made,
+        place: here.place,
+    }
 }
 
 // A header `[[..]]`: along all but the last segment from the root, and the next table of the array there.
-pub fn push_path(
-    tree: &mut [u8],
-    store: &[u8],
-    made: usize,
-    limit: usize,
-    key: Key,
-    at: usize,
-) -> Grown
-    requires { ⌜ Keyed limit (now tree) (now store) made key at ⌝ }
-    ensures { λ r. ⌜ Grew limit (now (tree .entry)) (now (tree .exit)) made (toLastS limit (now (store .entry)) (pushS limit (now (store .entry))) (segsOf at (take (key .n) (key .ends))) (slotsOf (now (tree .entry)) made) 1) r ⌝ }
+pub fn push_path(tree: &mut [u8], store: &[u8], limit: usize, made: usize, path: Path) -> Grown
+    requires { ⌜ Keyed limit (now tree) (now store) made path ⌝ }
+    ensures { λ r. ⌜ Grew limit (now (tree .entry)) (now (tree .exit)) made (toLastS limit (now (store .entry)) (pushS limit (now (store .entry))) (segsOf (path .from) (take (path .n) (path .ends))) (slotsOf (now (tree .entry)) made) 1) r ⌝ }
 {
-    if key.n == 1 {
-        return push(tree, store, made, limit, 1, at, key.ends[0]);
+    let root = Here { made, place: 1 };
+    let n = path.n;
+    if n == 1 {
+        let from = path.from;
+        let end = path.ends[0];
+        return push(tree, store, limit, root, Segment { from, end });
     }
-    let g = down(tree, store, made, limit, 1, key, at, key.n - 1);
+    let g = enter_path(tree, store, limit, root, path, n - 1);
     match g {
-        Grown::At { made: m, place: q } => push_last(tree, store, m, limit, q, key, at),
+        Grown::At { made, place } => {
+            let last = last_segment(path);
+            push(tree, store, limit, Here { made, place }, last)
+        }
         Grown::Full => Grown::Full,
         Grown::Clash => Grown::Clash,
     }
@@ -274,22 +233,26 @@ pub fn push_path(
 pub fn assign(
     tree: &mut [u8],
     store: &[u8],
-    made: usize,
     limit: usize,
-    p: u16,
-    key: Key,
-    at: usize,
+    here: Here,
+    path: Path,
     n: usize,
 ) -> Grown
-    requires { ⌜ Assigns limit (now tree) (now store) made key at n ⌝ }
-    ensures { λ r. ⌜ Grew limit (now (tree .entry)) (now (tree .exit)) made (toLastS limit (now (store .entry)) (hangS n) (segsOf at (take (key .n) (key .ends))) (slotsOf (now (tree .entry)) made) p) r ⌝ }
+    requires { ⌜ Assigns limit (now tree) (now store) (here .made) path n ⌝ }
+    ensures { λ r. ⌜ Grew limit (now (tree .entry)) (now (tree .exit)) (here .made) (toLastS limit (now (store .entry)) (hangS n) (segsOf (path .from) (take (path .n) (path .ends))) (slotsOf (now (tree .entry)) (here .made)) (here .place)) r ⌝ }
 {
-    if key.n == 1 {
-        return hang_up(tree, made, limit, p, at, key.ends[0], n);
+    let segments = path.n;
+    if segments == 1 {
+        let from = path.from;
+        let end = path.ends[0];
+        return hang_up(tree, limit, here, Segment { from, end }, n);
     }
-    let g = down(tree, store, made, limit, p, key, at, key.n - 1);
+    let g = enter_path(tree, store, limit, here, path, segments - 1);
     match g {
-        Grown::At { made: m, place: q } => hang_last(tree, store, m, limit, q, key, at, n),
+        Grown::At { made, place } => {
+            let last = last_segment(path);
+            hang_up(tree, limit, Here { made, place }, last, n)
+        }
         Grown::Full => Grown::Full,
         Grown::Clash => Grown::Clash,
     }

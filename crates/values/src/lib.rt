@@ -10,7 +10,7 @@ pub struct State {
     pub made: usize,
 }
 
-// What a reader says: the state behind what it read; or the number of its fault and the state there.
+// What a reader says: the state after what it read; or the number of its fault and the state there.
 pub enum Reply {
     Fine(State),
     Fault(u32, State),

@@ -4,12 +4,24 @@ use crate::Reply;
 use crate::State;
 use scalar::integer::Int;
 use scalar::string::Decoded;
+use tree::KIND_ARRAY;
+use tree::KIND_BOOLEAN;
+use tree::KIND_INTEGER;
+use tree::KIND_NEGATIVE;
+use tree::KIND_STRING;
+use tree::STRING_LENGTH_UNIT;
 use tree::Slot;
 ghost use mathlib.Core.Path.{_≡_};
 ghost use Prim.Native.Nat.{_+_, _<_};
 ghost use Rattle.values.specs.declared.Reply.the-variants.{Fault};
 ghost use Rattle.values.specs.Out.{Ready, Filled, Places, Made};
 ghost use Rattle.values.specs.Fill as fill;
+
+// How many values there may be in all, and how many arrays may still be inside one another.
+pub struct Allowed {
+    pub values: usize,
+    pub arrays: usize,
+}
 
 // A value of a kind under a parent, without a key.
 fn valued(parent: u16, kind: u8, data: u64) -> Slot
@@ -29,17 +41,17 @@ fn string_slot(parent: u16, at: usize, n: usize) -> Slot
     requires { ⌜ at + n < 65536 ⌝ }
     ensures { λ r. ⌜ r ≡ fill.stringSlot parent at n ⌝ }
 {
-    let bits = at as u64 + 65536 * (n as u64);
-    valued(parent, 1, bits)
+    let bits = at as u64 + STRING_LENGTH_UNIT * (n as u64);
+    valued(parent, KIND_STRING, bits)
 }
 
 fn sign_kind(neg: bool) -> u8
     ensures { λ r. ⌜ r ≡ fill.signKind neg ⌝ }
 {
     if neg {
-        return 6;
+        return KIND_NEGATIVE;
     }
-    2
+    KIND_INTEGER
 }
 
 // Makes one value, or 16.
@@ -64,7 +76,7 @@ fn fault(n: u32, used: usize, made: usize) -> Reply
     Reply::Fault(n, State { used, made })
 }
 
-// A string behind its opening quote: 8, 9, then 10, then 16.
+// A string after its opening quote: 8, 9, then 10, then 16.
 fn string(
     s: &[u8],
     store: &mut [u8],
@@ -102,11 +114,11 @@ fn plain(s: &[u8], tree: &mut [u8], st: State, parent: u16, limit: usize) -> Rep
     ensures { λ r. ⌜ Made limit (now (tree .entry)) (now (tree .exit)) st (fill.plainOut limit parent (st .made) (now (s .entry))) r ⌝ }
 {
     if slices::same(s, b"true") {
-        let v = valued(parent, 3, 1);
+        let v = valued(parent, KIND_BOOLEAN, 1);
         return make(tree, st, limit, v);
     }
     if slices::same(s, b"false") {
-        let v = valued(parent, 3, 0);
+        let v = valued(parent, KIND_BOOLEAN, 0);
         return make(tree, st, limit, v);
     }
     let i = scalar::integer::read_int(s);
@@ -130,7 +142,7 @@ fn open_array(s: &[u8], tree: &mut [u8], st: State, parent: u16, limit: usize) -
         return Reply::Fault(11, st);
     }
     if s[n - 1] == b']' {
-        let v = valued(parent, 4, 0);
+        let v = valued(parent, KIND_ARRAY, 0);
         return make(tree, st, limit, v);
     }
     Reply::Fault(11, st)
@@ -143,11 +155,10 @@ pub fn value(
     tree: &mut [u8],
     st: State,
     parent: u16,
-    limit: usize,
-    depth: usize,
+    allowed: Allowed,
 ) -> Reply
-    requires { ⌜ Ready limit (now s) (now store) (now tree) st ⌝ }
-    ensures { λ r. ⌜ Filled limit (now (s .entry)) (now (store .entry)) (now (tree .entry)) (now (store .exit)) (now (tree .exit)) st (fill.valueOut limit depth parent (st .used) (st .made) (now (s .entry))) r ⌝ }
+    requires { ⌜ Ready (allowed .values) (now s) (now store) (now tree) st ⌝ }
+    ensures { λ r. ⌜ Filled (allowed .values) (now (s .entry)) (now (store .entry)) (now (tree .entry)) (now (store .exit)) (now (tree .exit)) st (fill.valueOut (allowed .values) (allowed .arrays) parent (st .used) (st .made) (now (s .entry))) r ⌝ }
 {
     let t = chars::trim(s);
     let from = t.from;
@@ -155,39 +166,42 @@ pub fn value(
     let c = slices::peek(&s[from..end], 0);
     if c == b'"' {
         let a = from + 1;
-        return string(&s[a..end], store, tree, st, parent, limit);
+        return string(&s[a..end], store, tree, st, parent, allowed.values);
     }
     if c == b'[' {
         let a = from + 1;
-        return array(&s[a..end], store, tree, st, parent, limit, depth);
+        return array(&s[a..end], store, tree, st, parent, allowed);
     }
-    plain(&s[from..end], tree, st, parent, limit)
+    plain(&s[from..end], tree, st, parent, allowed.values)
 }
 
-// What follows a `[`, where depth arrays may still be inside one another: 14 comes first, and the items hang under the array.
+// What follows a `[`: 14 comes first, and the items hang under the array.
 fn array(
     s: &[u8],
     store: &mut [u8],
     tree: &mut [u8],
     st: State,
     parent: u16,
-    limit: usize,
-    depth: usize,
+    allowed: Allowed,
 ) -> Reply
-    requires { ⌜ Ready limit (now s) (now store) (now tree) st ⌝ }
-    ensures { λ r. ⌜ Filled limit (now (s .entry)) (now (store .entry)) (now (tree .entry)) (now (store .exit)) (now (tree .exit)) st (fill.bracketsOut limit depth parent (st .used) (st .made) (now (s .entry))) r ⌝ }
+    requires { ⌜ Ready (allowed .values) (now s) (now store) (now tree) st ⌝ }
+    ensures { λ r. ⌜ Filled (allowed .values) (now (s .entry)) (now (store .entry)) (now (tree .entry)) (now (store .exit)) (now (tree .exit)) st (fill.bracketsOut (allowed .values) (allowed .arrays) parent (st .used) (st .made) (now (s .entry))) r ⌝ }
 {
-    if depth == 0 {
+    if allowed.arrays == 0 {
         return Reply::Fault(14, st);
     }
     let made = st.made;
-    let r = open_array(s, tree, st, parent, limit);
+    let r = open_array(s, tree, st, parent, allowed.values);
     match r {
         Reply::Fault(n, at) => Reply::Fault(n, at),
         Reply::Fine(next) => {
             let e = s.len() - 1;
             let under = (made + 2) as u16;
-            items(&s[..e], store, tree, next, under, limit, depth - 1)
+            let inside = Allowed {
+                values: allowed.values,
+                arrays: allowed.arrays - 1,
+            };
+            items(&s[..e], store, tree, next, under, inside)
         }
     }
 }
@@ -199,11 +213,10 @@ fn items(
     tree: &mut [u8],
     st: State,
     parent: u16,
-    limit: usize,
-    depth: usize,
+    allowed: Allowed,
 ) -> Reply
-    requires { ⌜ Ready limit (now s) (now store) (now tree) st ⌝ }
-    ensures { λ r. ⌜ Filled limit (now (s .entry)) (now (store .entry)) (now (tree .entry)) (now (store .exit)) (now (tree .exit)) st (fill.listOut limit depth parent (st .used) (st .made) (now (s .entry))) r ⌝ }
+    requires { ⌜ Ready (allowed .values) (now s) (now store) (now tree) st ⌝ }
+    ensures { λ r. ⌜ Filled (allowed .values) (now (s .entry)) (now (store .entry)) (now (tree .entry)) (now (store .exit)) (now (tree .exit)) st (fill.listOut (allowed .values) (allowed .arrays) parent (st .used) (st .made) (now (s .entry))) r ⌝ }
 {
     let mut i = 0;
     let mut cur = st;
@@ -213,7 +226,7 @@ fn items(
         if chars::blank(&s[i..e]) {
             i = e + 1;
         } else {
-            let r = value(&s[i..e], store, tree, cur, parent, limit, depth);
+            let r = value(&s[i..e], store, tree, cur, parent, allowed);
             match r {
                 Reply::Fault(n, at) => {
                     return Reply::Fault(n, at);

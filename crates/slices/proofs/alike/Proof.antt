@@ -1,3 +1,4 @@
+-- The bits of unlike bytes are gathered and never lost: none is set only if all are alike.
 use Prim.Native.Nat.{_-_}
 use borrow.Author.Needs.{needs}
 use Rattle.slices.specs.Heads.{xors}

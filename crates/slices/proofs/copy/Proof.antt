@@ -1,3 +1,4 @@
+-- The first bytes are laid and the others as they were, so that one byte more is laid at each turn.
 use borrow.Author.Needs.{needs}
 use Rattle.slices.proofs.Bytes.{Laid, laid-start, laid-on, laid-end}
 use lib.ListN.{length}

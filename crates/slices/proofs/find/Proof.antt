@@ -1,3 +1,4 @@
+-- None of the bytes passed over is the one looked for, so the first that fits is the first of all.
 use borrow.Author.Needs.{needs}
 use Rattle.slices.proofs.Bytes.{find-on, find-hit, find-end}
 use lib.ListN.{length}

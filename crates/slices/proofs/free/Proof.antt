@@ -1,3 +1,4 @@
+-- A hit is gathered and never lost: there is none only if every byte is another.
 use Prim.Native.Nat.{_-_}
 use borrow.Author.Needs.{needs}
 use Rattle.slices.proofs.Bytes.{Freeing, free-start, free-on, free-end}

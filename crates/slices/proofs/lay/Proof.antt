@@ -1,3 +1,4 @@
+-- The bytes laid so far, and those of what is left of the number, are the bytes of the number.
 use borrow.Author.Needs.{needs}
 use Rattle.slices.proofs.Numbering.{Laying, lay-start, lay-byte, lay-on, lay-end}
 use Prim.Native.Nat.{_-_}

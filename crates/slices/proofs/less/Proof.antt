@@ -1,3 +1,4 @@
+-- The bytes passed over are the same in both, so the first unlike pair decides, or the shorter one.
 use borrow.Author.Needs.{needs}
 use Rattle.slices.proofs.Bytes.{less-on, less-told, less-short, less-end}
 use Rattle.slices.specs.Heads.{Ranked}

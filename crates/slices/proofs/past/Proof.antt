@@ -1,3 +1,4 @@
+-- No block passed over has the byte, so the first one stands after them.
 use Prim.Native.Nat.{_-_}
 use borrow.Author.Needs.{needs}
 use lib.ListN.{length}

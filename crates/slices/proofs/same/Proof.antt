@@ -1,3 +1,4 @@
+-- All bytes before this one are alike, so the two are the same if the rest is.
 use borrow.Author.Needs.{needs}
 use Rattle.slices.proofs.Bytes.{Alike, same-lengths, same-on, same-not, same-end}
 use lib.ListN.{length}

@@ -1,3 +1,4 @@
+-- The bytes passed over are the same in both, block by block, so the order is that of what is left.
 use Prim.Native.Nat.{_-_}
 use borrow.Author.Needs.{needs}
 use lib.ListN.{length}

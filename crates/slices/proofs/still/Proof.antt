@@ -1,3 +1,4 @@
+-- The bits of all bytes are gathered and never lost: none is set only if all are zero.
 use Prim.Native.Nat.{_-_}
 use borrow.Author.Needs.{needs}
 use Rattle.slices.proofs.Zeroing.{Looking, look-start, look-on, look-end}

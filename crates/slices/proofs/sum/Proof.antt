@@ -1,3 +1,4 @@
+-- The number so far is that of the bytes from here on; one byte more makes it 256 times as large and adds its own.
 use Prim.Native.Nat.{_-_}
 use native.Mathlib.Omega.{arith}
 use borrow.Author.Needs.{needs}

@@ -1,3 +1,4 @@
+-- The zeros are the bytes of the number 0, laid one by one.
 use Prim.Native.Nat.{_-_}
 use borrow.Author.Needs.{needs}
 use Rattle.slices.proofs.Numbering.{Laying, lay-start}

@@ -1,3 +1,4 @@
+-- Zeros laid over what is left would make the room all zero: that holds at each block, and at the end nothing is left.
 use Prim.Native.Nat.{_-_}
 use lib.ListN.{length}
 use borrow.Author.Needs.{needs}

@@ -2,9 +2,14 @@ use borrow.Author.Needs.{needs}
 use Rattle.values.proofs.Descending.{last-paths, last-hangs, last-done, last-full, last-clash, one-hangs, one-done}
 use Rattle.values.proofs.grow.assign.Statement.{statement}
 use Rattle.values.proofs.grow.assign.Tie as tie
+use Rattle.values.proofs.grow.assign.Reads as reads
+use Rattle.values.proofs.grow.assign.Lts as lts
+use Rattle.values.proofs.grow.enter_path.Reads as enter-path-reads
+use Rattle.values.proofs.grow.hang_up.Reads as hang-up-reads
+use Rattle.values.proofs.grow.last_segment.Reads as last-segment-reads
 
-element-copy-out-hang-up : tie.Need-element-copy-out-hang-up
-element-copy-out-hang-up c = search needs
+element-copy-out-end : tie.Need-element-copy-out-end
+element-copy-out-end c = search needs
 
 hang-up-requires : tie.Need-hang-up-requires
 hang-up-requires c κs = search (needs, one-hangs)
@@ -15,19 +20,20 @@ same-length c = search needs
 returns : tie.Need-returns
 returns c = search (needs, one-done)
 
-sub-down : tie.Need-sub-down
-sub-down c = search needs
+sub-enter-path : tie.Need-sub-enter-path
+sub-enter-path c = search needs
 
-down-requires : tie.Need-down-requires
-down-requires c κs = search (needs, last-paths)
+enter-path-requires : tie.Need-enter-path-requires
+enter-path-requires c κs = search (needs, last-paths)
 
 enum-known-g : tie.Need-enum-known-g
 enum-known-g c = search needs
 
-hang-last-requires : tie.Need-hang-last-requires
-hang-last-requires c κs = let b = c .before .before .before .before .before .before in
-    let a = b .before .before .before .before .before in
-    last-hangs _ _ _ _ _ _ _ (a .pre .keyed) _ _ (b .down .ensures) _ _ (c .before .before .g .given .1) _ (a .pre .below)
+last-segment-requires : tie.Need-last-segment-requires
+last-segment-requires c κs = search needs
+
+hang-up-requires-2 : tie.Need-hang-up-requires-2
+hang-up-requires-2 c κs = search (needs, last-hangs)
 
 enum-told : tie.Need-enum-told
 enum-told c = search needs
@@ -57,14 +63,15 @@ pub assign-spec : {M : Type 1} → statement M
 assign-spec =
     tie.close
     (tie.spec
-    element-copy-out-hang-up
+    element-copy-out-end
     hang-up-requires
     same-length
     returns
-    sub-down
-    down-requires
+    sub-enter-path
+    enter-path-requires
     enum-known-g
-    hang-last-requires
+    last-segment-requires
+    hang-up-requires-2
     enum-told
     enum-told-2
     same-length-2

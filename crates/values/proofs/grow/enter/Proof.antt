@@ -1,5 +1,5 @@
-use Rattle.values.proofs.Growing.{enter-numbered, enter-fits, enter-place, enter-walked, enter-over, enter-new}
 use borrow.Author.Needs.{needs}
+use Rattle.values.proofs.Growing.{enter-numbered, enter-fits, enter-place, enter-walked, enter-over, enter-new}
 use Rattle.values.proofs.grow.enter.Statement.{statement}
 use Rattle.values.proofs.grow.enter.Tie as tie
 use Rattle.values.proofs.grow.enter.Reads as reads
@@ -17,11 +17,11 @@ enum-known-f c = search needs
 kind-at-requires : tie.Need-kind-at-requires
 kind-at-requires c κs = search (needs, enter-numbered)
 
-add-t17 : tie.Need-add-t17
-add-t17 c = search (needs, enter-fits)
+add-t15 : tie.Need-add-t15
+add-t15 c = search (needs, enter-fits)
 
-cast-t18 : tie.Need-cast-t18
-cast-t18 c = search (needs, enter-place)
+cast-t16 : tie.Need-cast-t16
+cast-t16 c = search (needs, enter-place)
 
 same-length : tie.Need-same-length
 same-length c = search needs
@@ -57,8 +57,8 @@ enter-spec =
     seek-requires
     enum-known-f
     kind-at-requires
-    add-t17
-    cast-t18
+    add-t15
+    cast-t16
     same-length
     returns
     make-keyed-requires

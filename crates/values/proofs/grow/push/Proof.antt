@@ -1,5 +1,5 @@
-use Rattle.values.proofs.Growing.{enter-numbered, enter-fits, enter-place, push-item, push-clash, push-made}
 use borrow.Author.Needs.{needs}
+use Rattle.values.proofs.Growing.{enter-numbered, enter-fits, enter-place, push-item, push-clash, push-made}
 use Rattle.values.proofs.grow.push.Statement.{statement}
 use Rattle.values.proofs.grow.push.Tie as tie
 use Rattle.values.proofs.grow.push.Reads as reads
@@ -18,11 +18,11 @@ enum-known-f c = search needs
 kind-at-requires : tie.Need-kind-at-requires
 kind-at-requires c κs = search (needs, enter-numbered)
 
-add-make-item : tie.Need-add-make-item
-add-make-item c = search (needs, enter-fits)
+add-t16 : tie.Need-add-t16
+add-t16 c = search (needs, enter-fits)
 
-cast-make-item : tie.Need-cast-make-item
-cast-make-item c = search (needs, enter-place)
+cast-t17 : tie.Need-cast-t17
+cast-t17 c = search (needs, enter-place)
 
 make-item-requires : tie.Need-make-item-requires
 make-item-requires c κs = search needs
@@ -58,8 +58,8 @@ push-spec =
     seek-requires
     enum-known-f
     kind-at-requires
-    add-make-item
-    cast-make-item
+    add-t16
+    cast-t17
     make-item-requires
     same-length
     returns

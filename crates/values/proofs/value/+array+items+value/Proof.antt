@@ -1,3 +1,4 @@
+-- Each array opens with one array less allowed inside it, so three times that number falls from reader to reader around the cycle.
 use Prim.Native.Nat.{ℕ, _<_, _+_, _-_}
 use borrow.Author.Needs.{needs}
 use lib.ListN.{length}
@@ -26,13 +27,13 @@ use Rattle.values.proofs.value.+array+items+value.{statement}
 use Rattle.values.proofs.value.+array+items+value.Tie.{close}
 
 abbrev μ-array : Measures 3 array-kinds.ps ℕ
-μ-array κs a = a .1 .1 .1 .1 .1 .1 .0 + a .1 .1 .1 .1 .1 .1 .0 + a .1 .1 .1 .1 .1 .1 .0 + 1
+μ-array κs a = a .1 .1 .1 .1 .1 .0 .arrays + a .1 .1 .1 .1 .1 .0 .arrays + a .1 .1 .1 .1 .1 .0 .arrays + 1
 
 abbrev μ-items : Measures 3 items-kinds.ps ℕ
-μ-items κs a = a .1 .1 .1 .1 .1 .1 .0 + a .1 .1 .1 .1 .1 .1 .0 + a .1 .1 .1 .1 .1 .1 .0 + 3
+μ-items κs a = a .1 .1 .1 .1 .1 .0 .arrays + a .1 .1 .1 .1 .1 .0 .arrays + a .1 .1 .1 .1 .1 .0 .arrays + 3
 
 abbrev μ-value : Measures 3 value-kinds.ps ℕ
-μ-value κs a = a .1 .1 .1 .1 .1 .1 .0 + a .1 .1 .1 .1 .1 .1 .0 + a .1 .1 .1 .1 .1 .1 .0 + 2
+μ-value κs a = a .1 .1 .1 .1 .1 .0 .arrays + a .1 .1 .1 .1 .1 .0 .arrays + a .1 .1 .1 .1 .1 .0 .arrays + 2
 
 abbrev array-at : ℕ → In 3 array-kinds.ps
 array-at t = and 3 array-kinds.ps (is 3 array-kinds.ps μ-array t) array.Pre
@@ -108,6 +109,14 @@ array-cast-under : (t : ℕ) → array-lts.Need-cast-under (
 ) (array-at t) array.Post
 array-cast-under t c = search needs
 
+array-sub-t19 : (t : ℕ) → array-lts.Need-sub-t19 (
+  open-array-reads.Asked,
+  open-array-reads.Learnt,
+  items-below t,
+  items.Post,
+) (array-at t) array.Post
+array-sub-t19 t c = search needs
+
 array-slice-aggregate-items : (t : ℕ) → array-lts.Need-slice-aggregate-items (
   open-array-reads.Asked,
   open-array-reads.Learnt,
@@ -115,14 +124,6 @@ array-slice-aggregate-items : (t : ℕ) → array-lts.Need-slice-aggregate-items
   items.Post,
 ) (array-at t) array.Post
 array-slice-aggregate-items t c = search (needs, part-long)
-
-array-sub-items : (t : ℕ) → array-lts.Need-sub-items (
-  open-array-reads.Asked,
-  open-array-reads.Learnt,
-  items-below t,
-  items.Post,
-) (array-at t) array.Post
-array-sub-items t c = search needs
 
 array-items-requires : (t : ℕ) → array-lts.Need-items-requires (
   open-array-reads.Asked,
@@ -173,10 +174,10 @@ array-returns-3 : (t : ℕ) → array-lts.Need-returns-3 (
 array-returns-3 t c = search (needs, array-read)
 
 abbrev items-Inv-loop : items-lts.InvT-loop
-items-Inv-loop s store₀ tree₀ parent limit depth i₀ cur₀ store tree i cur = Held limit depth parent s store₀ tree₀ cur₀ store tree i cur
+items-Inv-loop s store₀ tree₀ parent allowed i₀ cur₀ store tree i cur = Held (allowed .values) (allowed .arrays) parent s store₀ tree₀ cur₀ store tree i cur
 
 abbrev items-μ-loop : items-lts.MeasureT-loop
-items-μ-loop s store₀ tree₀ parent limit depth i₀ cur₀ store tree i cur = length s - i
+items-μ-loop s store₀ tree₀ parent allowed i₀ cur₀ store tree i cur = length s - i
 
 items-loop-holds : (t : ℕ) → items-lts.Need-loop-holds (
   item-reads.Asked,
@@ -852,8 +853,8 @@ pub +array+items+value-spec : {M : Type 1} → statement M
     (array-sub-e t)
     (array-add-under t)
     (array-cast-under t)
+    (array-sub-t19 t)
     (array-slice-aggregate-items t)
-    (array-sub-items t)
     (array-items-requires t)
     (array-same-length t)
     (array-returns-2 t)

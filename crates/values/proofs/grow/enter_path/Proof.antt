@@ -1,17 +1,18 @@
+-- What is left to walk from here means what the whole path means from the start, and the room holds what was made on the way.
 use Prim.Native.Nat.{_-_}
 use borrow.Author.Needs.{needs}
 use Rattle.values.proofs.Descending.{Walking, walk-start, walk-enters, walk-full, walk-clash, walk-on, walk-out}
-use Rattle.values.proofs.grow.down.Statement.{statement}
-use Rattle.values.proofs.grow.down.Tie as tie
-use Rattle.values.proofs.grow.down.Reads as reads
-use Rattle.values.proofs.grow.down.Lts as lts
+use Rattle.values.proofs.grow.enter_path.Statement.{statement}
+use Rattle.values.proofs.grow.enter_path.Tie as tie
+use Rattle.values.proofs.grow.enter_path.Reads as reads
+use Rattle.values.proofs.grow.enter_path.Lts as lts
 use Rattle.values.proofs.grow.enter.Reads as enter-reads
 
 abbrev Inv-loop : tie.InvT-loop
-Inv-loop tree₀ store made limit p at n key m₀ q₀ from₀ i₀ tree m q from i = Walking limit tree₀ store made p key at n tree m q from i
+Inv-loop tree₀ store limit steps path here₀ from₀ i₀ tree here from i = Walking limit tree₀ store (here₀ .made) (here₀ .place) path steps tree (here .made) (here .place) from i
 
 abbrev μ-loop : tie.MeasureT-loop
-μ-loop tree₀ store made limit p at n key m₀ q₀ from₀ i₀ tree m q from i = n - i
+μ-loop tree₀ store limit steps path here₀ from₀ i₀ tree here from i = steps - i
 
 loop-holds : tie.Need-loop-holds Inv-loop μ-loop
 loop-holds c = search (needs, walk-start)
@@ -61,8 +62,8 @@ same-length-3 c = search needs
 returns-3 : tie.Need-returns-3 Inv-loop μ-loop
 returns-3 c = search (needs, walk-out)
 
-pub down-spec : {M : Type 1} → statement M
-down-spec =
+pub enter-path-spec : {M : Type 1} → statement M
+enter-path-spec =
     tie.close
     (tie.spec
     Inv-loop
