@@ -90,7 +90,7 @@ pub const DOCUMENT: Record = Record {
         )
     },
     note: "# Line, count of values and store, and the numbers 1, 2, 14, 15 and 16, which the \
-           original does not have, are those of rust/replay/src/document/model.rs.\n",
+           original does not have, are those of rust/replay/src/model/document.rs.\n",
     picked: document::corners::picked,
     seed: 13,
     random: 300,
@@ -117,7 +117,7 @@ pub const RECORDS: Record = Record {
         )
     },
     note: "# Section, place and count of values, and the numbers 1, 2, 14, 15, 16 and 25, which the \
-           original does not have, are those of rust/replay/src/records/model.rs.\n",
+           original does not have, are those of rust/replay/src/model/records.rs.\n",
     picked: records::corners::picked,
     seed: 17,
     random: 250,
@@ -137,7 +137,7 @@ pub const VALIDATE: Record = Record {
              picked presets, the presets of presets/, {faults} with one fault"
         )
     },
-    note: "# Section, place and count of values are those of rust/replay/src/validate/model.rs, which \
+    note: "# Section, place and count of values are those of rust/replay/src/model/validate.rs, which \
            the names in messages bear out.\n",
     picked: validate::corners::picked,
     seed: 19,
@@ -157,7 +157,7 @@ pub const PLAN: Record = Record {
              declared application and another key, to {corners} picked presets, the presets of presets/"
         )
     },
-    note: "# Count of values is that of rust/replay/src/plan/model.rs, as is what is told of a key that is \
+    note: "# Count of values is that of rust/replay/src/model/plan.rs, as is what is told of a key that is \
            not UTF-8, and of presets that break a rule section and place.\n",
     picked: plan::corners::picked,
     seed: 23,
@@ -178,8 +178,8 @@ pub const LISTING: Record = Record {
              records.txt"
         )
     },
-    note: "# Count of values is that of rust/replay/src/document/model.rs; of refusals section and place, and the \
-           numbers 1, 2, 14, 15, 16 and 25, are those of rust/replay/src/validate/model.rs.\n",
+    note: "# Count of values is that of rust/replay/src/model/document.rs; of refusals section and place, and the \
+           numbers 1, 2, 14, 15, 16 and 25, are those of rust/replay/src/model/validate.rs.\n",
     picked: listing::corners::picked,
     seed: 29,
     random: 350,
