@@ -53,7 +53,7 @@ module _ (s : List ℕ) where
         go [] e = eq-eqb (t .from) (length s) (omega arith)
         go (b ∷ d) e = ne-eqb (t .from) (length s) (λ q. z (omega arith))
 
--- the part from a on, without the bytes behind its first e, begins and ends with no white space
+-- the part from a on, without the bytes after its first e, begins and ends with no white space
 pub snug-both : (s : List ℕ) (a e : ℕ) (r : Bool) → Starting s a → Ending (take (length s - a) (drop a s)) e
     → (r ≡ true → Snug (take (a + e - a) (drop a s))) → r ≡ true → Trimmed s (record { from = a; end = a + e })
 snug-both s a e r st en g t =

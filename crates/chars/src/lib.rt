@@ -12,18 +12,28 @@ ghost use Rattle.chars.specs.Rows as rows;
 ghost use Rattle.chars.specs.Under.{Under};
 ghost use Rattle.chars.specs.Trimmed.{Starting, Ending, Started, Ended, Trimmed, Dark, Snug};
 
-// A part of a byte string, by its first byte and the byte behind its last.
+// A part of a byte string, by its first byte and the byte after its last.
 pub struct Span {
     pub from: usize,
     pub end: usize,
 }
 
+// The four bytes at the head of a text, 0 past its end.
+pub struct Head {
+    pub b: u32,
+    pub c: u32,
+    pub d: u32,
+    pub e: u32,
+}
+
+// Whether n lies from low to high.
 fn between(low: u32, high: u32, n: u32) -> bool
     ensures { λ r. ⌜ r ≡ base.between low high n ⌝ }
 {
     if low <= n { n <= high } else { false }
 }
 
+// A byte as a wider number.
 fn wide(b: u8) -> u32
     ensures { λ r. ⌜ (r ≡ b) × (r < 256) ⌝ }
 {
@@ -37,6 +47,7 @@ fn at(s: &[u8], i: usize) -> u32
     wide(slices::peek(s, i))
 }
 
+// Whether b and c are a row of two bytes.
 fn row2(low: u32, high: u32, b: u32, c: u32) -> bool
     ensures { λ r. ⌜ r ≡ rows.row2 low high b c ⌝ }
 {
@@ -46,52 +57,56 @@ fn row2(low: u32, high: u32, b: u32, c: u32) -> bool
     false
 }
 
-fn row3(low: u32, high: u32, low2: u32, high2: u32, b: u32, c: u32, d: u32) -> bool
-    ensures { λ r. ⌜ r ≡ rows.row3 low high low2 high2 b c d ⌝ }
+// Whether a head begins with a row of three.
+fn row3(low: u32, high: u32, low2: u32, high2: u32, s: Head) -> bool
+    ensures { λ r. ⌜ r ≡ rows.row3 low high low2 high2 (s .b) (s .c) (s .d) ⌝ }
 {
-    if between(low, high, b) {
-        if between(low2, high2, c) {
-            return between(0x80, 0xbf, d);
+    if between(low, high, s.b) {
+        if between(low2, high2, s.c) {
+            return between(0x80, 0xbf, s.d);
         }
         return false;
     }
     false
 }
 
-fn row4(low: u32, high: u32, low2: u32, high2: u32, b: u32, c: u32, d: u32, e: u32) -> bool
-    ensures { λ r. ⌜ r ≡ rows.row4 low high low2 high2 b c d e ⌝ }
+// Whether a head is a row of four.
+fn row4(low: u32, high: u32, low2: u32, high2: u32, s: Head) -> bool
+    ensures { λ r. ⌜ r ≡ rows.row4 low high low2 high2 (s .b) (s .c) (s .d) (s .e) ⌝ }
 {
-    if row3(low, high, low2, high2, b, c, d) {
-        return between(0x80, 0xbf, e);
+    if row3(low, high, low2, high2, s) {
+        return between(0x80, 0xbf, s.e);
     }
     false
 }
 
-fn three(b: u32, c: u32, d: u32) -> bool
-    ensures { λ r. ⌜ r ≡ rows.three b c d ⌝ }
+// Whether a head begins with a character of three bytes: "UTF8-3" of RFC 3629.
+fn three(s: Head) -> bool
+    ensures { λ r. ⌜ r ≡ rows.three (s .b) (s .c) (s .d) ⌝ }
 {
-    if row3(0xe0, 0xe0, 0xa0, 0xbf, b, c, d) {
+    if row3(0xe0, 0xe0, 0xa0, 0xbf, s) {
         return true;
     }
-    if row3(0xe1, 0xec, 0x80, 0xbf, b, c, d) {
+    if row3(0xe1, 0xec, 0x80, 0xbf, s) {
         return true;
     }
-    if row3(0xed, 0xed, 0x80, 0x9f, b, c, d) {
+    if row3(0xed, 0xed, 0x80, 0x9f, s) {
         return true;
     }
-    row3(0xee, 0xef, 0x80, 0xbf, b, c, d)
+    row3(0xee, 0xef, 0x80, 0xbf, s)
 }
 
-fn four(b: u32, c: u32, d: u32, e: u32) -> bool
-    ensures { λ r. ⌜ r ≡ rows.four b c d e ⌝ }
+// Whether a head is a character of four: "UTF8-4".
+fn four(s: Head) -> bool
+    ensures { λ r. ⌜ r ≡ rows.four (s .b) (s .c) (s .d) (s .e) ⌝ }
 {
-    if row4(0xf0, 0xf0, 0x90, 0xbf, b, c, d, e) {
+    if row4(0xf0, 0xf0, 0x90, 0xbf, s) {
         return true;
     }
-    if row4(0xf1, 0xf3, 0x80, 0xbf, b, c, d, e) {
+    if row4(0xf1, 0xf3, 0x80, 0xbf, s) {
         return true;
     }
-    row4(0xf4, 0xf4, 0x80, 0x8f, b, c, d, e)
+    row4(0xf4, 0xf4, 0x80, 0x8f, s)
 }
 
 // How many bytes the character at the head of s has, or 0.
@@ -110,10 +125,12 @@ fn width(s: &[u8]) -> usize
         return 2;
     }
     let d = at(s, 2);
-    if three(b, c, d) {
+    let e = at(s, 3);
+    let head = Head { b, c, d, e };
+    if three(head) {
         return 3;
     }
-    if four(b, c, d, at(s, 3)) {
+    if four(head) {
         return 4;
     }
     0
@@ -255,13 +272,13 @@ fn ascii_white(b: u8) -> bool
     requires { ⌜ b < 128 ⌝ }
     ensures { λ r. ⌜ r ≡ space.white b ⌝ }
 {
-    if b == 32 {
+    if b == b' ' {
         return true;
     }
-    if 13 < b {
+    if b'\r' < b {
         return false;
     }
-    9 <= b
+    b'\t' <= b
 }
 
 // Where the white space at the head of s ends.
@@ -319,7 +336,7 @@ fn trim_wide(s: &[u8]) -> Span
     let from = trim_start(s);
     let n = trim_end(&s[from..]);
     Span {
-        from: from,
+        from,
         end: from + n,
     }
 }
@@ -328,7 +345,7 @@ fn trim_wide(s: &[u8]) -> Span
 fn dark(b: u8) -> bool
     ensures { λ r. ⌜ (r ≡ true → Dark b) ⌝ }
 {
-    if 32 < b { b < 128 } else { false }
+    if b' ' < b { b < 128 } else { false }
 }
 
 // Whether s surely has no white space at its ends.
@@ -351,7 +368,7 @@ fn lead(s: &[u8]) -> usize
 {
     let mut i = 0;
     while i < s.len() {
-        if s[i] != 32 {
+        if s[i] != b' ' {
             return i;
         }
         i += 1;
@@ -365,7 +382,7 @@ fn tail(s: &[u8]) -> usize
 {
     let mut e = s.len();
     while 0 < e {
-        if s[e - 1] != 32 {
+        if s[e - 1] != b' ' {
             return e;
         }
         e -= 1;
@@ -380,10 +397,7 @@ pub fn trim(s: &[u8]) -> Span
     let from = lead(s);
     let end = from + tail(&s[from..]);
     if snug(&s[from..end]) {
-        return Span {
-            from: from,
-            end: end,
-        };
+        return Span { from, end };
     }
     trim_wide(s)
 }

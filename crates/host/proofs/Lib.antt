@@ -1,3 +1,4 @@
+pub mod Scanning
 pub mod Exports
 pub mod Valued
 pub mod Keyed

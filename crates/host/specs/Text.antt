@@ -18,6 +18,8 @@ use Rattle.text.specs.Answers.{Count, measured}
 use Rattle.host.specs.declared.Span.{Span}
 use Rattle.host.specs.declared.Scanned.{Scanned}
 use Rattle.meaning.specs.declared.Scan.{Scan}
+use Rattle.meaning.specs.declared.StringState.{StringState}
+use Rattle.meaning.specs.declared.StringState.the-variants.{Outside, Inside, Escaped}
 use Rattle.host.specs.declared.Lines.{Lines}
 use Rattle.host.specs.declared.Line.{Line}
 
@@ -25,9 +27,15 @@ use Rattle.host.specs.declared.Line.{Line}
 abbrev pub spanOf : Span → chars.Span
 spanOf r = record { from = r .from; end = r .end }
 
--- a scan, as the definitions say it
-abbrev pub scanOf : Scanned → Scan
-scanOf r = record { st = r .state; opens = r .opens; closes = r .closes }
+-- a string state by a number
+abbrev pub stateNumber : StringState → ℕ
+stateNumber Outside = 0
+stateNumber Inside = 1
+stateNumber Escaped = 2
+
+-- a scan, as it is handed out
+abbrev pub scanned : Scan → Scanned
+scanned c = record { state = stateNumber (c .state); opens = c .opens; closes = c .closes }
 
 -- number 0 and the counts of an accepted text; or 01's number, section and place, and no counts
 abbrev pub linesOf : Answer Count → Lines

@@ -7,6 +7,7 @@ mod presets;
 mod records;
 mod single_values;
 
+use meaning::StringState;
 use text::Next;
 use text::Reading;
 ghost use mathlib.Core.Path.{_≡_};
@@ -14,7 +15,7 @@ ghost use Rattle.meaning.specs.Utf8 as utf8;
 ghost use Rattle.meaning.specs.Quote as quotes;
 ghost use Rattle.chars.specs.Trimmed.{Trimmed};
 ghost use Rattle.text.specs.Walk as walk;
-ghost use Rattle.host.specs.Text.{spanOf, scanOf, refusedAt, lineOf, Exported};
+ghost use Rattle.host.specs.Text.{spanOf, stateNumber, scanned, refusedAt, lineOf, Exported};
 
 // A part of a byte string, by its first byte and the byte behind its last.
 #[repr(C)]
@@ -80,14 +81,26 @@ pub extern "C" fn text_kept(line: &[u8]) -> usize
     text::outside(line, b'#')
 }
 
+// The number of a string state: 0 outside a string, 1 inside, 2 inside and after a backslash.
+fn state_number(state: StringState) -> u8
+    ensures { λ r. ⌜ r ≡ stateNumber state ⌝ }
+{
+    match state {
+        StringState::Outside => 0,
+        StringState::Inside => 1,
+        StringState::Escaped => 2,
+    }
+}
+
 // The string state and the brackets of s.
 #[no_mangle]
 pub extern "C" fn text_scan(s: &[u8]) -> Scanned
-    ensures { λ r. ⌜ scanOf r ≡ quotes.scan quotes.fresh (now (s .entry)) ⌝ }
+    ensures { λ r. ⌜ r ≡ scanned (quotes.scan quotes.fresh (now (s .entry))) ⌝ }
 {
     let c = text::scan(s);
+    let state = c.state;
     Scanned {
-        state: c.st,
+        state: state_number(state),
         opens: c.opens,
         closes: c.closes,
     }

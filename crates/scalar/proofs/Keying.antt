@@ -99,7 +99,7 @@ fine-taken n [] ks e = let z : _≡_ {A = List (List ℕ)} [] ks = cc in rw (←
 fine-taken zero (p ∷ ps) ks e = cc
 fine-taken (suc n) (p ∷ ps) ks e = fine-step n ps (laid (trim p)) ks (segment (trim p)) (segments n ps) (fine-taken n ps) e
 
--- an accepted key: its segments ks are 01's, and the store holds them one behind the other
+-- an accepted key: its segments ks are 01's, and the store holds them one after the other
 pub record Accepted (limit : ℕ) (s store : List ℕ) (at : ℕ) (store' : List ℕ) (ks : List (List ℕ)) (r : Key) : Type 0 where
   pub is : keys limit s ≡ ok ks
   pub count : r .n ≡ length ks

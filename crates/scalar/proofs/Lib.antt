@@ -1,3 +1,4 @@
+pub mod Verdicts
 pub mod Integers
 pub mod Decoding
 pub mod Speaking

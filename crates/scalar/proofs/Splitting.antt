@@ -1,4 +1,4 @@
--- The segments of a key, one behind the other: what the loop keeps, and one law for each way on and out.
+-- The segments of a key, one after the other: what the loop keeps, and one law for each way on and out.
 use Prim.Native.Nat.{ℕ, suc, _+_, _-_, _^_, _≤_, _<_}
 use mathlib.Core.Bool.{Bool, true, false}
 use mathlib.Core.List.{List, [], _∷_, _++_, append-assoc, append-nil}
@@ -29,7 +29,7 @@ use Rattle.scalar.specs.Stores.{stored, Room}
 use Rattle.scalar.specs.Segments.{told, isFine, laid, Segmented}
 use Rattle.scalar.specs.Splits.{Taken, none, by, taken, takes, flat, bytesOf, endsOf, keyOf, Asked, Splits}
 
--- ---- bytes laid behind bytes
+-- ---- bytes laid after bytes
 stored-stored : (store : List ℕ) (at : ℕ) (a b : List ℕ) → at ≤ length store → stored (stored store at a) (at + length a) b ≡ stored store at (a ++ b)
 stored-stored store at a b h = stored-behind store at a b (at + length a) h refl
 
@@ -99,7 +99,7 @@ pub record Before (limit : ℕ) (all : List (List ℕ)) (at₀ : ℕ) (store₀ 
   pub row : ends ≡ endsOf at₀ ks ++ zeros (16 - n)
   pub left : store ≡ stored store₀ at₀ (flat ks)
 
--- what a key leaves, by what is taken behind ks
+-- what a key leaves, by what is taken after ks
 record Outcome (limit : ℕ) (all : List (List ℕ)) (at₀ : ℕ) (store₀ store' : List ℕ) (r : Key) : Type 0 where
   says : told (r .verdict) (taken limit all .segs) ≡ segments limit all
   count : r .n ≡ length (taken limit all .segs)
@@ -277,7 +277,7 @@ module _ (s store₀ : List ℕ) (at₀ limit : ℕ) (store ends : List ℕ) (n 
           ap length (g .left)
           ∙ length-stored store at (laid (trim (take (i + k - i) (drop i s)))) (omega (arith, g .wrote, grown, end-fits, a .fits, a .long)) ∙ a .long
 
-      -- the parts are this one and those behind its dot, or this one alone
+      -- the parts are this one and those after its dot, or this one alone
       there : i + k < length s → cut 46 (drop i s) ≡ take k (drop i s) ∷ cut 46 (drop (i + k + 1) s)
       there l =
           let m : before 46 (drop i s) < length (drop i s) = omega (arith, ends-there, length-drop i s) in

@@ -42,7 +42,7 @@ pub record Decodes (src out out' : List ℕ) (r : Decoded) : Type 0 where
   pub left : out' ≡ over (decode Plain src .bytes) out
   pub within : Within (length src) r
 
--- what `put_string` leaves: the same, behind at in the store
+-- what `put_string` leaves: the same, from at on in the store
 pub record Puts (src store : List ℕ) (at : ℕ) (store' : List ℕ) (r : Decoded) : Type 0 where
   pub says : r ≡ answerOf (decode Plain src)
   pub left : store' ≡ stored store at (decode Plain src .bytes)

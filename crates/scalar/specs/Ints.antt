@@ -31,7 +31,7 @@ abbrev pub digitsOf : Digits → R ℕ
 digitsOf (Count n) = ok n
 digitsOf Stray = bad 12
 
--- one digit more behind the value acc, within the limit
+-- one digit more after the value acc, within the limit
 unfoldable pub more : ℕ → ℕ → ℕ → ℕ → R ℕ
 more base limit acc b =
     pick (leb base (digit b)) (bad 12) (pick (ltb limit (acc * base + digit b)) (bad 12) (ok (acc * base + digit b)))

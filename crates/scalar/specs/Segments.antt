@@ -9,6 +9,8 @@ use Rattle.meaning.specs.Base.{pick}
 use Rattle.meaning.specs.Refusal.{R, ok, bad}
 use Rattle.meaning.specs.declared.StringByte.the-variants.{Plain}
 use Rattle.meaning.specs.Strings.{decode}
+use Rattle.meaning.specs.Space.{trim}
+use Rattle.meaning.specs.Keys.{nonempty, quoted, segment}
 use Rattle.scalar.specs.declared.key.Verdict.{Verdict}
 use Rattle.scalar.specs.declared.key.Verdict.the-variants.{Fine, Malformed, Escape, Unended, TooMany}
 use Rattle.scalar.specs.declared.key.Segment.{Segment}
@@ -37,9 +39,22 @@ judged end written = pick (eqb end 34) (pick (eqb written 0) Malformed Fine) Mal
 unfoldable pub laid : List ℕ → List ℕ
 laid p = pick (eqb (getD p 0 0) 34) (decode Plain (drop 1 p) .bytes) p
 
--- what the reader of a segment s that means m leaves: its answer, and the bytes, laid behind at in the store
+-- what the reader of a segment s that means m leaves: its answer, and the bytes, laid from at on in the store
 pub record Segmented (s : List ℕ) (m : R (List ℕ)) (bytes store : List ℕ) (at : ℕ) (store' : List ℕ) (r : Segment) : Type 0 where
   pub says : told (r .verdict) bytes ≡ m
   pub wrote : r .written ≡ length bytes
   pub fits : r .written ≤ length s
   pub left : store' ≡ stored store at bytes
+
+-- of a segment without quotes, of what stands after an opening quote, of a trimmed segment, and of a part between dots
+abbrev pub BareSegment : List ℕ → List ℕ → ℕ → List ℕ → Segment → Type 0
+BareSegment p store at store' r = Segmented p (nonempty p) p store at store' r
+
+abbrev pub QuotedSegment : List ℕ → List ℕ → ℕ → List ℕ → Segment → Type 0
+QuotedSegment p store at store' r = Segmented p (quoted p) (decode Plain p .bytes) store at store' r
+
+abbrev pub TrimmedSegment : List ℕ → List ℕ → ℕ → List ℕ → Segment → Type 0
+TrimmedSegment p store at store' r = Segmented p (segment p) (laid p) store at store' r
+
+abbrev pub KeyPart : List ℕ → List ℕ → ℕ → List ℕ → Segment → Type 0
+KeyPart s store at store' r = Segmented s (segment (trim s)) (laid (trim s)) store at store' r

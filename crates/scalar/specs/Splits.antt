@@ -12,7 +12,7 @@ use Rattle.scalar.specs.declared.key.Key.{Key}
 use Rattle.scalar.specs.Stores.{stored}
 use Rattle.scalar.specs.Segments.{told, laid}
 
--- the segments taken, and what a refused one behind them leaves
+-- the segments taken, and what a refused one after them leaves
 pub record Taken : Type 0 where
   pub segs : List (List ℕ)
   pub rest : List ℕ
@@ -34,7 +34,7 @@ taken (suc n) (p ∷ ps) = by (segment (trim p)) (laid (trim p)) (taken n ps)
 unfoldable pub takes : ℕ → List ℕ → Taken
 takes limit s = taken limit (cut 46 s)
 
--- byte strings one behind the other
+-- byte strings one after the other
 abbrev pub flat : List (List ℕ) → List ℕ
 flat [] = []
 flat (k ∷ ks) = k ++ flat ks
@@ -57,7 +57,7 @@ pub record Asked (limit : ℕ) (s store : List ℕ) (at : ℕ) : Type 0 where
   pub top : limit ≤ 16
   pub room : at + length s ≤ length store
 
--- what `put_key` leaves: its answer, and the store with all bytes laid behind at
+-- what `put_key` leaves: its answer, and the store with all bytes laid from at on
 pub record Splits (limit : ℕ) (s store : List ℕ) (at : ℕ) (store' : List ℕ) (r : Key) : Type 0 where
   pub says : told (r .verdict) (takes limit s .segs) ≡ keys limit s
   pub count : r .n ≡ length (takes limit s .segs)

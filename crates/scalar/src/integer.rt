@@ -19,28 +19,36 @@ pub enum Digits {
     Stray,
 }
 
-// What a digit counts, 99 for no digit.
+// Over every base.
+const NO_DIGIT: u8 = 99;
+
+// How far `A` and `a` are over what they count.
+const CAPITALS: u8 = 55;
+
+const SMALLS: u8 = 87;
+
+// What a digit counts, or `NO_DIGIT`; `:` follows `9`.
 fn digit(b: u8) -> u8
     ensures { λ r. ⌜ r ≡ meant.digit b ⌝ }
 {
-    if b < 48 {
-        99
-    } else if b < 58 {
-        b - 48
-    } else if b < 65 {
-        99
-    } else if b < 71 {
-        b - 55
-    } else if b < 97 {
-        99
-    } else if b < 103 {
-        b - 87
+    if b < b'0' {
+        NO_DIGIT
+    } else if b < b':' {
+        b - b'0'
+    } else if b < b'A' {
+        NO_DIGIT
+    } else if b < b'G' {
+        b - CAPITALS
+    } else if b < b'a' {
+        NO_DIGIT
+    } else if b < b'g' {
+        b - SMALLS
     } else {
-        99
+        NO_DIGIT
     }
 }
 
-// One digit more behind the value acc; the quotient tells what would not fit before it is made.
+// One digit more after the value acc; the quotient tells what would not fit before it is made.
 fn more(base: u64, limit: u64, acc: u64, b: u8) -> Digits
     ensures { λ r. ⌜ digitsOf r ≡ more base limit acc b ⌝ }
 {
@@ -67,7 +75,7 @@ fn digits_at(s: &[u8], from: usize, base: u64, limit: u64) -> Digits
     let mut acc: u64 = 0;
     while i < s.len() {
         let b = s[i];
-        if b == 95 {
+        if b == b'_' {
             i += 1;
         } else {
             match more(base, limit, acc, b) {
@@ -102,7 +110,7 @@ fn skip(s: &[u8], i: usize) -> usize
 {
     let mut r = i;
     while r < s.len() {
-        if s[r] != 95 {
+        if s[r] != b'_' {
             return r;
         }
         r += 1;
@@ -137,7 +145,7 @@ fn magnitude(s: &[u8], i: usize, neg: bool, base: u64) -> Int
         return Int::Wrong;
     }
     match digits_at(s, i, base, most(neg)) {
-        Digits::Count(n) => Int::Value(Signed { neg: neg, mag: n }),
+        Digits::Count(n) => Int::Value(Signed { neg, mag: n }),
         Digits::Stray => Int::Wrong,
     }
 }
@@ -149,10 +157,10 @@ fn sign(s: &[u8], i: usize, base: u64) -> Int
 {
     let b = first(s, i);
     let j = past(s, i);
-    if b == 45 {
+    if b == b'-' {
         return magnitude(s, j, true, base);
     }
-    if b == 43 {
+    if b == b'+' {
         return magnitude(s, j, false, base);
     }
     magnitude(s, i, false, base)
@@ -166,11 +174,11 @@ pub fn read_int(s: &[u8]) -> Int
     let j = past(s, 0);
     let b = first(s, j);
     let k = past(s, j);
-    if a == 48 {
-        if b == 120 {
+    if a == b'0' {
+        if b == b'x' {
             return sign(s, k, 16);
         }
-        if b == 88 {
+        if b == b'X' {
             return sign(s, k, 16);
         }
         return sign(s, 0, 10);

@@ -1,15 +1,11 @@
-// Keys and headers: segments split at every dot, each decoded into the store behind those already there.
+// Keys and headers: segments split at every dot, each decoded into the store after those already there.
 
 use crate::string::Decoded;
 use crate::string::put_string;
-use meaning::StringByte;
 ghost use mathlib.Core.Path.{_≡_};
 ghost use Rattle.meaning.specs.Base as base;
-ghost use Rattle.meaning.specs.Keys as meant;
-ghost use Rattle.meaning.specs.Space as space;
-ghost use Rattle.meaning.specs.Strings as strings;
 ghost use Rattle.scalar.specs.Stores.{Room, stored};
-ghost use Rattle.scalar.specs.Segments.{isFine, judged, laid, Segmented};
+ghost use Rattle.scalar.specs.Segments.{isFine, judged, BareSegment, QuotedSegment, TrimmedSegment, KeyPart};
 ghost use Rattle.scalar.specs.Splits.{keyOf, Asked, Splits};
 
 // What a segment or a key comes to: fine, or refusal 7, 8, 9 or 15.
@@ -27,7 +23,7 @@ pub struct Segment {
     pub written: usize,
 }
 
-// What a key comes to: how many segments were taken, up to where the store is used, and where in it each segment ends, 0 behind the last.
+// What a key comes to: how many segments were taken, up to where the store is used, and where in it each segment ends, 0 after the last.
 pub struct Key {
     pub verdict: Verdict,
     pub n: usize,
@@ -40,10 +36,7 @@ fn is_fine(v: Verdict) -> bool
 {
     match v {
         Verdict::Fine => true,
-        Verdict::Malformed => false,
-        Verdict::Escape => false,
-        Verdict::Unended => false,
-        Verdict::TooMany => false,
+        _ => false,
     }
 }
 
@@ -62,7 +55,7 @@ fn last(s: &[u8]) -> u8
 fn judge(end: u8, written: usize) -> Verdict
     ensures { λ r. ⌜ r ≡ judged end written ⌝ }
 {
-    if end == 34 {
+    if end == b'"' {
         if written == 0 {
             return Verdict::Malformed;
         }
@@ -82,7 +75,7 @@ fn lay(p: &[u8], store: &mut [u8], used: usize)
 // A segment without quotes, laid as it is. 7 leaves nothing, since it is empty.
 fn put_bare(p: &[u8], store: &mut [u8], used: usize) -> Segment
     requires { ⌜ Room (now p) (now store) used ⌝ }
-    ensures { λ r. ⌜ Segmented (now (p .entry)) (meant.nonempty (now (p .entry))) (now (p .entry)) (now (store .entry)) used (now (store .exit)) r ⌝ }
+    ensures { λ r. ⌜ BareSegment (now (p .entry)) (now (store .entry)) used (now (store .exit)) r ⌝ }
 {
     let n = p.len();
     lay(p, store, used);
@@ -98,10 +91,10 @@ fn put_bare(p: &[u8], store: &mut [u8], used: usize) -> Segment
     }
 }
 
-// A segment behind its opening quote. 8 and 9 leave what is decoded until then, 7 the whole string.
+// A segment after its opening quote. 8 and 9 leave what is decoded until then, 7 the whole string.
 fn put_quoted(p: &[u8], store: &mut [u8], used: usize) -> Segment
     requires { ⌜ Room (now p) (now store) used ⌝ }
-    ensures { λ r. ⌜ Segmented (now (p .entry)) (meant.quoted (now (p .entry))) (strings.decode StringByte.Plain (now (p .entry)) .bytes) (now (store .entry)) used (now (store .exit)) r ⌝ }
+    ensures { λ r. ⌜ QuotedSegment (now (p .entry)) (now (store .entry)) used (now (store .exit)) r ⌝ }
 {
     let end = last(p);
     let d = put_string(p, store, used);
@@ -110,16 +103,16 @@ fn put_quoted(p: &[u8], store: &mut [u8], used: usize) -> Segment
             let v = judge(end, written);
             Segment {
                 verdict: v,
-                written: written,
+                written,
             }
         }
         Decoded::Escape { at: _, written } => Segment {
             verdict: Verdict::Escape,
-            written: written,
+            written,
         },
         Decoded::Unended { written } => Segment {
             verdict: Verdict::Unended,
-            written: written,
+            written,
         },
     }
 }
@@ -127,9 +120,9 @@ fn put_quoted(p: &[u8], store: &mut [u8], used: usize) -> Segment
 // A trimmed segment.
 fn put_trimmed(p: &[u8], store: &mut [u8], used: usize) -> Segment
     requires { ⌜ Room (now p) (now store) used ⌝ }
-    ensures { λ r. ⌜ Segmented (now (p .entry)) (meant.segment (now (p .entry))) (laid (now (p .entry))) (now (store .entry)) used (now (store .exit)) r ⌝ }
+    ensures { λ r. ⌜ TrimmedSegment (now (p .entry)) (now (store .entry)) used (now (store .exit)) r ⌝ }
 {
-    if slices::peek(p, 0) == 34 {
+    if slices::peek(p, 0) == b'"' {
         return put_quoted(&p[1..], store, used);
     }
     put_bare(p, store, used)
@@ -138,7 +131,7 @@ fn put_trimmed(p: &[u8], store: &mut [u8], used: usize) -> Segment
 // One part of a key between dots. 8 and 9 leave what is decoded until then, 7 the whole string or nothing.
 pub fn put_segment(s: &[u8], store: &mut [u8], used: usize) -> Segment
     requires { ⌜ Room (now s) (now store) used ⌝ }
-    ensures { λ r. ⌜ Segmented (now (s .entry)) (meant.segment (space.trim (now (s .entry)))) (laid (space.trim (now (s .entry)))) (now (store .entry)) used (now (store .exit)) r ⌝ }
+    ensures { λ r. ⌜ KeyPart (now (s .entry)) (now (store .entry)) used (now (store .exit)) r ⌝ }
 {
     let t = chars::trim(s);
     let from = t.from;
@@ -150,10 +143,10 @@ fn answered(verdict: Verdict, n: usize, used: usize, ends: [usize; 16]) -> Key
     ensures { λ r. ⌜ r ≡ keyOf verdict n used ends ⌝ }
 {
     Key {
-        verdict: verdict,
-        n: n,
-        used: used,
-        ends: ends,
+        verdict,
+        n,
+        used,
+        ends,
     }
 }
 
@@ -167,7 +160,7 @@ pub fn put_key(s: &[u8], store: &mut [u8], used: usize, limit: usize) -> Key
     let mut at = used;
     let mut i = 0;
     while n < limit {
-        let k = slices::find(&s[i..], 46);
+        let k = slices::find(&s[i..], b'.');
         let e = i + k;
         let r = put_segment(&s[i..e], store, at);
         let v = r.verdict;

@@ -1,4 +1,4 @@
-// A string behind its opening quote, decoded into a lent room.
+// A string after its opening quote, decoded into a lent room.
 
 use meaning::Act;
 use meaning::StringByte;
@@ -69,7 +69,7 @@ pub fn decode(src: &[u8], out: &mut [u8]) -> Decoded
                 };
             }
             Act::Fault => {
-                return Decoded::Escape { at: at, written: n };
+                return Decoded::Escape { at, written: n };
             }
             Act::Hold => {
                 at = i;
@@ -88,7 +88,7 @@ pub fn decode(src: &[u8], out: &mut [u8]) -> Decoded
     Decoded::Unended { written: n }
 }
 
-// Decodes src into the unused rest of the store. A refusal leaves what is decoded until then behind what stood there.
+// Decodes src into the unused rest of the store. A refusal leaves what is decoded until then after what stood there.
 pub fn put_string(src: &[u8], store: &mut [u8], used: usize) -> Decoded
     requires { ⌜ Room (now src) (now store) used ⌝ }
     ensures { λ r. ⌜ Puts (now (src .entry)) (now (store .entry)) used (now (store .exit)) r ⌝ }

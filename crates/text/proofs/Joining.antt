@@ -88,7 +88,7 @@ pub gather-start : (s : List ℕ) → Gathering s 0 1 (record { state = Outside;
 gather-start s =
     record { high = omega arith; opens = omega arith; closes = omega arith; some = omega arith; lines = omega arith; scans = refl; left = mid-start s }
 
--- behind a run
+-- after a run
 gather-run : (s : List ℕ) (i m : ℕ) (x : Scan) (n : ℕ) → Gathering s i m x → Run (x .state) (take (length s - i) (drop i s)) n → Gathering s (i + n) m x
 gather-run s i m x n k p =
     let r : Run (x .state) (drop i s) n = rw (rest-of s i) at p in
@@ -162,7 +162,7 @@ module _ (s : List ℕ) (i m : ℕ) (x : Scan) (k : Gathering s i m x) where
       let f : Fit s (pick (eqb m 1) joints.Nothing joints.Open) = on (eqb m 1) (λ p. rw p tt) (λ p. rw p tt) in
       rw e (record { is = sym (mid-end (take i s) m) ∙ rw (drop-of-length-le s h) at (k .left); fit = f })
 
--- ---- the ways on and out, each behind a run
+-- ---- the ways on and out, each after a run
 module _ (s : List ℕ) (i m : ℕ) (x : Scan) (k : Gathering s i m x) (n : ℕ) (p : Run (x .state) (take (length s - i) (drop i s)) n) where
   at-run : Gathering s (i + n) m x
   at-run = gather-run s i m x n k p

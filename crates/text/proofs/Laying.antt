@@ -163,7 +163,7 @@ module _ (s o : List ℕ) (n m k : ℕ) (e : n ≡ before 10 s) (h : n ≤ lengt
     pub piece-last : length s ≤ n → 0 < length s → Lays1 s o o' (record { taken = n; written = k + 1 })
     piece-last l z = record { some = omega arith; fits = omega arith; wrote = line-size; goes = goes-last l z; left = q ∙ rw line-is }
 
--- ---- the loop: w is laid, and what is left of s goes behind it
+-- ---- the loop: w is laid, and what is left of s goes after it
 pub record Laying (s room₀ room : List ℕ) (i j : ℕ) : Type 0 where
   pub high : i ≤ length s
   pub fits : length s < length room₀

@@ -8,5 +8,4 @@ pub mod Walking
 pub mod Saying
 pub mod Checking
 pub mod Whole
-pub mod Items
 pub mod Standing

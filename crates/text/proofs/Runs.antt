@@ -67,7 +67,7 @@ run-on st s i r k h q t = record {
   all = rw (add-one, take-suc s i 0 h) (quiets-more st (take i s) (getD s i 0) (k .all) (q t));
 }
 
--- ---- the scan behind a run
+-- ---- the scan after a run
 step-quiet : (x : Scan) (b : ℕ) → Quiet (x .state) b → step x b ≡ x
 unfolding step tally
 step-quiet x b q = rw (q .same, q .opens, q .closes)

@@ -1,4 +1,4 @@
--- The theorem behind the walk: the next joined line is the first of 01's joined lines, and the others start behind it.
+-- The theorem under the walk: the next joined line is the first of 01's joined lines, and the others start after it.
 use Prim.Native.Nat.{ℕ, zero, suc, _+_, _-_, _≤_, _<_}
 use mathlib.Core.Bool.{Bool, true, false}
 use mathlib.Core.List.{List, [], _∷_, _++_, append-assoc, append-nil}
@@ -26,7 +26,7 @@ use Rattle.text.specs.Laid.{linesOf}
 use Rattle.text.specs.Walk.{gather, placed, nextIn, next, Says}
 use Rattle.text.proofs.Cuts.{lines-there, lines-none}
 
--- ---- the first line of a laid text, and what is behind its LF
+-- ---- the first line of a laid text, and what is after its LF
 record Split (f l : List ℕ) (ls : List (List ℕ)) : Type 0 where
   rest : List ℕ
   is : f ≡ l ++ (10 ∷ rest)
@@ -75,7 +75,7 @@ after-nothing : (j : Answer (List Line)) → acceptedThen j (λ r. accepted r) �
 after-nothing (accepted x) = refl
 after-nothing (refused f a p) = refl
 
--- all joined lines behind a step, where the lines ls, the first of number k, follow
+-- all joined lines after a step, where the lines ls, the first of number k, follow
 abbrev onward : ℕ → List (List ℕ) → Answer Step → Answer (List Line)
 onward k ls st = acceptedThen st (λ x. acceptedThen (join (x .pending) k ls) (λ r. accepted (x .out ++ r)))
 

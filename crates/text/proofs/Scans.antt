@@ -50,7 +50,7 @@ scan-on s i x y k h e =
 pub scan-end : (s : List ℕ) (i : ℕ) (x : Scan) → Scanning s i x → length s ≤ i → x ≡ scan fresh s
 scan-end s i x k h = rw (drop-of-length-le s h) at (k .left)
 
--- ---- a string from behind its opening quote on
+-- ---- a string from after its opening quote on
 pub record Quoting (s : List ℕ) (i : ℕ) (st : StringState) : Type 0 where
   pub high : i ≤ length s
   pub inside : quotesClosed st ≡ false

@@ -1,4 +1,4 @@
--- Kept lines one behind the other: a joined line is a part of this text, and a line number is a count of LFs.
+-- Kept lines one after the other: a joined line is a part of this text, and a line number is a count of LFs.
 use Prim.Native.Nat.{ℕ, _+_, _-_, _≤_, _<_}
 use mathlib.Core.Bool.{Bool}
 use mathlib.Core.List.{List, [], _∷_, _++_}

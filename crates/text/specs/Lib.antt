@@ -1,5 +1,4 @@
 pub mod Laid
 pub mod Walk
 pub mod Answers
-pub mod Item
 pub mod Runs

@@ -38,7 +38,7 @@ jointIn (l ∷ ls) = gather l 1 ls
 unfoldable pub joint : List ℕ → Joint
 joint s = jointIn (linesOf s)
 
--- a text that ends behind the LFs of m - 1 lines
+-- a text that ends after the LFs of m - 1 lines
 unfoldable pub ending : ℕ → Joint
 ending m = pick (eqb m 1) joints.Nothing joints.Open
 
@@ -85,7 +85,7 @@ pub record Skipped (s : List ℕ) (at n : ℕ) (p : Place) : Type 0 where
   pub count : p .line + at ≤ n + p .at
   pub is : next s at n ≡ pick (ltb (p .at) (length s)) (placed (p .at) (p .line) (joint (drop (p .at) s))) nexts.End
 
--- joined line l lies behind at, and the place behind it in s; a line number grows by no more than the bytes passed
+-- joined line l lies after at, and the place after it in s; a line number grows by no more than the bytes passed
 pub record Onward (s : List ℕ) (at n from end l : ℕ) (p : Place) : Type 0 where
   pub on : at ≤ from
   pub number : l + at ≤ n + from
@@ -105,7 +105,7 @@ pub record Follows (s : List ℕ) (at n : ℕ) (r : Next) : Type 0 where
   pub is : r ≡ next s at n
   pub advance : Advance s at n r
 
--- what the next joined line says of all the joined lines j from there on: it is the first, and the others start behind it
+-- what the next joined line says of all the joined lines j from there on: it is the first, and the others start after it
 abbrev pub Says : List ℕ → Answer (List Line) → Next → Type 0
 Says s j nexts.End = j ≡ accepted []
 Says s j (nexts.Over n) = j ≡ atLine 3 n

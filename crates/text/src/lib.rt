@@ -1,4 +1,4 @@
-// From bytes to joined lines: comments cut, lines laid one behind the other, brackets and quotes, refusals 1 to 4.
+// From bytes to joined lines: comments cut, lines laid one after the other, brackets and quotes, refusals 1 to 4.
 
 use meaning::Fate;
 use meaning::Limits;
@@ -10,11 +10,9 @@ ghost use Prim.Native.Nat.{_+_, _≤_, _<_};
 ghost use lib.ListN.{length};
 ghost use Rattle.meaning.specs.Quote as quotes;
 ghost use Rattle.meaning.specs.Lines as meant;
-ghost use Rattle.meaning.specs.Values as values;
 ghost use Rattle.text.specs.Laid.{Begins, Fitting, Lays1, Lays, Bare, Bares, laid, ended, over};
 ghost use Rattle.text.specs.Walk as walk;
 ghost use Rattle.text.specs.Answers.{Between, Checks, Roomy, Reads};
-ghost use Rattle.text.specs.Item.{Item};
 ghost use Rattle.text.specs.Runs as runs;
 ghost use Rattle.text.specs.Runs.{Quiet, Run, Quoted};
 
@@ -38,7 +36,7 @@ pub enum Joint {
     Whole { end: usize, lines: usize },
 }
 
-// The next joined line: none; refusal 3 or 4 at a line; or where it lies, its line and the place behind it.
+// The next joined line: none; refusal 3 or 4 at a line; or where it lies, its line and the place after it.
 pub enum Next {
     End,
     Over(usize),
@@ -92,7 +90,7 @@ fn state_after(state: StringState, b: u8) -> StringState
 }
 
 // Whether b is c, outside a string.
-fn hits(c: u8, state: StringState, b: u8) -> bool
+pub fn hits(c: u8, state: StringState, b: u8) -> bool
     ensures { λ r. ⌜ r ≡ quotes.hits c state b ⌝ }
 {
     match state {
@@ -113,7 +111,7 @@ fn tally(c: u8, state: StringState, b: u8, n: usize) -> usize
 }
 
 // The scan after one byte.
-fn step(c: Scan, b: u8) -> Scan
+pub fn step(c: Scan, b: u8) -> Scan
     requires { ⌜ (c .opens < 18446744073709551615) × (c .closes < 18446744073709551615) ⌝ }
     ensures { λ r. ⌜ r ≡ quotes.step c b ⌝ }
 {
@@ -196,7 +194,7 @@ fn quotes_closed(state: StringState) -> bool
     }
 }
 
-// How many bytes a string has from behind its opening quote on, with the closing one; or all of them.
+// How many bytes a string has from after its opening quote on, with the closing one; or all of them.
 fn quoted(s: &[u8]) -> usize
     ensures { λ r. ⌜ Quoted (now (s .entry)) r ⌝ }
 {
@@ -229,38 +227,6 @@ pub fn outside(s: &[u8], c: u8) -> usize
         } else {
             i += 1;
         }
-    }
-    i
-}
-
-// Whether b parts two items.
-fn parts(c: Scan, b: u8) -> bool
-    ensures { λ r. ⌜ r ≡ values.parts? c b ⌝ }
-{
-    let state = c.state;
-    if hits(b',', state, b) {
-        return c.opens == c.closes;
-    }
-    false
-}
-
-// How many bytes stand before the first comma that parts items, or all of them.
-pub fn item(s: &[u8]) -> usize
-    ensures { λ r. ⌜ Item (now (s .entry)) r ⌝ }
-{
-    let mut i = 0;
-    let mut x = Scan {
-        state: StringState::Outside,
-        opens: 0,
-        closes: 0,
-    };
-    while i < s.len() {
-        let b = s[i];
-        if parts(x, b) {
-            return i;
-        }
-        x = step(x, b);
-        i += 1;
     }
     i
 }
@@ -395,7 +361,7 @@ pub fn clean(s: &[u8]) -> bool
     false
 }
 
-// What a text comes to that ends behind the LFs of m - 1 lines.
+// What a text comes to that ends after the LFs of m - 1 lines.
 fn ending(m: usize) -> Joint
     ensures { λ r. ⌜ r ≡ walk.ending m ⌝ }
 {
@@ -451,10 +417,10 @@ fn join_line(s: &[u8]) -> Joint
 fn dark(b: u8) -> bool
     ensures { λ r. ⌜ (r ≡ true → walk.Dark b) ⌝ }
 {
-    if 32 < b { b < 128 } else { false }
+    if b' ' < b { b < 128 } else { false }
 }
 
-// Passes blank lines; where no line is left, to the end or to what is behind the last LF.
+// Passes blank lines; where no line is left, to the end or to what is after the last LF.
 fn skip(s: &[u8], at: usize, line: usize) -> Place
     requires { ⌜ line < 4294967296 ⌝ }
     ensures { λ r. ⌜ walk.Skipped (now (s .entry)) at line r ⌝ }
@@ -500,7 +466,7 @@ pub fn next_line(s: &[u8], at: usize, line: usize) -> Next
         Joint::Over => Next::Over(n),
         Joint::Open => Next::Open(n),
         Joint::Whole { end, lines } => Next::Line {
-            from: from,
+            from,
             end: from + end,
             line: n,
             next: Place {
@@ -558,10 +524,7 @@ pub fn lines(text: &[u8], scratch: &mut [u8], limits: Limits) -> Reading
         let used = lay(text, scratch);
         let c = check(&scratch[..used], 0, 1);
         match c {
-            Checked::Fine(n) => Reading::Fine {
-                lines: n,
-                used: used,
-            },
+            Checked::Fine(n) => Reading::Fine { lines: n, used },
             Checked::Over(l) => Reading::Over(l),
             Checked::Open(l) => Reading::Open(l),
         }

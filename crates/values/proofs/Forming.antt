@@ -8,7 +8,7 @@ use borrow.Author.Tests.{lt-ltb, le-ltb, ltb-true, ltb-false}
 use lib.Dec.{ltb}
 use lib.ListN.{length, getD, take, drop}
 use Rattle.meaning.specs.Base.{pick}
-use Rattle.meaning.specs.declared.StringState.the-variants.{Outside, Inside}
+use Rattle.meaning.specs.declared.StringState.the-variants.{Outside}
 use Rattle.meaning.specs.Quote.{upTo}
 use Rattle.meaning.specs.Document as meant
 use Rattle.laws.specs.Cases.{on, never}

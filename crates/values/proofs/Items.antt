@@ -17,7 +17,7 @@ use Rattle.meaning.specs.Values.{parts?}
 use Rattle.laws.specs.Cases.{on}
 use Rattle.laws.specs.Parts.{rest-of}
 use Rattle.laws.specs.Splits.{others, split-step}
-use Rattle.text.specs.Item.{Item, itemSize}
+use Rattle.values.specs.Item.{Item, itemSize}
 use Rattle.values.specs.declared.State.{State}
 use Rattle.values.specs.declared.Reply.{Reply}
 use Rattle.values.specs.declared.Reply.the-variants.{Fine, Fault}

@@ -2,6 +2,7 @@ pub mod Forming
 pub mod Outs
 pub mod Making
 pub mod Strings
+pub mod Parting
 pub mod Items
 pub mod Arrays
 pub mod Values

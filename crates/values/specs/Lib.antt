@@ -1,3 +1,4 @@
+pub mod Item
 pub mod Out
 pub mod Fill
 pub mod Layout

@@ -2,6 +2,7 @@
 
 pub mod form;
 pub mod grow;
+pub mod splitting;
 pub mod value;
 
 // How many bytes of the store are used, and how many values are made.

@@ -2,6 +2,7 @@
 
 use crate::Reply;
 use crate::State;
+use crate::splitting;
 use scalar::integer::Int;
 use scalar::string::Decoded;
 use tree::KIND_ARRAY;
@@ -221,7 +222,7 @@ fn items(
     let mut i = 0;
     let mut cur = st;
     while i < s.len() {
-        let k = text::item(&s[i..]);
+        let k = splitting::item(&s[i..]);
         let e = i + k;
         if chars::blank(&s[i..e]) {
             i = e + 1;

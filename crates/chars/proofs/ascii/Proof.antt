@@ -1,3 +1,4 @@
+-- The bytes so far, joined bit by bit, are all at most m; so m below 128 says that all are ASCII.
 use borrow.Author.Needs.{needs}
 use lib.ListN.{length}
 use Prim.Native.Nat.{_-_}

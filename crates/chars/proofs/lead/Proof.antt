@@ -1,3 +1,4 @@
+-- All bytes before i are spaces, so the trimmed text starts no earlier.
 use Prim.Native.Nat.{_-_}
 use borrow.Author.Needs.{needs}
 use lib.ListN.{length}

@@ -1,3 +1,4 @@
+-- All bytes from e on are spaces, so the trimmed text ends no later.
 use borrow.Author.Needs.{needs}
 use Rattle.chars.specs.Trimmed.{Ending}
 use Rattle.chars.proofs.Spaces.{ending-start}

@@ -1,3 +1,4 @@
+-- The bytes from e on are white space, and each step takes one white character more, until one is none.
 use borrow.Author.Needs.{needs}
 use Rattle.chars.specs.Trimmed.{Ending}
 use Rattle.chars.proofs.Spaces.{ending-start, prefix-count, end-ascii, end-plain, end-bound, end-on, end-halt, end-end}

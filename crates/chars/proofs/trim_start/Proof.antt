@@ -1,3 +1,4 @@
+-- The bytes before i are white space, and each step takes one white character more, until one is none.
 use borrow.Author.Needs.{needs}
 use Rattle.chars.specs.Trimmed.{Starting}
 use Rattle.chars.proofs.Spaces.{start-fits, start-ascii, start-plain, start-on, start-stop, start-end}

@@ -1,3 +1,4 @@
+-- The bytes before i are whole characters, so the text is valid where the rest from i on is.
 use borrow.Author.Needs.{needs}
 use Rattle.chars.proofs.Eights.{check-eight, all-ascii}
 use Rattle.chars.proofs.Spaces.{Checking, check-fits, check-on, check-stop, check-end}

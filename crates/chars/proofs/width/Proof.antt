@@ -27,14 +27,14 @@ returns-3 c = search (needs, two-bytes)
 at-requires-3 : tie.Need-at-requires-3
 at-requires-3 c κs = search needs
 
+at-requires-4 : tie.Need-at-requires-4
+at-requires-4 c κs = search needs
+
 three-requires : tie.Need-three-requires
 three-requires c κs = search needs
 
 returns-4 : tie.Need-returns-4
 returns-4 c = search (needs, three-bytes)
-
-at-requires-4 : tie.Need-at-requires-4
-at-requires-4 c κs = search needs
 
 four-requires : tie.Need-four-requires
 four-requires c κs = search needs
@@ -57,9 +57,9 @@ width-spec =
     row2-requires
     returns-3
     at-requires-3
+    at-requires-4
     three-requires
     returns-4
-    at-requires-4
     four-requires
     returns-5
     returns-6)

@@ -1,3 +1,4 @@
+-- While m is 0, no byte before i is a `#` or a CR.
 use borrow.Author.Needs.{needs}
 use lib.ListN.{length}
 use Prim.Native.Nat.{_-_}

@@ -1,3 +1,4 @@
+-- The joined lines before i are counted, and what the rest from i on says decides.
 use Rattle.text.proofs.Checking.{check-less}
 use borrow.Author.Needs.{needs}
 use Rattle.text.proofs.Checking.{Checking, check-start, check-end, none-left, over-told, open-told, onward, check-on}

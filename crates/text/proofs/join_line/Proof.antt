@@ -1,3 +1,4 @@
+-- The scan so far is that of the joined text up to i, so each LF is judged as 01 judges the joined line.
 use Prim.Native.Nat.{_-_}
 use borrow.Author.Needs.{needs}
 use lib.ListN.{length}

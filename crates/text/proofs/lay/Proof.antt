@@ -1,3 +1,4 @@
+-- The lines before i are laid before j, and what is left of the text is laid after them.
 use borrow.Author.Needs.{needs}
 use Rattle.text.proofs.Laying.{Laying, lay-start, lay-done, lends, taken-within, written-within, lay-on}
 use lib.ListN.{length}

@@ -1,3 +1,4 @@
+-- Nothing is found before i, which stands outside strings, and a string is passed in one step.
 use borrow.Author.Needs.{needs}
 use Rattle.text.proofs.Scans.{Seeking, seek-hit, seek-on, seek-string, seek-end}
 use lib.ListN.{length}

@@ -1,3 +1,4 @@
+-- A byte whose bit is down is none of those that the state stops at; after a backslash nothing is claimed.
 use mathlib.Core.Bool.{false}
 use mathlib.Core.Path.{refl}
 use Rattle.laws.specs.Cases.{never}

@@ -1,3 +1,4 @@
+-- The string has not ended before i, so that nothing is found there and the count goes on from i.
 use borrow.Author.Needs.{needs}
 use Rattle.text.proofs.Scans.{Quoting, quoted-start, quoted-on, quoted-out, quoted-end}
 use lib.ListN.{length}

@@ -1,3 +1,4 @@
+-- Each byte before i is quiet, and the loop stops at the first that may not be.
 use borrow.Author.Needs.{needs}
 use Rattle.text.proofs.Runs.{run-start, run-on}
 use Rattle.text.specs.Runs.{Run}

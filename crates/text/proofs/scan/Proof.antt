@@ -1,3 +1,4 @@
+-- The scan so far, carried over the rest from i on, is the scan of the whole.
 use borrow.Author.Needs.{needs}
 use Rattle.text.proofs.Scans.{Scanning, scan-start, scan-on, scan-end}
 use lib.ListN.{length}

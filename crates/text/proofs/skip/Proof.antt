@@ -1,3 +1,4 @@
+-- The lines before i are blank, so the next joined line is the next one from i on.
 use borrow.Author.Needs.{needs}
 use Rattle.text.proofs.Walking.{Skipping, skip-start, skip-dark, skip-end, skip-out, skip-on, skip-found}
 use lib.ListN.{length}

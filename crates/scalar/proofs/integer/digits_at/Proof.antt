@@ -1,3 +1,4 @@
+-- Acc is the value of the digits before i, within the limit, and the rest goes on from it.
 use Rattle.scalar.proofs.Integers.{Counting, count-start, count-over, count-on, count-stop, count-end}
 use lib.ListN.{length}
 use Prim.Native.Nat.{_-_}

@@ -1,3 +1,4 @@
+-- All bytes from i to r are underscores.
 use Rattle.scalar.proofs.Integers.{Skipping, skip-start, skip-on, skip-stop, skip-end}
 use lib.ListN.{length}
 use Prim.Native.Nat.{_-_}

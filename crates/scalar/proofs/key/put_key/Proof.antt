@@ -1,3 +1,4 @@
+-- The segments before i are taken and laid, and the parts from i on decide what the key comes to.
 use Prim.Native.Nat.{_-_}
 use Rattle.scalar.proofs.Splitting.{Splitting, split-start, end-within, end-fits, part-room, used-within, split-last, split-on, split-refused, split-over}
 use borrow.Author.Needs.{needs}

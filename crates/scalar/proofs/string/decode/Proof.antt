@@ -1,3 +1,4 @@
+-- The n bytes in the room, and then what the rest from i on says, are what the whole string says.
 use Prim.Native.Nat.{_-_}
 use Rattle.scalar.proofs.Decoding.{Reading, start, closed-out, escape-out, hold-on, put-on, unended-out}
 use borrow.Author.Needs.{needs}

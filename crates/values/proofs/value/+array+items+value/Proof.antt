@@ -19,7 +19,7 @@ use Rattle.values.proofs.value.+array+items+value.Lts-value as value-lt
 use Rattle.chars.proofs.blank.Reads as blank-reads
 use Rattle.chars.proofs.trim.Reads as trim-reads
 use Rattle.slices.proofs.peek.Reads as peek-reads
-use Rattle.text.proofs.item.Reads as item-reads
+use Rattle.values.proofs.splitting.item.Reads as item-reads
 use Rattle.values.proofs.value.open_array.Reads as open-array-reads
 use Rattle.values.proofs.value.plain.Reads as plain-reads
 use Rattle.values.proofs.value.string.Reads as string-reads

@@ -1,11 +1,11 @@
 use borrow.Author.Needs.{needs}
 use Rattle.meaning.specs.Values.{parts?}
 use Rattle.laws.specs.Tests.{calls}
-use Rattle.text.proofs.parts.Statement.{statement}
-use Rattle.text.proofs.parts.Tie as tie
-use Rattle.text.proofs.parts.Reads as reads
-use Rattle.text.proofs.parts.Lts as lts
+use Rattle.values.proofs.splitting.parts.Statement.{statement}
+use Rattle.values.proofs.splitting.parts.Tie as tie
+use Rattle.values.proofs.splitting.parts.Reads as reads
+use Rattle.values.proofs.splitting.parts.Lts as lts
 use Rattle.text.proofs.hits.Reads as hits-reads
 
 hits-requires : tie.Need-hits-requires
 hits-requires c κs = search needs

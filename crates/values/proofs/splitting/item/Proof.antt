@@ -1,13 +1,14 @@
+-- No comma before i parts items, and the scan is that of the bytes before i.
 use borrow.Author.Needs.{needs}
-use Rattle.text.proofs.Items.{Parting, part-start, part-on, part-hit, part-end}
+use Rattle.values.proofs.Parting.{Parting, part-start, part-on, part-hit, part-end}
 use lib.ListN.{length}
 use Prim.Native.Nat.{_-_}
-use Rattle.text.proofs.item.Statement.{statement}
-use Rattle.text.proofs.item.Tie as tie
-use Rattle.text.proofs.item.Reads as reads
-use Rattle.text.proofs.item.Lts as lts
-use Rattle.text.proofs.parts.Reads as parts-reads
+use Rattle.values.proofs.splitting.item.Statement.{statement}
+use Rattle.values.proofs.splitting.item.Tie as tie
+use Rattle.values.proofs.splitting.item.Reads as reads
+use Rattle.values.proofs.splitting.item.Lts as lts
+use Rattle.values.proofs.splitting.parts.Reads as parts-reads
 use Rattle.text.proofs.step.Reads as step-reads
 
 abbrev Inv-loop : tie.InvT-loop
 Inv-loop s i₀ x₀ i x = Parting s i x

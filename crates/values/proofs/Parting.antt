@@ -13,7 +13,7 @@ use Rattle.meaning.specs.Quote.{step}
 use Rattle.meaning.specs.Values.{parts?}
 use Rattle.laws.specs.Scans.{step-opens, step-closes}
 use Rattle.laws.specs.Splits.{lead}
-use Rattle.text.specs.Item.{Item, itemSize}
+use Rattle.values.specs.Item.{Item, itemSize}
 
 pub record Parting (s : List ℕ) (i : ℕ) (x : Scan) : Type 0 where
   pub high : i ≤ length s
