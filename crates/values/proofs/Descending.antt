@@ -8,68 +8,68 @@ use lib.ListN.{length, getD, take, drop, set, length-set, drop-of-length-le}
 use lib.Seq.{drop-cons, getD-take, length-take-le}
 use Rattle.laws.specs.Stored.{stored}
 use Rattle.scalar.specs.Stores.{over}
+use Rattle.scalar.specs.declared.key.Key.{Key}
 use Rattle.tree.specs.declared.Slot.{Slot}
 use Rattle.tree.specs.Room.{Sized, cell, slotAt, hung}
 use Rattle.values.specs.declared.grow.Grown as code
 use Rattle.values.specs.declared.grow.Grown.the-variants.{At, Full, Clash}
 use Rattle.values.specs.Out.{cells}
 use Rattle.values.specs.Grow.{Seg, Grown, grown, stuck, segOf, segsOf, void, onward, enterS, downS, pushS, toLastS, hangS}
-use Rattle.values.specs.declared.grow.Path.{Path}
 use Rattle.values.specs.declared.grow.Segment.{Segment}
-use Rattle.values.specs.Carries.{slotsOf, Grows, Lies, Enters, Rising, Paths, Long, lastOf, Keyed, Hangs, Grew}
+use Rattle.values.specs.Carries.{slotsOf, Grows, Lies, Enters, Rising, Paths, LongKey, lastOf, Keyed, Hangs, Grew}
 use Rattle.values.proofs.Carrying.{length-cells, length-slots, over-over, slot-carried, sized-at, sized-set, set-over}
 use Rattle.values.proofs.Growing.{grew-over, Came, came, came-on, grew-same, grew-from, stays-full, stays-clash}
 
 -- the walk so far: i segments are walked, and what is left to walk is what was meant
-pub record Walking (limit : ℕ) (tree₀ store : List ℕ) (made p : ℕ) (path : Path) (n : ℕ) (tree : List ℕ) (m q from i : ℕ) : Type 0 where
+pub record Walking (limit : ℕ) (tree₀ store : List ℕ) (made p : ℕ) (key : Key) (at n : ℕ) (tree : List ℕ) (m q from i : ℕ) : Type 0 where
   pub high : i ≤ n
   pub more : made ≤ m
   pub grows : Grows limit tree m
   pub long : length tree ≡ length tree₀
   pub laid : tree ≡ over (cells (slotsOf tree m)) tree₀
-  pub rising : Rising store from (drop i (take n (path .ends)))
-  pub left : downS limit store (segsOf from (drop i (take n (path .ends)))) (slotsOf tree m) q ≡ downS limit store (segsOf (path .from) (take n (path .ends))) (slotsOf tree₀ made) p
+  pub rising : Rising store from (drop i (take n (key .ends)))
+  pub left : downS limit store (segsOf from (drop i (take n (key .ends)))) (slotsOf tree m) q ≡ downS limit store (segsOf at (take n (key .ends))) (slotsOf tree₀ made) p
 
-module _ (limit : ℕ) (tree₀ store : List ℕ) (made p : ℕ) (path : Path) (n : ℕ) (h : Paths limit tree₀ store made path n) where
-  pub walk-start : Walking limit tree₀ store made p path n tree₀ made p (path .from) 0
+module _ (limit : ℕ) (tree₀ store : List ℕ) (made p : ℕ) (key : Key) (at n : ℕ) (h : Paths limit tree₀ store made key at n) where
+  pub walk-start : Walking limit tree₀ store made p key at n tree₀ made p at 0
   walk-start = record { high = omega arith; more = omega arith; grows = h .grows; long = refl; laid = h .grows .carried .is; rising = h .rising; left = refl }
 
-  module _ (tree : List ℕ) (m q from i : ℕ) (w : Walking limit tree₀ store made p path n tree m q from i) (l : i < n) where
-    next : drop i (take n (path .ends)) ≡ getD (path .ends) i 0 ∷ drop (i + 1) (take n (path .ends))
+  module _ (tree : List ℕ) (m q from i : ℕ) (w : Walking limit tree₀ store made p key at n tree m q from i) (l : i < n) where
+    next : drop i (take n (key .ends)) ≡ getD (key .ends) i 0 ∷ drop (i + 1) (take n (key .ends))
     next =
         rw add-one
-        (drop-cons (take n (path .ends)) i 0 (omega (arith, length-take-le n (path .ends) (h .there)))
-        ∙ ap (λ (e : ℕ). e ∷ drop (suc i) (take n (path .ends))) (getD-take n (path .ends) i 0 l))
+        (drop-cons (take n (key .ends)) i 0 (omega (arith, length-take-le n (key .ends) (h .there)))
+        ∙ ap (λ (e : ℕ). e ∷ drop (suc i) (take n (key .ends))) (getD-take n (key .ends) i 0 l))
 
-    rises : Lies store from (getD (path .ends) i 0) × Rising store (getD (path .ends) i 0) (drop (i + 1) (take n (path .ends)))
+    rises : Lies store from (getD (key .ends) i 0) × Rising store (getD (key .ends) i 0) (drop (i + 1) (take n (key .ends)))
     rises = rw next at (w .rising)
 
-    pub walk-enters : Enters limit tree store m from (getD (path .ends) i 0)
+    pub walk-enters : Enters limit tree store m from (getD (key .ends) i 0)
     walk-enters = record { grows = w .grows; lies = rises .0 }
 
-    step : onward (enterS limit store (slotsOf tree m) q (segOf from (getD (path .ends) i 0))) (downS limit store (segsOf (getD (path .ends) i 0) (drop (i + 1) (take n (path .ends)))))
-        ≡ downS limit store (segsOf (path .from) (take n (path .ends))) (slotsOf tree₀ made) p
+    step : onward (enterS limit store (slotsOf tree m) q (segOf from (getD (key .ends) i 0))) (downS limit store (segsOf (getD (key .ends) i 0) (drop (i + 1) (take n (key .ends)))))
+        ≡ downS limit store (segsOf at (take n (key .ends))) (slotsOf tree₀ made) p
     step = rw next at (w .left)
 
     whole : (tree' : List ℕ) (g : Grown) (r : code.Grown) → Grew limit tree tree' m g r → Grew limit tree₀ tree' made g r
     whole tree' g r a = grew-from limit tree₀ tree tree' made m (slotsOf tree m) g r (w .long) (w .laid) (length-slots tree m) (w .more) a
 
-    module _ (tree' : List ℕ) (r : code.Grown) (a : Grew limit tree tree' m (enterS limit store (slotsOf tree m) q (segOf from (getD (path .ends) i 0))) r) where
+    module _ (tree' : List ℕ) (r : code.Grown) (a : Grew limit tree tree' m (enterS limit store (slotsOf tree m) q (segOf from (getD (key .ends) i 0))) r) where
       meant : Grown
-      meant = enterS limit store (slotsOf tree m) q (segOf from (getD (path .ends) i 0))
+      meant = enterS limit store (slotsOf tree m) q (segOf from (getD (key .ends) i 0))
 
       then : List Slot → ℕ → Grown
-      then = downS limit store (segsOf (getD (path .ends) i 0) (drop (i + 1) (take n (path .ends))))
+      then = downS limit store (segsOf (getD (key .ends) i 0) (drop (i + 1) (take n (key .ends))))
 
-      pub walk-full : r ≡ Full → Grew limit tree₀ tree' made (downS limit store (segsOf (path .from) (take n (path .ends))) (slotsOf tree₀ made) p) Full
+      pub walk-full : r ≡ Full → Grew limit tree₀ tree' made (downS limit store (segsOf at (take n (key .ends))) (slotsOf tree₀ made) p) Full
       unfolding meant then
       walk-full e = rw step at (whole tree' (onward meant then) Full (stays-full limit tree tree' m meant then r a e))
 
-      pub walk-clash : r ≡ Clash → Grew limit tree₀ tree' made (downS limit store (segsOf (path .from) (take n (path .ends))) (slotsOf tree₀ made) p) Clash
+      pub walk-clash : r ≡ Clash → Grew limit tree₀ tree' made (downS limit store (segsOf at (take n (key .ends))) (slotsOf tree₀ made) p) Clash
       unfolding meant then
       walk-clash e = rw step at (whole tree' (onward meant then) Clash (stays-clash limit tree tree' m meant then r a e))
 
-      pub walk-on : (m' q' : ℕ) → r ≡ At m' q' → Walking limit tree₀ store made p path n tree' m' q' (getD (path .ends) i 0) (i + 1)
+      pub walk-on : (m' q' : ℕ) → r ≡ At m' q' → Walking limit tree₀ store made p key at n tree' m' q' (getD (key .ends) i 0) (i + 1)
       unfolding meant then
       walk-on m' q' e =
           let c : Came limit tree tree' m meant m' q' = came limit tree tree' m meant r m' q' (w .grows .room) (w .grows .few) a e in
@@ -87,14 +87,14 @@ module _ (limit : ℕ) (tree₀ store : List ℕ) (made p : ℕ) (path : Path) (
             left = sym (ap (λ (g : Grown). onward g then) (c .is)) ∙ step;
           }
 
-  pub walk-out : (tree : List ℕ) (m q from i : ℕ) → Walking limit tree₀ store made p path n tree m q from i → n ≤ i
-      → Grew limit tree₀ tree made (downS limit store (segsOf (path .from) (take n (path .ends))) (slotsOf tree₀ made) p) (At m q)
+  pub walk-out : (tree : List ℕ) (m q from i : ℕ) → Walking limit tree₀ store made p key at n tree m q from i → n ≤ i
+      → Grew limit tree₀ tree made (downS limit store (segsOf at (take n (key .ends))) (slotsOf tree₀ made) p) (At m q)
   walk-out tree m q from i w l =
-      let b : length (take n (path .ends)) ≤ i = omega (arith, length-take-le n (path .ends) (h .there)) in
-      let d : drop i (take n (path .ends)) ≡ [] = drop-of-length-le (take n (path .ends)) b in
+      let b : length (take n (key .ends)) ≤ i = omega (arith, length-take-le n (key .ends) (h .there)) in
+      let d : drop i (take n (key .ends)) ≡ [] = drop-of-length-le (take n (key .ends)) b in
       let g : Grew limit tree₀ tree made (grown (slotsOf tree m) q) (At m q) =
       grew-from limit tree₀ tree tree made m (slotsOf tree m) (grown (slotsOf tree m) q) (At m q) (w .long) (w .laid) (length-slots tree m) (w .more) (grew-same limit tree m q (w .grows)) in
-      let e : grown (slotsOf tree m) q ≡ downS limit store (segsOf (path .from) (take n (path .ends))) (slotsOf tree₀ made) p = rw d at (w .left) in
+      let e : grown (slotsOf tree m) q ≡ downS limit store (segsOf at (take n (key .ends))) (slotsOf tree₀ made) p = rw d at (w .left) in
       rw e at g
 
 -- ---- the last segment
@@ -103,8 +103,8 @@ abbrev startOf : ℕ → List ℕ → ℕ → ℕ
 startOf at ends zero = at
 startOf at ends (suc i) = getD ends i 0
 
-abbrev lastSeg : Path → Seg
-lastSeg path = segOf (startOf (path .from) (path .ends) (path .n - 1)) (getD (path .ends) (path .n - 1) 0)
+abbrev lastSeg : Key → ℕ → Seg
+lastSeg key at = segOf (startOf at (key .ends) (key .n - 1)) (getD (key .ends) (key .n - 1) 0)
 
 starts-later : (at : ℕ) (es : List ℕ) (i : ℕ) → 0 < i → getD es (i - 1) 0 ≡ startOf at es i
 starts-later at es zero l = absurd (omega arith)
@@ -146,63 +146,63 @@ module _ (limit : ℕ) (bytes : List ℕ) (f : List Slot → ℕ → Seg → Gro
   to-last (j ∷ i ∷ ks) vs p = to-last-by (i ∷ ks) (enterS limit bytes vs p j) (to-last (i ∷ ks))
 
 -- ---- push_path, assign
-module _ (limit : ℕ) (tree store : List ℕ) (made p : ℕ) (path : Path) (h : Keyed limit tree store made path) where
-  pub last-paths : Paths limit tree store made path (path .n - 1)
+module _ (limit : ℕ) (tree store : List ℕ) (made p : ℕ) (key : Key) (at : ℕ) (h : Keyed limit tree store made key at) where
+  pub last-paths : Paths limit tree store made key at (key .n - 1)
   last-paths = record {
-    grows = h .along .grows;
-    rising = rising-take store (path .from) (path .ends) (path .n - 1) (path .n) (omega arith) (h .along .rising);
-    few = omega (arith, h .along .few);
-    there = omega (arith, h .along .there);
+    grows = h .path .grows;
+    rising = rising-take store at (key .ends) (key .n - 1) (key .n) (omega arith) (h .path .rising);
+    few = omega (arith, h .path .few);
+    there = omega (arith, h .path .there);
   }
 
-  last-long : (path .n ≡ 1 → ⊥) → Long path
-  last-long o = record { long = omega (arith, h .some, o); few = h .along .few }
+  last-long : (key .n ≡ 1 → ⊥) → LongKey key
+  last-long o = record { long = omega (arith, h .some, o); few = h .path .few }
 
   -- a key of one segment
-  module _ (o : path .n ≡ 1) where
-    one-lies : Lies store (path .from) (getD (path .ends) 0 0)
-    one-lies = rising-at store (path .from) (path .ends) 0 (path .n) (omega arith) (omega (arith, h .along .there)) (h .along .rising)
+  module _ (o : key .n ≡ 1) where
+    one-lies : Lies store at (getD (key .ends) 0 0)
+    one-lies = rising-at store at (key .ends) 0 (key .n) (omega arith) (omega (arith, h .path .there)) (h .path .rising)
 
-    pub one-enters : Enters limit tree store made (path .from) (getD (path .ends) 0 0)
-    one-enters = record { grows = h .along .grows; lies = one-lies }
+    pub one-enters : Enters limit tree store made at (getD (key .ends) 0 0)
+    one-enters = record { grows = h .path .grows; lies = one-lies }
 
-    pub one-hangs : (n : ℕ) → n < made → Hangs limit tree made (path .from) (getD (path .ends) 0 0) n
-    one-hangs n l = record { keys = record { grows = h .along .grows; up = one-lies .up; low = one-lies .low }; below = l }
+    pub one-hangs : (n : ℕ) → n < made → Hangs limit tree made at (getD (key .ends) 0 0) n
+    one-hangs n l = record { keys = record { grows = h .path .grows; up = one-lies .up; low = one-lies .low }; below = l }
 
     pub one-done : (f : List Slot → ℕ → Seg → Grown) (tree' : List ℕ) (r : code.Grown)
-        → Grew limit tree tree' made (f (slotsOf tree made) p (segOf (path .from) (getD (path .ends) 0 0))) r
-        → Grew limit tree tree' made (toLastS limit store f (segsOf (path .from) (take (path .n) (path .ends))) (slotsOf tree made) p) r
-    one-done f tree' r w = rw (o, segs-snoc (path .from) (path .ends) 0 (omega (arith, h .along .there))) w
+        → Grew limit tree tree' made (f (slotsOf tree made) p (segOf at (getD (key .ends) 0 0))) r
+        → Grew limit tree tree' made (toLastS limit store f (segsOf at (take (key .n) (key .ends))) (slotsOf tree made) p) r
+    one-done f tree' r w = rw (o, segs-snoc at (key .ends) 0 (omega (arith, h .path .there))) w
 
-  whole-path : (f : List Slot → ℕ → Seg → Grown) → toLastS limit store f (segsOf (path .from) (take (path .n) (path .ends))) (slotsOf tree made) p
-      ≡ onward (downS limit store (segsOf (path .from) (take (path .n - 1) (path .ends))) (slotsOf tree made) p)
-      (λ ws q. f ws q (lastSeg path))
+  whole-path : (f : List Slot → ℕ → Seg → Grown) → toLastS limit store f (segsOf at (take (key .n) (key .ends))) (slotsOf tree made) p
+      ≡ onward (downS limit store (segsOf at (take (key .n - 1) (key .ends))) (slotsOf tree made) p)
+      (λ ws q. f ws q (lastSeg key at))
   whole-path f =
-      let e : path .n ≡ suc (path .n - 1) = omega (arith, h .some) in
-      let s : segsOf (path .from) (take (path .n) (path .ends)) ≡ segsOf (path .from) (take (path .n - 1) (path .ends)) ++ (lastSeg path ∷ []) =
-      ap (λ (i : ℕ). segsOf (path .from) (take i (path .ends))) e ∙ segs-snoc (path .from) (path .ends) (path .n - 1) (omega (arith, h .some, h .along .there)) in
+      let e : key .n ≡ suc (key .n - 1) = omega (arith, h .some) in
+      let s : segsOf at (take (key .n) (key .ends)) ≡ segsOf at (take (key .n - 1) (key .ends)) ++ (lastSeg key at ∷ []) =
+      ap (λ (i : ℕ). segsOf at (take i (key .ends))) e ∙ segs-snoc at (key .ends) (key .n - 1) (omega (arith, h .some, h .path .there)) in
       ap (λ (ks : List Seg). toLastS limit store f ks (slotsOf tree made) p) s
-      ∙ to-last limit store f (lastSeg path) (segsOf (path .from) (take (path .n - 1) (path .ends))) (slotsOf tree made) p
+      ∙ to-last limit store f (lastSeg key at) (segsOf at (take (key .n - 1) (key .ends))) (slotsOf tree made) p
 
-  module _ (tree' : List ℕ) (r : code.Grown) (a : Grew limit tree tree' made (downS limit store (segsOf (path .from) (take (path .n - 1) (path .ends))) (slotsOf tree made) p) r) where
+  module _ (tree' : List ℕ) (r : code.Grown) (a : Grew limit tree tree' made (downS limit store (segsOf at (take (key .n - 1) (key .ends))) (slotsOf tree made) p) r) where
     walked : Grown
-    walked = downS limit store (segsOf (path .from) (take (path .n - 1) (path .ends))) (slotsOf tree made) p
+    walked = downS limit store (segsOf at (take (key .n - 1) (key .ends))) (slotsOf tree made) p
 
     last : (List Slot → ℕ → Seg → Grown) → List Slot → ℕ → Grown
-    last f ws q = f ws q (lastSeg path)
+    last f ws q = f ws q (lastSeg key at)
 
     -- a key of more segments: the step at its last one
-    module _ (m q : ℕ) (e : r ≡ At m q) (o : path .n ≡ 1 → ⊥) (s : Segment) (x : s ≡ lastOf path) where
+    module _ (m q : ℕ) (e : r ≡ At m q) (o : key .n ≡ 1 → ⊥) (s : Segment) (x : s ≡ lastOf key) where
       last-came : Came limit tree tree' made walked m q
       unfolding walked
-      last-came = came limit tree tree' made walked r m q (h .along .grows .room) (h .along .grows .few) a e
+      last-came = came limit tree tree' made walked r m q (h .path .grows .room) (h .path .grows .few) a e
 
-      starts : lastOf path .from ≡ startOf (path .from) (path .ends) (path .n - 1)
-      starts = starts-later (path .from) (path .ends) (path .n - 1) (omega (arith, last-long o .long))
+      starts : lastOf key .from ≡ startOf at (key .ends) (key .n - 1)
+      starts = starts-later at (key .ends) (key .n - 1) (omega (arith, last-long o .long))
 
       last-lies : Lies store (s .from) (s .end)
       last-lies =
-          rw (x, starts) (rising-at store (path .from) (path .ends) (path .n - 1) (path .n) (omega (arith, h .some)) (omega (arith, h .some, h .along .there)) (h .along .rising))
+          rw (x, starts) (rising-at store at (key .ends) (key .n - 1) (key .n) (omega (arith, h .some)) (omega (arith, h .some, h .path .there)) (h .path .rising))
 
       pub last-enters : Enters limit tree' store m (s .from) (s .end)
       last-enters = record { grows = last-came .grows; lies = last-lies }
@@ -213,23 +213,23 @@ module _ (limit : ℕ) (tree store : List ℕ) (made p : ℕ) (path : Path) (h :
       at-last : (List Slot → ℕ → Seg → Grown) → List Slot → ℕ → Grown
       at-last f ws q = f ws q (segOf (s .from) (s .end))
 
-      whole-step : (f : List Slot → ℕ → Seg → Grown) → toLastS limit store f (segsOf (path .from) (take (path .n) (path .ends))) (slotsOf tree made) p ≡ onward walked (at-last f)
+      whole-step : (f : List Slot → ℕ → Seg → Grown) → toLastS limit store f (segsOf at (take (key .n) (key .ends))) (slotsOf tree made) p ≡ onward walked (at-last f)
       unfolding walked at-last
       whole-step f =
           whole-path f
-          ∙ ap (λ (k : ℕ). onward walked (λ ws q. f ws q (segOf k (getD (path .ends) (path .n - 1) 0)))) (sym starts)
+          ∙ ap (λ (k : ℕ). onward walked (λ ws q. f ws q (segOf k (getD (key .ends) (key .n - 1) 0)))) (sym starts)
           ∙ ap (λ (y : Segment). onward walked (λ ws q. f ws q (segOf (y .from) (y .end)))) (sym x)
 
       pub last-done : (f : List Slot → ℕ → Seg → Grown) (tree'' : List ℕ) (g : code.Grown) → Grew limit tree' tree'' m (f (slotsOf tree' m) q (segOf (s .from) (s .end))) g
-          → Grew limit tree tree'' made (toLastS limit store f (segsOf (path .from) (take (path .n) (path .ends))) (slotsOf tree made) p) g
+          → Grew limit tree tree'' made (toLastS limit store f (segsOf at (take (key .n) (key .ends))) (slotsOf tree made) p) g
       unfolding at-last
       last-done f tree'' g w = rw (whole-step f) (came-on limit tree tree' tree'' made walked m q (at-last f) g last-came w)
 
-    pub last-full : (f : List Slot → ℕ → Seg → Grown) → r ≡ Full → Grew limit tree tree' made (toLastS limit store f (segsOf (path .from) (take (path .n) (path .ends))) (slotsOf tree made) p) Full
+    pub last-full : (f : List Slot → ℕ → Seg → Grown) → r ≡ Full → Grew limit tree tree' made (toLastS limit store f (segsOf at (take (key .n) (key .ends))) (slotsOf tree made) p) Full
     unfolding walked last
     last-full f e = rw (whole-path f) (stays-full limit tree tree' made walked (last f) r a e)
 
-    pub last-clash : (f : List Slot → ℕ → Seg → Grown) → r ≡ Clash → Grew limit tree tree' made (toLastS limit store f (segsOf (path .from) (take (path .n) (path .ends))) (slotsOf tree made) p) Clash
+    pub last-clash : (f : List Slot → ℕ → Seg → Grown) → r ≡ Clash → Grew limit tree tree' made (toLastS limit store f (segsOf at (take (key .n) (key .ends))) (slotsOf tree made) p) Clash
     unfolding walked last
     last-clash f e = rw (whole-path f) (stays-clash limit tree tree' made walked (last f) r a e)
 

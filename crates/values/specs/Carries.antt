@@ -6,11 +6,11 @@ use lib.Dec.{eqb}
 use lib.ListN.{length, getD, take}
 use Rattle.meaning.specs.Base.{pick}
 use Rattle.scalar.specs.Stores.{over}
+use Rattle.scalar.specs.declared.key.Key.{Key}
 use Rattle.tree.specs.declared.Slot.{Slot}
 use Rattle.tree.specs.declared.Found.{Found}
 use Rattle.tree.specs.Room.{Sized, Below, slotAt}
 use Rattle.values.specs.declared.grow.Grown as code
-use Rattle.values.specs.declared.grow.Path.{Path}
 use Rattle.values.specs.declared.grow.Segment.{Segment}
 use Rattle.values.specs.declared.grow.Grown.the-variants.{At, Full, Clash}
 use Rattle.values.specs.Out.{cells}
@@ -97,26 +97,26 @@ abbrev pub Rising : List ℕ → ℕ → List ℕ → Type 0
 Rising store at [] = Unit
 Rising store at (e ∷ es) = Lies store at e × Rising store e es
 
--- what a walk along n segments of a path asks
-pub record Paths (limit : ℕ) (tree store : List ℕ) (made : ℕ) (path : Path) (n : ℕ) : Type 0 where
+-- what a walk along n segments of a key asks
+pub record Paths (limit : ℕ) (tree store : List ℕ) (made : ℕ) (key : Key) (at n : ℕ) : Type 0 where
   pub grows : Grows limit tree made
-  pub rising : Rising store (path .from) (take n (path .ends))
+  pub rising : Rising store at (take n (key .ends))
   pub few : n ≤ 16
-  pub there : n ≤ length (path .ends)
+  pub there : n ≤ length (key .ends)
 
--- a path of more than one segment
-pub record Long (path : Path) : Type 0 where
-  pub long : 1 < path .n
-  pub few : path .n ≤ 16
+-- a key of more than one segment
+pub record LongKey (key : Key) : Type 0 where
+  pub long : 1 < key .n
+  pub few : key .n ≤ 16
 
 -- its last segment, by where it stands in the store
-abbrev pub lastOf : Path → Segment
-lastOf path = record { from = getD (path .ends) (path .n - 1 - 1) 0; end = getD (path .ends) (path .n - 1) 0 }
+abbrev pub lastOf : Key → Segment
+lastOf key = record { from = getD (key .ends) (key .n - 1 - 1) 0; end = getD (key .ends) (key .n - 1) 0 }
 
--- what a walk along a whole path asks, which has a segment
-pub record Keyed (limit : ℕ) (tree store : List ℕ) (made : ℕ) (path : Path) : Type 0 where
-  pub along : Paths limit tree store made path (path .n)
-  pub some : 0 < path .n
+-- what a walk along a whole key asks, which has a segment
+pub record Keyed (limit : ℕ) (tree store : List ℕ) (made : ℕ) (key : Key) (at : ℕ) : Type 0 where
+  pub path : Paths limit tree store made key at (key .n)
+  pub some : 0 < key .n
 
 -- what hanging value number n up asks
 pub record Hangs (limit : ℕ) (tree : List ℕ) (made at end n : ℕ) : Type 0 where
@@ -124,8 +124,8 @@ pub record Hangs (limit : ℕ) (tree : List ℕ) (made at end n : ℕ) : Type 0 
   pub below : n < made
 
 -- what an assignment of value number n asks
-pub record Assigns (limit : ℕ) (tree store : List ℕ) (made : ℕ) (path : Path) (n : ℕ) : Type 0 where
-  pub keyed : Keyed limit tree store made path
+pub record Assigns (limit : ℕ) (tree store : List ℕ) (made : ℕ) (key : Key) (at n : ℕ) : Type 0 where
+  pub keyed : Keyed limit tree store made key at
   pub below : n < made
 
 -- the answer of the code: 16 is Full, 13 is Clash

@@ -1,5 +1,6 @@
 // What headers and keys do to the tree room: tables and arrays entered or made, values hung up.
 
+use scalar::key::Key;
 use tree::Found;
 use tree::KIND_ARRAY;
 use tree::KIND_TABLE;
@@ -9,11 +10,12 @@ ghost use Prim.Native.Nat.{_+_, _-_, _≤_, _<_};
 ghost use lib.ListN.{length, getD, take};
 ghost use Rattle.tree.specs.declared.Found.the-variants.{Nothing};
 ghost use Rattle.values.specs.Grow.{segOf, segsOf, void, keyedSlot, spelt, lookS, onward, makeS, itemS, enterS, downS, pushS, toLastS, hangS};
-ghost use Rattle.values.specs.Carries.{slotsOf, Grows, Makes, Keys, Numbered, Seeks, Sought, Enters, Paths, Long, lastOf, Keyed, Hangs, Assigns, Grew};
+ghost use Rattle.values.specs.Carries.{slotsOf, Grows, Makes, Keys, Numbered, Seeks, Sought, Enters, Paths, LongKey, lastOf, Keyed, Hangs, Assigns, Grew};
 
-// How many values are made, and the place that a walk has come to.
+// How many values are made and may be made, and the place that a walk has come to.
 pub struct Here {
     pub made: usize,
+    pub limit: usize,
     pub place: u16,
 }
 
@@ -21,13 +23,6 @@ pub struct Here {
 pub struct Segment {
     pub from: usize,
     pub end: usize,
-}
-
-// A key of n segments by where they stand in the store: where the first begins, and where each ends.
-pub struct Path {
-    pub from: usize,
-    pub n: usize,
-    pub ends: [usize; 16],
 }
 
 // What a step comes to: how many values are made, and the place it comes to; or 16, or 13.
@@ -53,9 +48,9 @@ pub fn make_slot(tree: &mut [u8], made: usize, limit: usize, v: Slot) -> Grown
 }
 
 // Makes a value without data, under the place and with a segment of the store as its key.
-fn make_keyed(tree: &mut [u8], limit: usize, kind: u8, here: Here, segment: Segment) -> Grown
-    requires { ⌜ Keys limit (now tree) (here .made) (segment .from) (segment .end) ⌝ }
-    ensures { λ r. ⌜ Grew limit (now (tree .entry)) (now (tree .exit)) (here .made) (makeS limit (slotsOf (now (tree .entry)) (here .made)) (keyedSlot kind (here .place) (segOf (segment .from) (segment .end)))) r ⌝ }
+fn make_keyed(tree: &mut [u8], kind: u8, here: Here, segment: Segment) -> Grown
+    requires { ⌜ Keys (here .limit) (now tree) (here .made) (segment .from) (segment .end) ⌝ }
+    ensures { λ r. ⌜ Grew (here .limit) (now (tree .entry)) (now (tree .exit)) (here .made) (makeS (here .limit) (slotsOf (now (tree .entry)) (here .made)) (keyedSlot kind (here .place) (segOf (segment .from) (segment .end)))) r ⌝ }
 {
     let v = Slot {
         kind,
@@ -64,7 +59,7 @@ fn make_keyed(tree: &mut [u8], limit: usize, kind: u8, here: Here, segment: Segm
         len: (segment.end - segment.from) as u16,
         data: 0,
     };
-    make_slot(tree, here.made, limit, v)
+    make_slot(tree, here.made, here.limit, v)
 }
 
 // The kind of value number n.
@@ -86,9 +81,9 @@ fn seek(tree: &[u8], store: &[u8], here: Here, segment: Segment) -> Found
 }
 
 // Walks into the table of that name under the place, or makes one in the place of anything else.
-fn enter(tree: &mut [u8], store: &[u8], limit: usize, here: Here, segment: Segment) -> Grown
-    requires { ⌜ Enters limit (now tree) (now store) (here .made) (segment .from) (segment .end) ⌝ }
-    ensures { λ r. ⌜ Grew limit (now (tree .entry)) (now (tree .exit)) (here .made) (enterS limit (now (store .entry)) (slotsOf (now (tree .entry)) (here .made)) (here .place) (segOf (segment .from) (segment .end))) r ⌝ }
+fn enter(tree: &mut [u8], store: &[u8], here: Here, segment: Segment) -> Grown
+    requires { ⌜ Enters (here .limit) (now tree) (now store) (here .made) (segment .from) (segment .end) ⌝ }
+    ensures { λ r. ⌜ Grew (here .limit) (now (tree .entry)) (now (tree .exit)) (here .made) (enterS (here .limit) (now (store .entry)) (slotsOf (now (tree .entry)) (here .made)) (here .place) (segOf (segment .from) (segment .end))) r ⌝ }
 {
     let f = seek(tree, store, here, segment);
     match f {
@@ -99,37 +94,44 @@ fn enter(tree: &mut [u8], store: &[u8], limit: usize, here: Here, segment: Segme
                     place: (n + 2) as u16,
                 };
             }
-            make_keyed(tree, limit, KIND_TABLE, here, segment)
+            make_keyed(tree, KIND_TABLE, here, segment)
         }
-        Found::Nothing => make_keyed(tree, limit, KIND_TABLE, here, segment),
+        Found::Nothing => make_keyed(tree, KIND_TABLE, here, segment),
     }
 }
 
 // Makes the next table of the array at this place; an array's item has the key of no bytes.
-fn make_item(tree: &mut [u8], limit: usize, here: Here) -> Grown
-    requires { ⌜ Grows limit (now tree) (here .made) ⌝ }
-    ensures { λ r. ⌜ Grew limit (now (tree .entry)) (now (tree .exit)) (here .made) (itemS limit (slotsOf (now (tree .entry)) (here .made)) (here .place)) r ⌝ }
+fn make_item(tree: &mut [u8], here: Here) -> Grown
+    requires { ⌜ Grows (here .limit) (now tree) (here .made) ⌝ }
+    ensures { λ r. ⌜ Grew (here .limit) (now (tree .entry)) (now (tree .exit)) (here .made) (itemS (here .limit) (slotsOf (now (tree .entry)) (here .made)) (here .place)) r ⌝ }
 {
-    make_keyed(tree, limit, KIND_TABLE, here, Segment { from: 0, end: 0 })
+    make_keyed(tree, KIND_TABLE, here, Segment { from: 0, end: 0 })
 }
 
 // Makes an array and its first table.
-fn push_new(tree: &mut [u8], limit: usize, here: Here, segment: Segment) -> Grown
-    requires { ⌜ Keys limit (now tree) (here .made) (segment .from) (segment .end) ⌝ }
-    ensures { λ r. ⌜ Grew limit (now (tree .entry)) (now (tree .exit)) (here .made) (onward (makeS limit (slotsOf (now (tree .entry)) (here .made)) (keyedSlot 4 (here .place) (segOf (segment .from) (segment .end)))) (itemS limit)) r ⌝ }
+fn push_new(tree: &mut [u8], here: Here, segment: Segment) -> Grown
+    requires { ⌜ Keys (here .limit) (now tree) (here .made) (segment .from) (segment .end) ⌝ }
+    ensures { λ r. ⌜ Grew (here .limit) (now (tree .entry)) (now (tree .exit)) (here .made) (onward (makeS (here .limit) (slotsOf (now (tree .entry)) (here .made)) (keyedSlot 4 (here .place) (segOf (segment .from) (segment .end)))) (itemS (here .limit))) r ⌝ }
 {
-    let g = make_keyed(tree, limit, KIND_ARRAY, here, segment);
+    let g = make_keyed(tree, KIND_ARRAY, here, segment);
     match g {
-        Grown::At { made, place } => make_item(tree, limit, Here { made, place }),
+        Grown::At { made, place } => {
+            let array = Here {
+                made,
+                limit: here.limit,
+                place,
+            };
+            make_item(tree, array)
+        }
         Grown::Full => Grown::Full,
         Grown::Clash => Grown::Clash,
     }
 }
 
 // The next table of the array of that name under the place; 13 over anything else.
-fn push(tree: &mut [u8], store: &[u8], limit: usize, here: Here, segment: Segment) -> Grown
-    requires { ⌜ Enters limit (now tree) (now store) (here .made) (segment .from) (segment .end) ⌝ }
-    ensures { λ r. ⌜ Grew limit (now (tree .entry)) (now (tree .exit)) (here .made) (pushS limit (now (store .entry)) (slotsOf (now (tree .entry)) (here .made)) (here .place) (segOf (segment .from) (segment .end))) r ⌝ }
+fn push(tree: &mut [u8], store: &[u8], here: Here, segment: Segment) -> Grown
+    requires { ⌜ Enters (here .limit) (now tree) (now store) (here .made) (segment .from) (segment .end) ⌝ }
+    ensures { λ r. ⌜ Grew (here .limit) (now (tree .entry)) (now (tree .exit)) (here .made) (pushS (here .limit) (now (store .entry)) (slotsOf (now (tree .entry)) (here .made)) (here .place) (segOf (segment .from) (segment .end))) r ⌝ }
 {
     let f = seek(tree, store, here, segment);
     match f {
@@ -137,65 +139,70 @@ fn push(tree: &mut [u8], store: &[u8], limit: usize, here: Here, segment: Segmen
             if kind_at(tree, here.made, n) == KIND_ARRAY {
                 let array = Here {
                     made: here.made,
+                    limit: here.limit,
                     place: (n + 2) as u16,
                 };
-                return make_item(tree, limit, array);
+                return make_item(tree, array);
             }
             Grown::Clash
         }
-        Found::Nothing => push_new(tree, limit, here, segment),
+        Found::Nothing => push_new(tree, here, segment),
     }
 }
 
-// Along the first so many segments of a path, from the place.
+// Along the first so many segments of a key, the first of which begins at from in the store.
 pub fn enter_path(
     tree: &mut [u8],
     store: &[u8],
-    limit: usize,
     start: Here,
-    path: Path,
+    key: Key,
+    from: usize,
     steps: usize,
 ) -> Grown
-    requires { ⌜ Paths limit (now tree) (now store) (start .made) path steps ⌝ }
-    ensures { λ r. ⌜ Grew limit (now (tree .entry)) (now (tree .exit)) (start .made) (downS limit (now (store .entry)) (segsOf (path .from) (take steps (path .ends))) (slotsOf (now (tree .entry)) (start .made)) (start .place)) r ⌝ }
+    requires { ⌜ Paths (start .limit) (now tree) (now store) (start .made) key from steps ⌝ }
+    ensures { λ r. ⌜ Grew (start .limit) (now (tree .entry)) (now (tree .exit)) (start .made) (downS (start .limit) (now (store .entry)) (segsOf from (take steps (key .ends))) (slotsOf (now (tree .entry)) (start .made)) (start .place)) r ⌝ }
 {
-    let mut here = start;
-    let mut from = path.from;
+    let mut made = start.made;
+    let mut place = start.place;
+    let mut at = from;
     let mut i = 0;
     while i < steps {
-        let end = path.ends[i];
-        let g = enter(tree, store, limit, here, Segment { from, end });
+        let end = key.ends[i];
+        let here = Here {
+            made,
+            limit: start.limit,
+            place,
+        };
+        let g = enter(tree, store, here, Segment { from: at, end });
         match g {
-            Grown::At { made, place } => {
-                here = Here { made, place };
-                from = end;
+            Grown::At { made: m, place: p } => {
+                made = m;
+                place = p;
+                at = end;
                 i += 1;
             }
             Grown::Full => return Grown::Full,
             Grown::Clash => return Grown::Clash,
         }
     }
-    Grown::At {
-        made: here.made,
-        place: here.place,
-    }
+    Grown::At { made, place }
 }
 
-// The last segment of a path that has more than one.
-fn last_segment(path: Path) -> Segment
-    requires { ⌜ Long path ⌝ }
-    ensures { λ r. ⌜ r ≡ lastOf path ⌝ }
+// The last segment of a key that has more than one.
+fn last_segment(key: Key) -> Segment
+    requires { ⌜ LongKey key ⌝ }
+    ensures { λ r. ⌜ r ≡ lastOf key ⌝ }
 {
-    let last = path.n - 1;
-    let from = path.ends[last - 1];
-    let end = path.ends[last];
+    let last = key.n - 1;
+    let from = key.ends[last - 1];
+    let end = key.ends[last];
     Segment { from, end }
 }
 
 // Hangs value number n up under the place, with a segment of the store as its key.
-fn hang_up(tree: &mut [u8], limit: usize, here: Here, segment: Segment, n: usize) -> Grown
-    requires { ⌜ Hangs limit (now tree) (here .made) (segment .from) (segment .end) n ⌝ }
-    ensures { λ r. ⌜ Grew limit (now (tree .entry)) (now (tree .exit)) (here .made) (hangS n (slotsOf (now (tree .entry)) (here .made)) (here .place) (segOf (segment .from) (segment .end))) r ⌝ }
+fn hang_up(tree: &mut [u8], here: Here, segment: Segment, n: usize) -> Grown
+    requires { ⌜ Hangs (here .limit) (now tree) (here .made) (segment .from) (segment .end) n ⌝ }
+    ensures { λ r. ⌜ Grew (here .limit) (now (tree .entry)) (now (tree .exit)) (here .made) (hangS n (slotsOf (now (tree .entry)) (here .made)) (here .place) (segOf (segment .from) (segment .end))) r ⌝ }
 {
     let key = segment.from as u16;
     let len = (segment.end - segment.from) as u16;
@@ -206,23 +213,25 @@ fn hang_up(tree: &mut [u8], limit: usize, here: Here, segment: Segment, n: usize
     }
 }
 
-// A header `[[..]]`: along all but the last segment from the root, and the next table of the array there.
-pub fn push_path(tree: &mut [u8], store: &[u8], limit: usize, made: usize, path: Path) -> Grown
-    requires { ⌜ Keyed limit (now tree) (now store) made path ⌝ }
-    ensures { λ r. ⌜ Grew limit (now (tree .entry)) (now (tree .exit)) made (toLastS limit (now (store .entry)) (pushS limit (now (store .entry))) (segsOf (path .from) (take (path .n) (path .ends))) (slotsOf (now (tree .entry)) made) 1) r ⌝ }
+// A header `[[..]]`: along all but the last segment from the place, and the next table of the array there.
+pub fn push_path(tree: &mut [u8], store: &[u8], start: Here, key: Key, from: usize) -> Grown
+    requires { ⌜ Keyed (start .limit) (now tree) (now store) (start .made) key from ⌝ }
+    ensures { λ r. ⌜ Grew (start .limit) (now (tree .entry)) (now (tree .exit)) (start .made) (toLastS (start .limit) (now (store .entry)) (pushS (start .limit) (now (store .entry))) (segsOf from (take (key .n) (key .ends))) (slotsOf (now (tree .entry)) (start .made)) (start .place)) r ⌝ }
 {
-    let root = Here { made, place: 1 };
-    let n = path.n;
-    if n == 1 {
-        let from = path.from;
-        let end = path.ends[0];
-        return push(tree, store, limit, root, Segment { from, end });
+    if key.n == 1 {
+        let end = key.ends[0];
+        return push(tree, store, start, Segment { from, end });
     }
-    let g = enter_path(tree, store, limit, root, path, n - 1);
+    let g = enter_path(tree, store, start, key, from, key.n - 1);
     match g {
         Grown::At { made, place } => {
-            let last = last_segment(path);
-            push(tree, store, limit, Here { made, place }, last)
+            let last = last_segment(key);
+            let there = Here {
+                made,
+                limit: start.limit,
+                place,
+            };
+            push(tree, store, there, last)
         }
         Grown::Full => Grown::Full,
         Grown::Clash => Grown::Clash,
@@ -230,28 +239,24 @@ pub fn push_path(tree: &mut [u8], store: &[u8], limit: usize, made: usize, path:
 }
 
 // An assignment of value number n: along all but the last segment from the place, and hung up there under the last.
-pub fn assign(
-    tree: &mut [u8],
-    store: &[u8],
-    limit: usize,
-    here: Here,
-    path: Path,
-    n: usize,
-) -> Grown
-    requires { ⌜ Assigns limit (now tree) (now store) (here .made) path n ⌝ }
-    ensures { λ r. ⌜ Grew limit (now (tree .entry)) (now (tree .exit)) (here .made) (toLastS limit (now (store .entry)) (hangS n) (segsOf (path .from) (take (path .n) (path .ends))) (slotsOf (now (tree .entry)) (here .made)) (here .place)) r ⌝ }
+pub fn assign(tree: &mut [u8], store: &[u8], start: Here, key: Key, from: usize, n: usize) -> Grown
+    requires { ⌜ Assigns (start .limit) (now tree) (now store) (start .made) key from n ⌝ }
+    ensures { λ r. ⌜ Grew (start .limit) (now (tree .entry)) (now (tree .exit)) (start .made) (toLastS (start .limit) (now (store .entry)) (hangS n) (segsOf from (take (key .n) (key .ends))) (slotsOf (now (tree .entry)) (start .made)) (start .place)) r ⌝ }
 {
-    let segments = path.n;
-    if segments == 1 {
-        let from = path.from;
-        let end = path.ends[0];
-        return hang_up(tree, limit, here, Segment { from, end }, n);
+    if key.n == 1 {
+        let end = key.ends[0];
+        return hang_up(tree, start, Segment { from, end }, n);
     }
-    let g = enter_path(tree, store, limit, here, path, segments - 1);
+    let g = enter_path(tree, store, start, key, from, key.n - 1);
     match g {
         Grown::At { made, place } => {
-            let last = last_segment(path);
-            hang_up(tree, limit, Here { made, place }, last, n)
+            let last = last_segment(key);
+            let there = Here {
+                made,
+                limit: start.limit,
+                place,
+            };
+            hang_up(tree, there, last, n)
         }
         Grown::Full => Grown::Full,
         Grown::Clash => Grown::Clash,

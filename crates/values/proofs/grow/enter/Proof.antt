@@ -17,11 +17,11 @@ enum-known-f c = search needs
 kind-at-requires : tie.Need-kind-at-requires
 kind-at-requires c κs = search (needs, enter-numbered)
 
-add-t15 : tie.Need-add-t15
-add-t15 c = search (needs, enter-fits)
+add-t14 : tie.Need-add-t14
+add-t14 c = search (needs, enter-fits)
 
-cast-t16 : tie.Need-cast-t16
-cast-t16 c = search (needs, enter-place)
+cast-t15 : tie.Need-cast-t15
+cast-t15 c = search (needs, enter-place)
 
 same-length : tie.Need-same-length
 same-length c = search needs
@@ -57,8 +57,8 @@ enter-spec =
     seek-requires
     enum-known-f
     kind-at-requires
-    add-t15
-    cast-t16
+    add-t14
+    cast-t15
     same-length
     returns
     make-keyed-requires

@@ -1,4 +1,4 @@
--- What is left to walk from here means what the whole path means from the start, and the room holds what was made on the way.
+-- What is left to walk from here means what the whole key means from the start, and the room holds what was made on the way.
 use Prim.Native.Nat.{_-_}
 use borrow.Author.Needs.{needs}
 use Rattle.values.proofs.Descending.{Walking, walk-start, walk-enters, walk-full, walk-clash, walk-on, walk-out}
@@ -9,10 +9,10 @@ use Rattle.values.proofs.grow.enter_path.Lts as lts
 use Rattle.values.proofs.grow.enter.Reads as enter-reads
 
 abbrev Inv-loop : tie.InvT-loop
-Inv-loop tree₀ store limit steps path here₀ from₀ i₀ tree here from i = Walking limit tree₀ store (here₀ .made) (here₀ .place) path steps tree (here .made) (here .place) from i
+Inv-loop tree₀ store start from steps key made₀ place₀ at₀ i₀ tree made place at i = Walking (start .limit) tree₀ store (start .made) (start .place) key from steps tree made place at i
 
 abbrev μ-loop : tie.MeasureT-loop
-μ-loop tree₀ store limit steps path here₀ from₀ i₀ tree here from i = steps - i
+μ-loop tree₀ store start from steps key made₀ place₀ at₀ i₀ tree made place at i = steps - i
 
 loop-holds : tie.Need-loop-holds Inv-loop μ-loop
 loop-holds c = search (needs, walk-start)

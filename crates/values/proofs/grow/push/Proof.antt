@@ -18,11 +18,11 @@ enum-known-f c = search needs
 kind-at-requires : tie.Need-kind-at-requires
 kind-at-requires c κs = search (needs, enter-numbered)
 
-add-t16 : tie.Need-add-t16
-add-t16 c = search (needs, enter-fits)
+add-t15 : tie.Need-add-t15
+add-t15 c = search (needs, enter-fits)
 
-cast-t17 : tie.Need-cast-t17
-cast-t17 c = search (needs, enter-place)
+cast-t16 : tie.Need-cast-t16
+cast-t16 c = search (needs, enter-place)
 
 make-item-requires : tie.Need-make-item-requires
 make-item-requires c κs = search needs
@@ -58,8 +58,8 @@ push-spec =
     seek-requires
     enum-known-f
     kind-at-requires
-    add-t16
-    cast-t17
+    add-t15
+    cast-t16
     make-item-requires
     same-length
     returns

@@ -1,4 +1,4 @@
--- A walk along all but the last segment, and a step there, is the walk along the whole path.
+-- A walk along all but the last segment, and a step there, is the walk along the whole key.
 use borrow.Author.Needs.{needs}
 use Rattle.values.proofs.Descending.{last-paths, last-enters, last-done, last-full, last-clash, one-enters, one-done}
 use Rattle.values.proofs.grow.push_path.Statement.{statement}
@@ -38,7 +38,7 @@ push-requires-2 c κs =
     let g = c .before .before .before in
     let walk = g .before .before .before .before in
     let start = walk .before .before .before .before .before in
-    last-enters _ _ _ _ _ _ (start .pre) _ _ (walk .enter-path .ensures) _ _ (g .g .given .1) (walk .before .before .if1 .left) _ (c .before .last-segment .ensures)
+    last-enters _ _ _ _ _ _ _ (start .pre) _ _ (walk .enter-path .ensures) _ _ (g .g .given .1) (walk .before .before .if1 .left) _ (c .before .last-segment .ensures)
 
 enum-told : tie.Need-enum-told
 enum-told c = search needs
