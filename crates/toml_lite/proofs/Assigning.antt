@@ -14,6 +14,7 @@ use Rattle.meaning.specs.Base.{pick, nil?, zeros}
 use Rattle.meaning.specs.Refusal.{R, ok, bad}
 use Rattle.laws.specs.Stored.{stored}
 use Rattle.scalar.specs.Stores.{over}
+use Rattle.slices.proofs.Zeroing.{length-zeros}
 use Rattle.tree.specs.declared.Slot.{Slot}
 use Rattle.values.specs.declared.State.{State}
 use Rattle.values.specs.declared.Reply.{Reply}
@@ -212,10 +213,6 @@ module _ (limits : Limits) (k v store tree : List ℕ) (st : State) (here : ℕ)
           → Lined limits (length k + length v) store tree store'' tree'' st (setS limits k v (docOf store tree st here)) q
       setting-done store'' tree'' q w =
           lined-from limits (length v) (length k) (length k + length v) store tree store' tree' store'' tree'' st next (setS limits k v (docOf store tree st here)) q stepped (omega arith) (rw same-meant at w)
-
-pub length-zeros : (n : ℕ) → length (zeros n) ≡ n
-length-zeros zero = refl
-length-zeros (suc n) = ap suc (length-zeros n)
 
 -- whatever the place and the key's n bytes
 pub setting-hangs : (limits : Limits) (n : ℕ) (v store tree : List ℕ) (st : State) → Taking limits (n + length v) store tree st → (n ≡ 0 → ⊥)

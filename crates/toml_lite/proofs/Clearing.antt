@@ -1,4 +1,4 @@
--- Rooms behind a whole reading: kept where it is accepted, zeroed where it is refused.
+-- Rooms after a whole reading: kept where it is accepted, zeroed where it is refused.
 use Prim.Native.Nat.{ℕ, _<_}
 use mathlib.Core.List.{List}
 use mathlib.Core.Path.{_≡_, refl, sym, ap, _∙_}

@@ -17,7 +17,7 @@ use Rattle.laws.specs.Cases.{on}
 use Rattle.laws.specs.Stored.{stored, length-stored}
 use Rattle.scalar.specs.Stores.{over}
 use Rattle.scalar.specs.Segments.{told}
-use Rattle.scalar.specs.Splits.{takes, flat, bytesOf, endsOf, Asked, Splits}
+use Rattle.scalar.specs.Splits.{takes, flat, bytesOf, endsOf, Splits}
 use Rattle.scalar.specs.declared.key.Key.{Key}
 use Rattle.scalar.specs.declared.key.Verdict.{Verdict}
 use Rattle.scalar.specs.declared.key.Verdict.the-variants as verdicts
@@ -36,13 +36,13 @@ use Rattle.values.proofs.Carrying.{over-over}
 use Rattle.values.proofs.Beginning.{within-more, ends-within, ends-rising, key-ends, key-there, down-begins, push-path-begins, assign-begins, down-within, push-path-within, assign-within}
 use Rattle.toml_lite.specs.declared.LineRead.{LineRead}
 use Rattle.toml_lite.specs.declared.LineRead.the-variants.{Fine, Fault}
-use Rattle.toml_lite.specs.Rooms.{verdictNumber, settled, docOf, hangK, Hanging, Holding, Taking, Wrote, Kept, lineOf, Lined}
+use Rattle.toml_lite.specs.Rooms.{verdictNumber, lineAfter, docOf, hangK, Hanging, Holding, Taking, Wrote, Kept, lineOf, Lined}
 
 -- ---- settle
-pub settled-there : (g : code.Grown) (used m p : ℕ) → g ≡ At m p → Fine (record { used = used; made = m }) p ≡ settled (λ q. q) used g
+pub settled-there : (g : code.Grown) (used m p : ℕ) → g ≡ At m p → Fine (record { used = used; made = m }) p ≡ lineAfter (λ q. q) used g
 settled-there g used m p e = rw e
 
-pub settled-stays : (g : code.Grown) (used m p here : ℕ) → g ≡ At m p → Fine (record { used = used; made = m }) here ≡ settled (λ _. here) used g
+pub settled-stays : (g : code.Grown) (used m p here : ℕ) → g ≡ At m p → Fine (record { used = used; made = m }) here ≡ lineAfter (λ _. here) used g
 settled-stays g used m p here e = rw e
 
 -- ---- a verdict's number
@@ -218,7 +218,7 @@ module _ (limits : Limits) (s store tree : List ℕ) (st : State) (h : Taking li
 
   module _ (tree' : List ℕ) (f : ℕ → ℕ) (g : code.Grown) where
     settles : (m : Grown) → Grew (limits .values) tree tree' (st .made) m g → GrownWithin (length bytes) m → Told m
-        → Lined limits (length s) store tree store' tree' st (settleS bytes m f) (settled f (key .used) g)
+        → Lined limits (length s) store tree store' tree' st (settleS bytes m f) (lineAfter f (key .used) g)
     settles (grown vs p) a i t =
         record {
           says = rw (a .says, w .used);
@@ -244,7 +244,7 @@ module _ (limits : Limits) (s store tree : List ℕ) (st : State) (h : Taking li
         }
 
     walked : (m : List ℕ → List Seg → Grown) → Grew (limits .values) tree tree' (st .made) (m store' (segsOf (st .used) (take (key .n) (key .ends)))) g
-        → m store' segs ≡ m bytes segs → GrownWithin (length bytes) (m bytes segs) → Told (m bytes segs) → (r : LineRead) → r ≡ settled f (key .used) g
+        → m store' segs ≡ m bytes segs → GrownWithin (length bytes) (m bytes segs) → Told (m bytes segs) → (r : LineRead) → r ≡ lineAfter f (key .used) g
         → Lined limits (length s) store tree store' tree' st (pathBy (take (st .used) store) (keys (limits .segments) s) (λ b l. settleS b (m b l) f)) r
     walked m a e i t r q =
         let x : Grew (limits .values) tree tree' (st .made) (m store' segs) g = rw (w .ends) at a in
@@ -257,9 +257,6 @@ module _ (limits : Limits) (s store tree : List ℕ) (st : State) (h : Taking li
   abbrev named : List (List ℕ)
   named = takes (limits .segments) s .segs
 
-  pub header-asks : Asked (limits .segments) s store (st .used)
-  header-asks = record { top = h .holding .segs; room = h .room }
-
   pub header-fault : (n ≡ 0 → ⊥) → Lined limits (length s) store tree store' tree st (lineS limits (meant.heads s) (docOf store tree st 1)) (Fault n)
   unfolding lineS
   header-fault z =
@@ -270,7 +267,7 @@ module _ (limits : Limits) (s store tree : List ℕ) (st : State) (h : Taking li
 
   pub header-done : n ≡ 0 → (tree' : List ℕ) (g : code.Grown) (r : LineRead)
       → Grew (limits .values) tree tree' (st .made) (downS (limits .values) store' (segsOf (st .used) (take (key .n) (key .ends))) (slotsOf tree (st .made)) 1) g
-      → r ≡ settled (λ p. p) (key .used) g
+      → r ≡ lineAfter (λ p. p) (key .used) g
       → Lined limits (length s) store tree store' tree' st (lineS limits (meant.heads s) (docOf store tree st 1)) r
   unfolding lineS
   header-done z tree' g r a q =
@@ -300,7 +297,7 @@ module _ (limits : Limits) (s store tree : List ℕ) (st : State) (h : Taking li
 
   pub item-done : n ≡ 0 → (tree' : List ℕ) (g : code.Grown) (r : LineRead)
       → Grew (limits .values) tree tree' (st .made) (toLastS (limits .values) store' (pushS (limits .values) store') (segsOf (st .used) (take (key .n) (key .ends))) (slotsOf tree (st .made)) 1) g
-      → r ≡ settled (λ p. p) (key .used) g
+      → r ≡ lineAfter (λ p. p) (key .used) g
       → Lined limits (length s) store tree store' tree' st (lineS limits (meant.pushes s) (docOf store tree st 1)) r
   unfolding lineS
   item-done z tree' g r a q =
@@ -327,7 +324,7 @@ module _ (limits : Limits) (s store tree : List ℕ) (st : State) (number here :
 
   pub hang-done : n ≡ 0 → (tree' : List ℕ) (g : code.Grown) (r : LineRead)
       → Grew (limits .values) tree tree' (st .made) (toLastS (limits .values) store' (hangS number) (segsOf (st .used) (take (key .n) (key .ends))) (slotsOf tree (st .made)) here) g
-      → r ≡ settled (λ _. here) (key .used) g
+      → r ≡ lineAfter (λ _. here) (key .used) g
       → Lined limits (length s) store tree store' tree' st (hangK limits s number (docOf store tree st here)) r
   unfolding hangK
   hang-done z tree' g r a q =

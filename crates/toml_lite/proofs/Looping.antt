@@ -27,7 +27,7 @@ use Rattle.toml_lite.specs.declared.LineRead.{LineRead}
 use Rattle.toml_lite.specs.declared.LineRead.the-variants as lines
 use Rattle.toml_lite.specs.declared.Read.{Read}
 use Rattle.toml_lite.specs.declared.Read.the-variants.{Fine, Fault}
-use Rattle.toml_lite.specs.Rooms.{docOf, Holding, Taking, Wrote, Lined, lineOf, start, wholeOf, Behind, behindFault, Told, KeptAll, Begun, Reads}
+use Rattle.toml_lite.specs.Rooms.{docOf, Holding, Taking, Wrote, Lined, lineOf, start, wholeOf, AfterLine, faultAfter, Told, KeptAll, Begun, Reads}
 use Rattle.toml_lite.proofs.Assigning.{Stepped}
 
 pub record Ahead (limits : Limits) (s store₀ tree₀ store tree : List ℕ) (st : State) (here at line : ℕ) : Type 0 where
@@ -164,14 +164,14 @@ module _ (limits : Limits) (s store₀ tree₀ store tree : List ℕ) (st : Stat
             low = omega (arith, text-long, k .stepped .short, onward .on, ahead-in, k .low);
           }
 
-      pub ahead-behind : Behind s p l
-      ahead-behind =
+      pub ahead-next : AfterLine s p l
+      ahead-next =
           record {
             place = record { high = onward .fits; number = omega (arith, onward .count, k .number); small = omega (arith, k .low) };
             number = omega (arith, onward .number, k .number, ahead-from, ahead-in);
           }
 
-      -- the lines behind this one
+      -- the lines after this one
       abbrev rest : Answer (List Line)
       rest = join closed (p .line) (linesOf (drop (p .at) s))
 
@@ -181,10 +181,10 @@ module _ (limits : Limits) (s store₀ tree₀ store tree : List ℕ) (st : Stat
           ∙ ap (λ (j : Answer (List Line)). acceptedThen j (λ ls. linesS limits ls (docOf store tree st here))) (sym (rw e at told)) ∙ k .left
 
       module _ (store' tree' : List ℕ) (q : LineRead) (a : Lined limits (length text) store tree store' tree' st (lineS limits (meant.form (trim text)) (docOf store tree st here)) q) where
-        pub ahead-fault : (n : ℕ) (v : Read) → q ≡ lines.Fault n → Told (length s) (behindFault s p n l) v → Reads limits (length s) store₀ tree₀ store' tree' (wholeOf limits s) v
+        pub ahead-fault : (n : ℕ) (v : Read) → q ≡ lines.Fault n → Told (length s) (faultAfter s p n l) v → Reads limits (length s) store₀ tree₀ store' tree' (wholeOf limits s) v
         ahead-fault n v g t =
             let m : lineS limits (meant.form (trim text)) (docOf store tree st here) ≡ bad n = fault-is (lineS limits (meant.form (trim text)) (docOf store tree st here)) q n (a .says) g in
-            let w : behindFault s p n l ≡ wholeOf limits s = rw m at meaning in
+            let w : faultAfter s p n l ≡ wholeOf limits s = rw m at meaning in
             rw (← w) (record { told = t; store-long = a .store-long ∙ k .stepped .store-long; tree-long = a .tree-long ∙ k .stepped .tree-long; kept = nothing rest })
           where
             nothing : (j : Answer (List Line)) → KeptAll limits (length s) store₀ tree₀ store' tree' (acceptedThen j (λ _. atLine n l))

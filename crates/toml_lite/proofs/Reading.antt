@@ -1,4 +1,4 @@
--- Whole texts: the lines behind a refused one, then 17, 1 and 2; one law for each way out.
+-- Whole texts: the lines after a refused one, then 17, 1 and 2; one law for each way out.
 use Prim.Native.Nat.{ℕ, _+_, _*_, _/_, _≤_, _<_}
 use mathlib.Core.Bool.{Bool, true, false}
 use mathlib.Core.List.{List, []}
@@ -25,15 +25,15 @@ use Rattle.values.specs.Doc.{Doc, linesS, empty, documentS}
 use Rattle.values.proofs.Carrying.{carries-none, carries-grows}
 use Rattle.toml_lite.specs.declared.Read.{Read}
 use Rattle.toml_lite.specs.declared.Read.the-variants.{Fine, Fault}
-use Rattle.toml_lite.specs.Rooms.{readOf, wholeOf, Behind, behindFault, Told, Begun, Cleared, Ready, Standing, Roomy, Empty, suffice, judged}
-use Rattle.toml_lite.proofs.Assigning.{length-zeros}
+use Rattle.toml_lite.specs.Rooms.{readOf, wholeOf, AfterLine, faultAfter, Told, Begun, Cleared, Ready, Standing, Roomy, Empty, suffice, judged}
+use Rattle.slices.proofs.Zeroing.{length-zeros}
 
--- ---- 3 and 4 behind a refused line
+-- ---- 3 and 4 after a refused line
 module _ (s : List ℕ) (p : Place) (number line : ℕ) (c : Checked) (k : Checks s (p .at) (p .line) c) where
   abbrev rest : Answer (List Line)
   rest = join closed (p .line) (linesOf (drop (p .at) s))
 
-  pub fault-alone : (n : ℕ) → Behind s p line → c ≡ checks.Fine n → Told (length s) (behindFault s p number line) (Fault number line)
+  pub fault-alone : (n : ℕ) → AfterLine s p line → c ≡ checks.Fine n → Told (length s) (faultAfter s p number line) (Fault number line)
   fault-alone n h e = go rest (ap checkedOf (sym e) ∙ k .says)
     where
       go : (j : Answer (List Line)) → accepted n ≡ counted j → Told (length s) (acceptedThen j (λ _. atLine number line)) (Fault number line)
@@ -41,17 +41,17 @@ module _ (s : List ℕ) (p : Place) (number line : ℕ) (c : Checked) (k : Check
       go (refused f a w) q = let z : _≡_ {A = ℕ} 0 1 = cc in absurd (omega arith)
 
   -- 3 or 4 at line l
-  sooner : (n l : ℕ) → atLine n l ≡ counted rest → l ≤ length s + 1 → Told (length s) (behindFault s p number line) (Fault n l)
+  sooner : (n l : ℕ) → atLine n l ≡ counted rest → l ≤ length s + 1 → Told (length s) (faultAfter s p number line) (Fault n l)
   sooner n l e h = go rest e
     where
       go : (j : Answer (List Line)) → atLine n l ≡ counted j → Told (length s) (acceptedThen j (λ _. atLine number line)) (Fault n l)
       go (accepted ls) q = let z : _≡_ {A = ℕ} 0 1 = cc in absurd (omega arith)
       go (refused f a w) q = record { says = cc; small = h; text = let z : inText ≡ a = cc in sym z }
 
-  pub fault-over : (l : ℕ) → c ≡ checks.Over l → Told (length s) (behindFault s p number line) (Fault 3 l)
+  pub fault-over : (l : ℕ) → c ≡ checks.Over l → Told (length s) (faultAfter s p number line) (Fault 3 l)
   fault-over l e = sooner 3 l (ap checkedOf (sym e) ∙ k .says) (rw e at (k .most))
 
-  pub fault-open : (l : ℕ) → c ≡ checks.Open l → Told (length s) (behindFault s p number line) (Fault 4 l)
+  pub fault-open : (l : ℕ) → c ≡ checks.Open l → Told (length s) (faultAfter s p number line) (Fault 4 l)
   fault-open l e = sooner 4 l (ap checkedOf (sym e) ∙ k .says) (rw e at (k .most))
 
 -- ---- a laid text t of s

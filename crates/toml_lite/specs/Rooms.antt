@@ -39,10 +39,10 @@ verdictNumber verdicts.Unended = 9
 verdictNumber verdicts.TooMany = 15
 
 -- where a walk of the tree came to, and the place f of it where assignments go; 16 and 13
-abbrev pub settled : (ℕ → ℕ) → ℕ → code.Grown → LineRead
-settled f used (At m p) = Fine (record { used = used; made = m }) (f p)
-settled f used Full = Fault 16
-settled f used Clash = Fault 13
+abbrev pub lineAfter : (ℕ → ℕ) → ℕ → code.Grown → LineRead
+lineAfter f used (At m p) = Fine (record { used = used; made = m }) (f p)
+lineAfter f used Full = Fault 16
+lineAfter f used Clash = Fault 13
 
 -- the document that the rooms hold
 abbrev pub docOf : List ℕ → List ℕ → State → ℕ → Doc
@@ -109,14 +109,14 @@ start = record { used = 0; made = 0 }
 abbrev pub wholeOf : Limits → List ℕ → Answer Doc
 wholeOf limits s = acceptedThen (join closed 1 (linesOf s)) (λ ls. linesS limits ls (empty limits))
 
--- a place behind a line
-pub record Behind (s : List ℕ) (p : Place) (line : ℕ) : Type 0 where
+-- a place after a line
+pub record AfterLine (s : List ℕ) (p : Place) (line : ℕ) : Type 0 where
   pub place : Between s (p .at) (p .line)
   pub number : line ≤ length s + 1
 
--- a line's fault, where the lines behind it have no 3 and no 4
-abbrev pub behindFault : List ℕ → Place → ℕ → ℕ → Answer Doc
-behindFault s p number line = acceptedThen (join closed (p .line) (linesOf (drop (p .at) s))) (λ _. atLine number line)
+-- a line's fault, where the lines after it have no 3 and no 4
+abbrev pub faultAfter : List ℕ → Place → ℕ → ℕ → Answer Doc
+faultAfter s p number line = acceptedThen (join closed (p .line) (linesOf (drop (p .at) s))) (λ _. atLine number line)
 
 -- the rooms take the text: the last LF of a laid text is in no line
 pub record Begun (limits : Limits) (s store tree : List ℕ) : Type 0 where
@@ -156,7 +156,7 @@ pub record Reads (limits : Limits) (n : ℕ) (store tree store' tree' : List ℕ
   pub tree-long : length tree' ≡ length tree
   pub kept : KeptAll limits n store tree store' tree' m
 
--- what the two rooms hold behind a text that means m; a refusal: "all lent rooms then hold zero"
+-- what the two rooms hold after a text that means m; a refusal: "all lent rooms then hold zero"
 abbrev pub storeOf : List ℕ → Answer Doc → List ℕ
 storeOf store (accepted d) = over (d .bytes) store
 storeOf store (refused f section line) = zeros (length store)

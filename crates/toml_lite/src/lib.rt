@@ -10,6 +10,11 @@ use values::Reply;
 use values::State;
 use values::form::Form;
 use values::grow::Grown;
+use values::grow::Here;
+use values::grow::assign;
+use values::grow::enter_path;
+use values::grow::push_path;
+use values::value::Allowed;
 ghost use mathlib.Core.Path.{_≡_};
 ghost use mathlib.Core.Bool.{true};
 ghost use Prim.Native.Nat.{_+_, _<_};
@@ -19,27 +24,33 @@ ghost use Rattle.meaning.specs.Space as space;
 ghost use Rattle.meaning.specs.Base.{zeros};
 ghost use Rattle.meaning.specs.Limits.{of01};
 ghost use Rattle.values.specs.Doc.{lineS, setS, documentS};
-ghost use Rattle.toml_lite.specs.Rooms.{verdictNumber, settled, docOf, hangK, Taking, Hanging, Lined, wholeOf, Behind, behindFault, Told, Begun, Reads, Cleared, Ready, Standing, Roomy, Empty, suffice, judged};
+ghost use Rattle.toml_lite.specs.Rooms.{verdictNumber, lineAfter, docOf, hangK, Taking, Hanging, Lined, wholeOf, AfterLine, faultAfter, Told, Begun, Reads, Cleared, Ready, Standing, Roomy, Empty, suffice, judged};
 
 // The longest text, and the LF that its last line may lack.
 pub const SCRATCH_BYTES: usize = TEXT_BYTES + 1;
 // The scratch of a short text: emptying a long one would take longer than reading the text.
 const SHORT_SCRATCH_BYTES: usize = 4096;
 
-// What a line comes to: the state behind it and the place where assignments go; or the number of its fault.
+// How far a text is read: the state of the rooms, and the place where assignments go.
+pub struct Progress {
+    pub st: State,
+    pub here: u16,
+}
+
+// What a line comes to: the state after it and the place where assignments go; or the number of its fault.
 pub enum LineRead {
     Fine { st: State, here: u16 },
     Fault(u32),
 }
 
-// What a text comes to: the state behind it; or the number of its fault and the line where it is told.
+// What a text comes to: the state after it; or the number of its fault and the line where it is told.
 pub enum Read {
     Fine(State),
     Fault { number: u32, line: usize },
 }
 
 // The number of a refused key, or 0.
-fn key_fault(v: Verdict) -> u32
+pub fn key_fault(v: Verdict) -> u32
     ensures { λ r. ⌜ r ≡ verdictNumber v ⌝ }
 {
     match v {
@@ -52,8 +63,8 @@ fn key_fault(v: Verdict) -> u32
 }
 
 // Where a header came to: assignments go there.
-fn settle(g: Grown, used: usize) -> LineRead
-    ensures { λ r. ⌜ r ≡ settled (λ p. p) used g ⌝ }
+fn after_header(g: Grown, used: usize) -> LineRead
+    ensures { λ r. ⌜ r ≡ lineAfter (λ p. p) used g ⌝ }
 {
     match g {
         Grown::At { made, place } => LineRead::Fine {
@@ -66,8 +77,8 @@ fn settle(g: Grown, used: usize) -> LineRead
 }
 
 // Where an assignment came to: the next goes to the same place.
-fn settle_at(g: Grown, used: usize, here: u16) -> LineRead
-    ensures { λ r. ⌜ r ≡ settled (λ _. here) used g ⌝ }
+fn after_assignment(g: Grown, used: usize, here: u16) -> LineRead
+    ensures { λ r. ⌜ r ≡ lineAfter (λ _. here) used g ⌝ }
 {
     match g {
         Grown::At { made, place: _ } => LineRead::Fine {
@@ -85,15 +96,19 @@ fn header(s: &[u8], store: &mut [u8], tree: &mut [u8], st: State, limits: Limits
     ensures { λ r. ⌜ Lined limits (length (now (s .entry))) (now (store .entry)) (now (tree .entry)) (now (store .exit)) (now (tree .exit)) st (lineS limits (meant.heads (now (s .entry))) (docOf (now (store .entry)) (now (tree .entry)) st 1)) r ⌝ }
 {
     let used = st.used;
-    let made = st.made;
+    let root = Here {
+        made: st.made,
+        limit: limits.values,
+        place: 1,
+    };
     let key = scalar::key::put_key(s, store, used, limits.segments);
     let verdict = key.verdict;
     let fault = key_fault(verdict);
     if fault != 0 {
         return LineRead::Fault(fault);
     }
-    let g = values::grow::down(tree, store, made, limits.values, 1, key, used, key.n);
-    settle(g, key.used)
+    let g = enter_path(tree, store, root, key, used, key.n);
+    after_header(g, key.used)
 }
 
 // A header `[[..]]`.
@@ -102,15 +117,19 @@ fn header_item(s: &[u8], store: &mut [u8], tree: &mut [u8], st: State, limits: L
     ensures { λ r. ⌜ Lined limits (length (now (s .entry))) (now (store .entry)) (now (tree .entry)) (now (store .exit)) (now (tree .exit)) st (lineS limits (meant.pushes (now (s .entry))) (docOf (now (store .entry)) (now (tree .entry)) st 1)) r ⌝ }
 {
     let used = st.used;
-    let made = st.made;
+    let root = Here {
+        made: st.made,
+        limit: limits.values,
+        place: 1,
+    };
     let key = scalar::key::put_key(s, store, used, limits.segments);
     let verdict = key.verdict;
     let fault = key_fault(verdict);
     if fault != 0 {
         return LineRead::Fault(fault);
     }
-    let g = values::grow::push_path(tree, store, made, limits.values, key, used);
-    settle(g, key.used)
+    let g = push_path(tree, store, root, key, used);
+    after_header(g, key.used)
 }
 
 // Hangs value number n up under a key, from the place where assignments go.
@@ -118,24 +137,28 @@ fn hang_key(
     s: &[u8],
     store: &mut [u8],
     tree: &mut [u8],
-    st: State,
-    here: u16,
+    progress: Progress,
     n: usize,
     limits: Limits,
 ) -> LineRead
-    requires { ⌜ Hanging limits (length (now s)) (now store) (now tree) st n ⌝ }
-    ensures { λ r. ⌜ Lined limits (length (now (s .entry))) (now (store .entry)) (now (tree .entry)) (now (store .exit)) (now (tree .exit)) st (hangK limits (now (s .entry)) n (docOf (now (store .entry)) (now (tree .entry)) st here)) r ⌝ }
+    requires { ⌜ Hanging limits (length (now s)) (now store) (now tree) (progress .st) n ⌝ }
+    ensures { λ r. ⌜ Lined limits (length (now (s .entry))) (now (store .entry)) (now (tree .entry)) (now (store .exit)) (now (tree .exit)) (progress .st) (hangK limits (now (s .entry)) n (docOf (now (store .entry)) (now (tree .entry)) (progress .st) (progress .here))) r ⌝ }
 {
+    let st = progress.st;
     let used = st.used;
-    let made = st.made;
     let key = scalar::key::put_key(s, store, used, limits.segments);
     let verdict = key.verdict;
     let fault = key_fault(verdict);
     if fault != 0 {
         return LineRead::Fault(fault);
     }
-    let g = values::grow::assign(tree, store, made, limits.values, here, key, used, n);
-    settle_at(g, key.used, here)
+    let here = Here {
+        made: st.made,
+        limit: limits.values,
+        place: progress.here,
+    };
+    let g = assign(tree, store, here, key, used, n);
+    after_assignment(g, key.used, progress.here)
 }
 
 // An assignment: 6, the value, then the key.
@@ -144,21 +167,31 @@ fn setting(
     v: &[u8],
     store: &mut [u8],
     tree: &mut [u8],
-    st: State,
-    here: u16,
+    progress: Progress,
     limits: Limits,
 ) -> LineRead
-    requires { ⌜ Taking limits (length (now k) + length (now v)) (now store) (now tree) st ⌝ }
-    ensures { λ r. ⌜ Lined limits (length (now (k .entry)) + length (now (v .entry))) (now (store .entry)) (now (tree .entry)) (now (store .exit)) (now (tree .exit)) st (setS limits (now (k .entry)) (now (v .entry)) (docOf (now (store .entry)) (now (tree .entry)) st here)) r ⌝ }
+    requires { ⌜ Taking limits (length (now k) + length (now v)) (now store) (now tree) (progress .st) ⌝ }
+    ensures { λ r. ⌜ Lined limits (length (now (k .entry)) + length (now (v .entry))) (now (store .entry)) (now (tree .entry)) (now (store .exit)) (now (tree .exit)) (progress .st) (setS limits (now (k .entry)) (now (v .entry)) (docOf (now (store .entry)) (now (tree .entry)) (progress .st) (progress .here))) r ⌝ }
 {
     if k.len() == 0 {
         return LineRead::Fault(6);
     }
+    let allowed = Allowed {
+        values: limits.values,
+        arrays: limits.arrays,
+    };
+    let st = progress.st;
     let made = st.made;
-    let r = values::value::value(v, store, tree, st, 0, limits.values, limits.arrays);
+    let r = values::value::value(v, store, tree, st, 0, allowed);
     match r {
         Reply::Fault(n, _) => LineRead::Fault(n),
-        Reply::Fine(next) => hang_key(k, store, tree, next, here, made, limits),
+        Reply::Fine(after) => {
+            let next = Progress {
+                st: after,
+                here: progress.here,
+            };
+            hang_key(k, store, tree, next, made, limits)
+        }
     }
 }
 
@@ -168,17 +201,16 @@ fn assignment(
     v: &[u8],
     store: &mut [u8],
     tree: &mut [u8],
-    st: State,
-    here: u16,
+    progress: Progress,
     limits: Limits,
 ) -> LineRead
-    requires { ⌜ Taking limits (length (now k) + length (now v)) (now store) (now tree) st ⌝ }
-    ensures { λ r. ⌜ Lined limits (length (now (k .entry)) + length (now (v .entry))) (now (store .entry)) (now (tree .entry)) (now (store .exit)) (now (tree .exit)) st (lineS limits (meant.sets (now (k .entry)) (now (v .entry))) (docOf (now (store .entry)) (now (tree .entry)) st here)) r ⌝ }
+    requires { ⌜ Taking limits (length (now k) + length (now v)) (now store) (now tree) (progress .st) ⌝ }
+    ensures { λ r. ⌜ Lined limits (length (now (k .entry)) + length (now (v .entry))) (now (store .entry)) (now (tree .entry)) (now (store .exit)) (now (tree .exit)) (progress .st) (lineS limits (meant.sets (now (k .entry)) (now (v .entry))) (docOf (now (store .entry)) (now (tree .entry)) (progress .st) (progress .here))) r ⌝ }
 {
     let t = chars::trim(k);
     let from = t.from;
     let end = t.end;
-    setting(&k[from..end], v, store, tree, st, here, limits)
+    setting(&k[from..end], v, store, tree, progress, limits)
 }
 
 // A line without white space around it.
@@ -186,13 +218,13 @@ fn read_form(
     l: &[u8],
     store: &mut [u8],
     tree: &mut [u8],
-    st: State,
-    here: u16,
+    progress: Progress,
     limits: Limits,
 ) -> LineRead
-    requires { ⌜ Taking limits (length (now l)) (now store) (now tree) st ⌝ }
-    ensures { λ r. ⌜ Lined limits (length (now (l .entry))) (now (store .entry)) (now (tree .entry)) (now (store .exit)) (now (tree .exit)) st (lineS limits (meant.form (now (l .entry))) (docOf (now (store .entry)) (now (tree .entry)) st here)) r ⌝ }
+    requires { ⌜ Taking limits (length (now l)) (now store) (now tree) (progress .st) ⌝ }
+    ensures { λ r. ⌜ Lined limits (length (now (l .entry))) (now (store .entry)) (now (tree .entry)) (now (store .exit)) (now (tree .exit)) (progress .st) (lineS limits (meant.form (now (l .entry))) (docOf (now (store .entry)) (now (tree .entry)) (progress .st) (progress .here))) r ⌝ }
 {
+    let st = progress.st;
     let f = values::form::classify(l);
     match f {
         Form::Pushes => {
@@ -205,7 +237,7 @@ fn read_form(
         }
         Form::Sets(at) => {
             let b = at + 1;
-            assignment(&l[..at], &l[b..], store, tree, st, here, limits)
+            assignment(&l[..at], &l[b..], store, tree, progress, limits)
         }
         Form::Neither => LineRead::Fault(5),
     }
@@ -216,25 +248,24 @@ pub fn read_line(
     l: &[u8],
     store: &mut [u8],
     tree: &mut [u8],
-    st: State,
-    here: u16,
+    progress: Progress,
     limits: Limits,
 ) -> LineRead
-    requires { ⌜ Taking limits (length (now l)) (now store) (now tree) st ⌝ }
-    ensures { λ r. ⌜ Lined limits (length (now (l .entry))) (now (store .entry)) (now (tree .entry)) (now (store .exit)) (now (tree .exit)) st (lineS limits (meant.form (space.trim (now (l .entry)))) (docOf (now (store .entry)) (now (tree .entry)) st here)) r ⌝ }
+    requires { ⌜ Taking limits (length (now l)) (now store) (now tree) (progress .st) ⌝ }
+    ensures { λ r. ⌜ Lined limits (length (now (l .entry))) (now (store .entry)) (now (tree .entry)) (now (store .exit)) (now (tree .exit)) (progress .st) (lineS limits (meant.form (space.trim (now (l .entry)))) (docOf (now (store .entry)) (now (tree .entry)) (progress .st) (progress .here))) r ⌝ }
 {
     let t = chars::trim(l);
     let from = t.from;
     let end = t.end;
-    read_form(&l[from..end], store, tree, st, here, limits)
+    read_form(&l[from..end], store, tree, progress, limits)
 }
 
-// A refused line: 3 and 4 come before it, wherever they stand, so the lines behind it are checked for them.
-fn first_fault(s: &[u8], behind: Place, number: u32, line: usize) -> Read
-    requires { ⌜ Behind (now s) behind line ⌝ }
-    ensures { λ r. ⌜ Told (length (now (s .entry))) (behindFault (now (s .entry)) behind number line) r ⌝ }
+// A refused line: 3 and 4 come before it, wherever they stand, so the lines after it are checked for them.
+fn first_fault(s: &[u8], next: Place, number: u32, line: usize) -> Read
+    requires { ⌜ AfterLine (now s) next line ⌝ }
+    ensures { λ r. ⌜ Told (length (now (s .entry))) (faultAfter (now (s .entry)) next number line) r ⌝ }
 {
-    let c = text::check(s, behind.at, behind.line);
+    let c = text::check(s, next.at, next.line);
     match c {
         Checked::Fine(_) => Read::Fault { number, line },
         Checked::Over(l) => Read::Fault { number: 3, line: l },
@@ -249,12 +280,17 @@ pub fn read_lines(s: &[u8], store: &mut [u8], tree: &mut [u8], limits: Limits) -
 {
     let mut at = 0;
     let mut line = 1;
-    let mut here: u16 = 1;
-    let mut cur = State { used: 0, made: 0 };
+    let mut progress = Progress {
+        st: State { used: 0, made: 0 },
+        here: 1,
+    };
     while at < s.len() {
         let n = text::next_line(s, at, line);
         match n {
-            Next::End => return Read::Fine(cur),
+            Next::End => {
+                let st = progress.st;
+                return Read::Fine(st);
+            }
             Next::Over(l) => return Read::Fault { number: 3, line: l },
             Next::Open(l) => return Read::Fault { number: 4, line: l },
             Next::Line {
@@ -263,12 +299,11 @@ pub fn read_lines(s: &[u8], store: &mut [u8], tree: &mut [u8], limits: Limits) -
                 line: l,
                 next: p,
             } => {
-                let r = read_line(&s[from..end], store, tree, cur, here, limits);
+                let r = read_line(&s[from..end], store, tree, progress, limits);
                 match r {
                     LineRead::Fault(number) => return first_fault(s, p, number, l),
-                    LineRead::Fine { st, here: place } => {
-                        cur = st;
-                        here = place;
+                    LineRead::Fine { st, here } => {
+                        progress = Progress { st, here };
                         at = p.at;
                         line = p.line;
                     }
@@ -276,7 +311,8 @@ pub fn read_lines(s: &[u8], store: &mut [u8], tree: &mut [u8], limits: Limits) -
             }
         }
     }
-    Read::Fine(cur)
+    let st = progress.st;
+    Read::Fine(st)
 }
 
 // The same, with both rooms zeroed where a line is refused.

@@ -1,9 +1,9 @@
 use Rattle.toml_lite.proofs.Keying.{settled-there}
 use borrow.Author.Needs.{needs}
-use Rattle.toml_lite.proofs.settle.Statement.{statement}
-use Rattle.toml_lite.proofs.settle.Tie as tie
-use Rattle.toml_lite.proofs.settle.Reads as reads
-use Rattle.toml_lite.proofs.settle.Lts as lts
+use Rattle.toml_lite.proofs.after_header.Statement.{statement}
+use Rattle.toml_lite.proofs.after_header.Tie as tie
+use Rattle.toml_lite.proofs.after_header.Reads as reads
+use Rattle.toml_lite.proofs.after_header.Lts as lts
 
 enum-known-g : tie.Need-enum-known-g
 enum-known-g c = search needs
@@ -23,5 +23,5 @@ returns-2 c = search needs
 returns-3 : tie.Need-returns-3
 returns-3 c = search needs
 
-pub settle-spec : {M : Type 1} → statement M
-settle-spec = tie.close (tie.spec enum-known-g enum-told enum-told-2 returns returns-2 returns-3)
+pub after-header-spec : {M : Type 1} → statement M
+after-header-spec = tie.close (tie.spec enum-known-g enum-told enum-told-2 returns returns-2 returns-3)

@@ -1,12 +1,12 @@
-use Rattle.toml_lite.proofs.Keying.{hang-fault, hang-assigns, hang-done}
 use borrow.Author.Needs.{needs}
+use Rattle.toml_lite.proofs.Keying.{hang-fault, hang-assigns, hang-done}
 use Rattle.toml_lite.proofs.hang_key.Statement.{statement}
 use Rattle.toml_lite.proofs.hang_key.Tie as tie
 use Rattle.toml_lite.proofs.hang_key.Reads as reads
 use Rattle.toml_lite.proofs.hang_key.Lts as lts
-use Rattle.toml_lite.proofs.key_fault.Reads as key-fault-reads
-use Rattle.toml_lite.proofs.settle_at.Reads as settle-at-reads
 use Rattle.scalar.proofs.key.put_key.Reads as put-key-reads
+use Rattle.toml_lite.proofs.after_assignment.Reads as after-assignment-reads
+use Rattle.toml_lite.proofs.key_fault.Reads as key-fault-reads
 use Rattle.values.proofs.grow.assign.Reads as assign-reads
 
 put-key-requires : tie.Need-put-key-requires
@@ -24,8 +24,8 @@ returns c = search (needs, hang-fault)
 assign-requires : tie.Need-assign-requires
 assign-requires c κs = search (needs, hang-assigns)
 
-settle-at-requires : tie.Need-settle-at-requires
-settle-at-requires c κs = search needs
+after-assignment-requires : tie.Need-after-assignment-requires
+after-assignment-requires c κs = search needs
 
 same-length-2 : tie.Need-same-length-2
 same-length-2 c = search needs
@@ -45,7 +45,7 @@ hang-key-spec =
     same-length
     returns
     assign-requires
-    settle-at-requires
+    after-assignment-requires
     same-length-2
     same-length-3
     returns-2)

@@ -1,13 +1,13 @@
-use Rattle.toml_lite.proofs.Keying.{header-fault, header-paths, header-done}
 use borrow.Author.Needs.{needs}
+use Rattle.toml_lite.proofs.Keying.{header-fault, header-paths, header-done}
 use Rattle.toml_lite.proofs.header.Statement.{statement}
 use Rattle.toml_lite.proofs.header.Tie as tie
 use Rattle.toml_lite.proofs.header.Reads as reads
 use Rattle.toml_lite.proofs.header.Lts as lts
-use Rattle.toml_lite.proofs.key_fault.Reads as key-fault-reads
-use Rattle.toml_lite.proofs.settle.Reads as settle-reads
 use Rattle.scalar.proofs.key.put_key.Reads as put-key-reads
-use Rattle.values.proofs.grow.down.Reads as down-reads
+use Rattle.toml_lite.proofs.after_header.Reads as after-header-reads
+use Rattle.toml_lite.proofs.key_fault.Reads as key-fault-reads
+use Rattle.values.proofs.grow.enter_path.Reads as enter-path-reads
 
 put-key-requires : tie.Need-put-key-requires
 put-key-requires c κs = search needs
@@ -21,11 +21,11 @@ same-length c = search needs
 returns : tie.Need-returns
 returns c = search (needs, header-fault)
 
-down-requires : tie.Need-down-requires
-down-requires c κs = search (needs, header-paths)
+enter-path-requires : tie.Need-enter-path-requires
+enter-path-requires c κs = search (needs, header-paths)
 
-settle-requires : tie.Need-settle-requires
-settle-requires c κs = search needs
+after-header-requires : tie.Need-after-header-requires
+after-header-requires c κs = search needs
 
 same-length-2 : tie.Need-same-length-2
 same-length-2 c = search needs
@@ -44,8 +44,8 @@ header-spec =
     key-fault-requires
     same-length
     returns
-    down-requires
-    settle-requires
+    enter-path-requires
+    after-header-requires
     same-length-2
     same-length-3
     returns-2)

@@ -1,12 +1,12 @@
-use Rattle.toml_lite.proofs.Keying.{item-fault, item-keyed, item-done}
 use borrow.Author.Needs.{needs}
+use Rattle.toml_lite.proofs.Keying.{item-fault, item-keyed, item-done}
 use Rattle.toml_lite.proofs.header_item.Statement.{statement}
 use Rattle.toml_lite.proofs.header_item.Tie as tie
 use Rattle.toml_lite.proofs.header_item.Reads as reads
 use Rattle.toml_lite.proofs.header_item.Lts as lts
-use Rattle.toml_lite.proofs.key_fault.Reads as key-fault-reads
-use Rattle.toml_lite.proofs.settle.Reads as settle-reads
 use Rattle.scalar.proofs.key.put_key.Reads as put-key-reads
+use Rattle.toml_lite.proofs.after_header.Reads as after-header-reads
+use Rattle.toml_lite.proofs.key_fault.Reads as key-fault-reads
 use Rattle.values.proofs.grow.push_path.Reads as push-path-reads
 
 put-key-requires : tie.Need-put-key-requires
@@ -24,8 +24,8 @@ returns c = search (needs, item-fault)
 push-path-requires : tie.Need-push-path-requires
 push-path-requires c κs = search (needs, item-keyed)
 
-settle-requires : tie.Need-settle-requires
-settle-requires c κs = search needs
+after-header-requires : tie.Need-after-header-requires
+after-header-requires c κs = search needs
 
 same-length-2 : tie.Need-same-length-2
 same-length-2 c = search needs
@@ -45,7 +45,7 @@ header-item-spec =
     same-length
     returns
     push-path-requires
-    settle-requires
+    after-header-requires
     same-length-2
     same-length-3
     returns-2)

@@ -1,7 +1,8 @@
+-- The lines that are left, read from what the rooms hold now, mean what the whole text means.
 use borrow.Author.Needs.{needs}
 use lib.ListN.{length}
 use Prim.Native.Nat.{_-_}
-use Rattle.toml_lite.proofs.Looping.{Ahead, ahead-start, ahead-end, ahead-none, ahead-over, ahead-open, ahead-from, ahead-in, ahead-less, ahead-taking, ahead-behind, ahead-fault, ahead-on}
+use Rattle.toml_lite.proofs.Looping.{Ahead, ahead-start, ahead-end, ahead-none, ahead-over, ahead-open, ahead-from, ahead-in, ahead-less, ahead-taking, ahead-next, ahead-fault, ahead-on}
 use Rattle.toml_lite.proofs.read_lines.Statement.{statement}
 use Rattle.toml_lite.proofs.read_lines.Tie as tie
 use Rattle.toml_lite.proofs.read_lines.Reads as reads
@@ -11,10 +12,10 @@ use Rattle.toml_lite.proofs.read_line.Reads as read-line-reads
 use Rattle.text.proofs.next_line.Reads as next-line-reads
 
 abbrev Inv-loop : tie.InvT-loop
-Inv-loop s store₀ tree₀ limits at₀ line₀ here₀ cur₀ store tree at line here cur = Ahead limits s store₀ tree₀ store tree cur here at line
+Inv-loop s store₀ tree₀ limits at₀ line₀ progress₀ store tree at line progress = Ahead limits s store₀ tree₀ store tree (progress .st) (progress .here) at line
 
 abbrev μ-loop : tie.MeasureT-loop
-μ-loop s store₀ tree₀ limits at₀ line₀ here₀ cur₀ store tree at line here cur = length s - at
+μ-loop s store₀ tree₀ limits at₀ line₀ progress₀ store tree at line progress = length s - at
 
 loop-holds : tie.Need-loop-holds Inv-loop μ-loop
 loop-holds c = search (needs, ahead-start)
@@ -77,7 +78,10 @@ enum-known-r : tie.Need-enum-known-r Inv-loop μ-loop
 enum-known-r c = search needs
 
 first-fault-requires : tie.Need-first-fault-requires Inv-loop μ-loop
-first-fault-requires c κs = search (needs, ahead-behind)
+first-fault-requires c κs =
+    let line = c .before .before .before .before .before .before .before .before .before .before .before .before in
+    let found = line .before .before in
+    ahead-next _ _ _ _ _ _ _ _ _ _ (found .before .before .loop .inv) _ (found .next-line .ensures) _ _ _ _ (line .n3 .given .1)
 
 same-length-7 : tie.Need-same-length-7 Inv-loop μ-loop
 same-length-7 c = search needs

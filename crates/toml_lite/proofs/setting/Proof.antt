@@ -1,5 +1,6 @@
-use Rattle.toml_lite.proofs.Assigning.{setting-none, setting-ready, setting-fault, setting-hangs, setting-done}
+-- The value read first is the next number, so the key can hang it up.
 use borrow.Author.Needs.{needs}
+use Rattle.toml_lite.proofs.Assigning.{setting-none, setting-ready, setting-fault, setting-hangs, setting-done}
 use Rattle.toml_lite.proofs.setting.Statement.{statement}
 use Rattle.toml_lite.proofs.setting.Tie as tie
 use Rattle.toml_lite.proofs.setting.Reads as reads
@@ -21,9 +22,9 @@ enum-known-r-2 c = search needs
 
 hang-key-requires : tie.Need-hang-key-requires
 hang-key-requires c κs =
-    let d = c .before .before .before .before .before .before .before .before .before in
-    let a = d .before .before .before .before .before .before .before .before in
-    setting-hangs _ _ _ _ _ _ (a .pre) (d .before .before .before .if1 .left) _ _ _ (d .value .ensures) _ (c .before .before .before .r2 .given .1)
+    let read = c .before .before .before .before .before .before .before .before .before in
+    let start = read .before .before .before .before .before .before .before .before .before in
+    setting-hangs _ _ _ _ _ _ (start .pre) (read .before .before .before .before .if1 .left) _ _ _ (read .value .ensures) _ (c .before .before .before .r2 .given .1)
 
 same-length : tie.Need-same-length
 same-length c = search needs
