@@ -24,7 +24,7 @@ use Rattle.tree.specs.Laws.{found-below}
 use Rattle.schema.specs.declared.Text.{Text}
 use Rattle.schema.specs.declared.Text.the-variants as texts
 use Rattle.schema.specs.declared.Features.{Features}
-use Rattle.schema.specs.Texts.{orText}
+use Rattle.schema.specs.Texts.{orText, isGiven}
 use Rattle.parse.specs.declared.field.TextRead.{TextRead}
 use Rattle.parse.specs.declared.component.Sources.{Sources}
 use Rattle.parse.specs.declared.component.Lists.{Lists}
@@ -37,13 +37,14 @@ use Rattle.parse.specs.Application.{loading, applicationRead}
 use Rattle.parse.specs.Entries.{entryTable, tableAt, componentAt, applicationAt}
 use Rattle.parse.specs.Views.{componentList}
 use Rattle.parse.proofs.Judging.{components-among}
-use Rattle.layout.specs.Marks.{anyOf}
-use Rattle.validate.specs.Entries.{there}
-use Rattle.validate.specs.declared.uses.Spot.{Spot}
+use Rattle.turns.specs.Marks.{anyOf}
+use Rattle.schema.specs.declared.spot.Spot.{Spot}
 use Rattle.validate.specs.declared.uses.Pair.{Pair}
-use Rattle.validate.specs.Clashes as spots
-use Rattle.validate.specs.Clashes.{packed, noSpot, textSpot, listSpot, spotted, listAt, single}
-use Rattle.validate.specs.ClashSaid.{Short, ShortList, stored-short, list-short, field-text-short, field-list-short, lists-short}
+use Rattle.schema.specs.Spots as spots
+use Rattle.schema.specs.Spots.{packed, noSpot, textSpot, listSpot, spotted, listAt}
+use Rattle.validate.specs.Clashes.{pairOfApplication}
+use Rattle.schema.specs.Spots.{Short, ShortList, stored-short, list-short}
+use Rattle.validate.specs.ClashSaid.{field-text-short, field-list-short, lists-short}
 use Rattle.plan.specs.declared.component.Build.{Build}
 use Rattle.plan.specs.declared.builds.Use.{Use}
 use Rattle.plan.specs.declared.builds.BuildList.{BuildList}
@@ -100,7 +101,7 @@ wanted-read room store made n v t s l o own pbp e1 e2 e3 e4 e5 e6 e7 =
 
 -- an application's package and bin are its key
 pub application-read : (room store : Seq ℕ) (made n : ℕ) (r : ApplicationRead) (v : Slot) (p : Pair) → r ≡ applicationAt room store made n 32 → v ≡ slotAt room n
-    → p ≡ single (v .key) (v .len) (r .application .features) → buildAt (record { «package» = p .«package»; bin = p .«package»; features = p .features }) ≡ applicationUse room store made n
+    → p ≡ pairOfApplication (v .key) (v .len) (r .application .features) → buildAt (record { «package» = p .«package»; bin = p .«package»; features = p .features }) ≡ applicationUse room store made n
 unfolding buildAt spots.textAt applicationUse applicationAt applicationRead loading
 application-read room store made n r v p e1 e2 e3 =
     let list = applicationAt room store made n 32 .application .features in
@@ -197,9 +198,9 @@ module _ (store : Seq ℕ) where
   unfolding spots.textAt spotted
   packed-at s = on (eqb (s .kind) 1) (λ e. rw e) (λ e. rw e)
 
-  there-at : (s : Spot) → there (spots.textAt s) ≡ eqb (s .kind) 1
+  given-at : (s : Spot) → isGiven (spots.textAt s) ≡ eqb (s .kind) 1
   unfolding spots.textAt
-  there-at s = on (eqb (s .kind) 1) (λ e. rw e) (λ e. rw e)
+  given-at s = on (eqb (s .kind) 1) (λ e. rw e) (λ e. rw e)
 
   any-at : (u : Use) (es : Seq Use) → anyOf (λ (v : Build). twice (packed store (spots.textAt (u .«package»))) (packed store (v .«package»))) (map buildAt es) ≡ anyOf (same-package store u) es
   unfolding buildAt
@@ -209,7 +210,7 @@ module _ (store : Seq ℕ) where
   -- a use of a package that none of the earlier ones is of, by spots
   fresh-at : (es : Seq Use) (u : Use) → fresh store (map buildAt es) (buildAt u) ≡ pick (eqb (u .«package» .kind) 1) (pick (anyOf (same-package store u) es) false true) false
   unfolding fresh buildAt
-  fresh-at es u = rw (any-at u es, there-at (u .«package»))
+  fresh-at es u = rw (any-at u es, given-at (u .«package»))
 
 -- the first uses among those before number i stand in the array
 pub record Firsts (store : Seq ℕ) (uses : Seq Use) (count : ℕ) (xs : Seq Use) (n i : ℕ) : Type 0 where

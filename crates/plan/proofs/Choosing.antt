@@ -24,7 +24,7 @@ use Rattle.parse.specs.Fields.{textNeeded}
 use Rattle.parse.specs.Component.{componentRead, headRead}
 use Rattle.parse.specs.Entries.{Among, entryTable, told, walk, componentAt, applicationAt}
 use Rattle.parse.specs.Views.{componentList, applicationList}
-use Rattle.layout.specs.Marks.{anyOf}
+use Rattle.turns.specs.Marks.{anyOf}
 use Rattle.plan.specs.declared.choice.Choice.{Choice}
 use Rattle.plan.specs.declared.choice.Choice.the-variants.{BootChain, Undeclared, At}
 use Rattle.plan.specs.Choices.{Chosen, keyed, declaredIn, declared, choice, named, taken, nameFault, fault}

@@ -27,7 +27,7 @@ use Rattle.schema.specs.declared.Component.{Component}
 use Rattle.schema.specs.declared.Application.{Application}
 use Rattle.schema.specs.declared.Kind.the-variants as kinds
 use Rattle.schema.specs.declared.Features.the-variants as lists
-use Rattle.schema.specs.Texts.{clip, startOf, lengthOf, orText}
+use Rattle.schema.specs.Texts.{clip, startOf, lengthOf, orText, isGiven}
 use Rattle.parse.specs.declared.field.TextRead.{TextRead}
 use Rattle.parse.specs.declared.front.TableRead.{TableRead}
 use Rattle.parse.specs.declared.entry.List.{List}
@@ -38,7 +38,7 @@ use Rattle.parse.specs.Fields.{textAt}
 use Rattle.parse.specs.Entries.{entryTable, tableAt, applicationAt}
 use Rattle.parse.specs.Views as views
 use Rattle.parse.proofs.Judging.{components-among}
-use Rattle.validate.specs.Entries.{kept, there}
+use Rattle.validate.specs.Entries.{kept}
 use Rattle.validate.specs.Gathered.{components}
 use Rattle.plan.specs.declared.choice.Choice.{Choice}
 use Rattle.plan.specs.declared.choice.Choice.the-variants as choices
@@ -51,14 +51,14 @@ use Rattle.plan.specs.declared.component.PlannedFound.the-variants as re
 use Rattle.plan.specs.Choices.{Standing}
 use Rattle.plan.specs.Planned as plans
 use Rattle.plan.specs.PlannedSaid.{partition-read}
-use Rattle.plan.specs.Planned.{built, payload, pbpPayload, headLeft, bootLeft, planned, noBoot, loads, componentOf, before, placed, ahead, own, selected, composed, component}
+use Rattle.plan.specs.Planned.{built, payload, pbpPayload, headLeft, bootLeft, planned, noBoot, loads, componentOf, before, placed, ahead, own, plannedApplication, composed, component}
 
 -- ---- a component
 
 pub built-is : (p bin b : Text) (fs : Features) → b ≡ orText bin p → record { «package» = p; bin = b; features = fs } ≡ built p bin fs
 built-is p bin b fs e = rw e
 
-module _ (h : Head) (fs : Features) (t : Bool) (e : t ≡ there (h .«package»)) where
+module _ (h : Head) (fs : Features) (t : Bool) (e : t ≡ isGiven (h .«package»)) where
   pub payload-built : (b : Build) → t ≡ true → b ≡ built (h .«package») (h .bin) fs → sources.Package b ≡ payload h fs
   unfolding payload
   payload-built b y f = rw (← e, y, f)
@@ -67,12 +67,12 @@ module _ (h : Head) (fs : Features) (t : Bool) (e : t ≡ there (h .«package»)
   unfolding payload
   payload-file r y f = rw (← e, y, f)
 
-module _ (b : Boot) (fs : Features) (t : Bool) (e : t ≡ there (b .pbp)) where
+module _ (b : Boot) (fs : Features) (t : Bool) (e : t ≡ isGiven (b .pbp)) where
   pub pbp-file : t ≡ true → sources.File (b .pbp) ≡ pbpPayload b fs
   unfolding pbpPayload
   pbp-file y = rw (← e, y)
 
-  module _ (y : t ≡ false) (u : Bool) (f : u ≡ there (b .«pbp_package»)) where
+  module _ (y : t ≡ false) (u : Bool) (f : u ≡ isGiven (b .«pbp_package»)) where
     pub pbp-built : (r : Build) → u ≡ true → r ≡ built (b .«pbp_package») texts.Absent fs → sources.Package r ≡ pbpPayload b fs
     unfolding pbpPayload
     pbp-built r z g = rw (← e, y, ← f, z, g)
@@ -81,7 +81,7 @@ module _ (b : Boot) (fs : Features) (t : Bool) (e : t ≡ there (b .pbp)) where
     unfolding pbpPayload
     pbp-none z = rw (← e, y, ← f, z)
 
-module _ (h : Head) (t : Bool) (e : t ≡ there (h .«package»)) where
+module _ (h : Head) (t : Bool) (e : t ≡ isGiven (h .«package»)) where
   pub left-whole : t ≡ true → h ≡ headLeft h
   unfolding headLeft
   left-whole y = rw (← e, y)
@@ -198,7 +198,7 @@ module _ (room store : Seq ℕ) (made i : ℕ) (found : ComponentFound) (e : fou
   own-some c p g f = rw (← e, g, f)
 
 pub selected-is : (room store : Seq ℕ) (made n : ℕ) (r : ApplicationRead) (c : Component) (p : Planned)
-    → r ≡ applicationAt room store made n 32 → c ≡ componentOf (r .application) → p ≡ planned c → results.At p ≡ selected room store made n
+    → r ≡ applicationAt room store made n 32 → c ≡ componentOf (r .application) → p ≡ planned c → results.At p ≡ plannedApplication room store made n
 selected-is room store made n r c p e f g = rw (g, f, e)
 
 module _ (room store : Seq ℕ) (made n i at : ℕ) (r : PlannedFound) (e : at ≡ ahead room store made) where
@@ -207,7 +207,7 @@ module _ (room store : Seq ℕ) (made n i at : ℕ) (r : PlannedFound) (e : at �
   composed-before h f = rw (← e, lt-ltb i at h) f
 
   module _ (h : at ≤ i) where
-    pub composed-here : i ≡ at → r ≡ selected room store made n → r ≡ composed room store made n i
+    pub composed-here : i ≡ at → r ≡ plannedApplication room store made n → r ≡ composed room store made n i
     unfolding composed
     composed-here k f = rw (← e, le-ltb i at h, eq-eqb i at k) f
 

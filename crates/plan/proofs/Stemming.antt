@@ -21,7 +21,8 @@ use Rattle.tree.specs.Laws.{found-below}
 use Rattle.schema.specs.declared.KindRead.{KindRead}
 use Rattle.schema.specs.declared.Text.{Text}
 use Rattle.schema.specs.declared.Text.the-variants as texts
-use Rattle.schema.specs.Texts.{clip, orText}
+use Rattle.schema.specs.Texts.{clip, orText, isGiven}
+use Rattle.schema.proofs.Wording.{Elsewhere, elsewhere}
 use Rattle.parse.specs.declared.front.TableRead.{TableRead}
 use Rattle.parse.specs.declared.front.Front.{Front}
 use Rattle.parse.specs.declared.entry.List.{List}
@@ -32,7 +33,6 @@ use Rattle.parse.specs.Entries.{entryTable, componentAt}
 use Rattle.parse.specs.Front.{frontRead}
 use Rattle.parse.specs.Refused.{lentText}
 use Rattle.parse.specs.Views.{componentList}
-use Rattle.validate.specs.Entries.{there}
 use Rattle.plan.specs.declared.choice.Choice.{Choice}
 use Rattle.plan.specs.declared.choice.Choice.the-variants as choices
 use Rattle.plan.specs.Choices.{Standing}
@@ -88,16 +88,16 @@ module _ (store : Seq ℕ) (file t : Text) (e : t ≡ nameIn store file) where
   pub stem-stored : (from len : ℕ) (s : Seq ℕ) (n : ℕ) → t ≡ texts.Stored from len → s ≡ clip from len store → n ≡ stopped s → texts.Stored from n ≡ stemOf store file
   stem-stored from len s n g es en = rw (← e, g, ← es) (ap (texts.Stored from) en)
 
-  pub stem-none : (u : Text) → t ≡ u → texts.Absent ≡ shortened store u → texts.Absent ≡ stemOf store file
-  stem-none u g q = rw (← e, g) q
+  pub stem-none : Elsewhere t → texts.Absent ≡ stemOf store file
+  stem-none o = rw (← e) (elsewhere (shortened store) texts.Absent refl refl (λ _. refl) (λ _ _. refl) t o)
 
 -- the other only where the first is absent
-or-there : (t d : Text) → orText t d ≡ pick (there t) t d
-or-there texts.Absent d = refl
-or-there (texts.Stored from len) d = refl
-or-there texts.Lent d = refl
-or-there (texts.Fixed w) d = refl
-or-there (texts.WithAic from len) d = refl
+or-given : (t d : Text) → orText t d ≡ pick (isGiven t) t d
+or-given texts.Absent d = refl
+or-given (texts.Stored from len) d = refl
+or-given texts.Lent d = refl
+or-given (texts.Fixed w) d = refl
+or-given (texts.WithAic from len) d = refl
 
 -- ---- the first `app` component with a partition
 
@@ -155,10 +155,10 @@ module _ (room store : Seq ℕ) (made : ℕ) where
 
   -- ---- of a plan
 
-  module _ (name : Seq ℕ) (t : Text) (b : Bool) (e : t ≡ leading room store made) (k : b ≡ there t) where
+  module _ (name : Seq ℕ) (t : Text) (b : Bool) (e : t ≡ leading room store made) (k : b ≡ isGiven t) where
     boot-stem-or : bootStem room store made name ≡ pick b t (frontRead room store made (fieldsOf room made 1) (lentText name) .board .name)
     unfolding bootStem
-    boot-stem-or = rw (← e, k) (or-there t _)
+    boot-stem-or = rw (← e, k) (or-given t _)
 
     pub boot-stem-led : b ≡ true → t ≡ bootStem room store made name
     boot-stem-led y = sym (rw y at boot-stem-or)

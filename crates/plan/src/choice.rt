@@ -2,6 +2,7 @@
 
 use parse::Refusal;
 use parse::entry::List;
+use schema::MOST_FEATURES;
 use tree::Found;
 ghost use mathlib.Core.Path.{_≡_};
 ghost use Rattle.tree.specs.Doors.{Rooms, Stood};
@@ -104,7 +105,7 @@ fn check_name(tree: &[u8], store: &[u8], made: usize, place: usize, n: usize) ->
     requires { ⌜ Rooms (now tree) made × Stood (now tree) n ⌝ }
     ensures { λ r. ⌜ r ≡ choices.nameFault (now (tree .entry)) (now (store .entry)) made place n ⌝ }
 {
-    let r = parse::entry::application_at(tree, store, made, n, 32);
+    let r = parse::entry::application_at(tree, store, made, n, MOST_FEATURES);
     let a = r.application;
     let name = a.name;
     let own = schema::stored(store, name.start(), name.length());
@@ -117,7 +118,7 @@ fn check_name(tree: &[u8], store: &[u8], made: usize, place: usize, n: usize) ->
 // 80, then 81.
 pub fn check(tree: &[u8], store: &[u8], made: usize, app: u32, key: &[u8]) -> Refusal
     requires { ⌜ Rooms (now tree) made ⌝ }
-    ensures { λ r. ⌜ r ≡ choices.fault (now (tree .entry)) (now (store .entry)) made (choices.choice (now (tree .entry)) (now (store .entry)) made app (now (key .entry))) ⌝ }
+    ensures { λ r. ⌜ r ≡ choices.refused (now (tree .entry)) (now (store .entry)) made app (now (key .entry)) ⌝ }
 {
     let c = choose(tree, store, made, app, key);
     match c {

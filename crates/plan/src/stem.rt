@@ -17,7 +17,7 @@ fn last_dot(s: &[u8]) -> usize
     let mut i = s.len();
     while 0 < i {
         i -= 1;
-        if s[i] == 46 {
+        if s[i] == b'.' {
             return i;
         }
     }
@@ -42,13 +42,10 @@ fn stem_of(store: &[u8], file: Text) -> Text
     let t = parse::component::name_in(store, file);
     match t {
         Text::Stored { from, len } => Text::Stored {
-            from: from,
+            from,
             len: stem_length(schema::stored(store, from, len)),
         },
-        Text::Absent => Text::Absent,
-        Text::Lent => Text::Absent,
-        Text::Fixed(_) => Text::Absent,
-        Text::WithAic { from: _, len: _ } => Text::Absent,
+        _ => Text::Absent,
     }
 }
 
@@ -57,8 +54,7 @@ fn is_app(k: Kind) -> bool
 {
     match k {
         Kind::App => true,
-        Kind::Pbp => false,
-        Kind::Raw => false,
+        _ => false,
     }
 }
 
@@ -128,7 +124,7 @@ fn boot_stem(tree: &[u8], store: &[u8], made: usize, name: &[u8]) -> Text
     ensures { λ r. ⌜ r ≡ stems.bootStem (now (tree .entry)) (now (store .entry)) made (now (name .entry)) ⌝ }
 {
     let t = leading(tree, store, made);
-    if validate::component::there(t) {
+    if t.is_given() {
         return t;
     }
     let root = tree::fields_at(tree, made, 1);

@@ -1,11 +1,11 @@
 -- The lines of the listing: one law for each.
 use Prim.Native.Nat.{ℕ, _+_}
-use mathlib.Core.List.{List, [], _∷_, _++_, append-assoc, append-nil}
+use mathlib.Core.List.{List, [], _∷_, append-assoc, append-nil}
 use mathlib.Core.Path.{_≡_, ap}
-use lib.ListN.{length}
 use Rattle.meaning.specs.Base.{ascii}
 use Rattle.meaning.specs.Schema as meant
-use Rattle.meaning.specs.Listing.{spaced, decimal, dashed, stemLine, refusedLine}
+use Rattle.meaning.specs.Listing.{decimal, dashed, stemLine, refusedLine}
+use Rattle.schema.specs.declared.Text.{Text}
 use Rattle.schema.specs.declared.Word.{Word}
 use Rattle.schema.specs.declared.Chip.{Chip}
 use Rattle.schema.specs.declared.Chip.the-variants as chips
@@ -14,42 +14,20 @@ use Rattle.schema.specs.declared.Media.the-variants as medias
 use Rattle.schema.specs.declared.Kind.{Kind}
 use Rattle.schema.specs.declared.Kind.the-variants as kinds
 use Rattle.schema.specs.declared.Partition.{Partition}
-use Rattle.schema.specs.declared.Component.{Component}
-use Rattle.schema.specs.declared.Application.{Application}
 use Rattle.schema.specs.Words.{word, chipMeant, mediaMeant, kindMeant, chipWord, mediaWord, kindWord}
 use Rattle.schema.specs.Texts.{clip, spelled}
-use Rattle.tree.specs.Room.{Holds, Counts as Counted}
-use Rattle.tree.specs.Doors.{Rooms}
 use Rattle.parse.specs.declared.entry.List.{List as Places}
+use Rattle.parse.specs.declared.view.Lists.{Lists}
 use Rattle.parse.specs.declared.view.Counts.{Counts}
 use Rattle.parse.specs.declared.view.Device.{Device}
-use Rattle.parse.specs.Entries.{Keyed}
-use Rattle.parse.specs.Front.{boardRead, frontOf}
-use Rattle.parse.specs.Meant.{featureList}
-use Rattle.parse.specs.Views.{countsOf, deviceOf}
-use Rattle.parse.proofs.Judging.{partitions-hold, components-hold, applications-hold, counts-are}
-use Rattle.plan.specs.declared.component.Build.{Build}
+use Rattle.parse.specs.Views.{partitionList, componentList, applicationList, countsOf, deviceOf}
+use Rattle.report.specs.declared.Placed.{Placed}
 use Rattle.report.specs.declared.brief.ComponentBrief.{ComponentBrief}
 use Rattle.report.specs.declared.brief.ApplicationBrief.{ApplicationBrief}
 use Rattle.page.specs.Page.{Wrote}
 use Rattle.report.specs.Shown as shown
 use Rattle.page.proofs.Pages.{wrote-then}
 use Rattle.page.proofs.Writing.{field-by}
-
--- ---- where the lists stand
-module _ (room store : List ℕ) (made : ℕ) (p c a : Places) (h : Rooms room made) (l : shown.Listed room store made p c a) where
-  pub partitions-stand : Holds room (p .end)
-  partitions-stand = partitions-hold room store made p h (l .partitions)
-
-  pub components-stand : Holds room (c .end)
-  components-stand = components-hold room store made c h (l .components)
-
-  pub applications-stand : Holds room (a .end)
-  applications-stand = applications-hold room store made a h (l .applications)
-
-  pub counts-stand : (i j k : ℕ) → Counted room (p .end) (p .place) i → Counted room (c .end) (c .place) j → Keyed room store a 64 k
-      → record { partitions = i; components = j; applications = k } ≡ countsOf room store made
-  counts-stand i j k = counts-are room store made p c a i j k (l .partitions) (l .components) (l .applications)
 
 -- ---- words
 chip-said : (c : Chip) (w : Word) → w ≡ chipWord c → word w ≡ meant.chipWord (chipMeant c)
@@ -75,12 +53,11 @@ module _ (o o1 o2 o3 : List ℕ) (n n1 n2 n3 : ℕ) where
   stem-line s w a z = simp append-assoc (wrote-then w (wrote-then a z))
 
   module _ (o4 : List ℕ) (n4 : ℕ) where
-    pub build-line : (room store : List ℕ) (made : ℕ) (name : List ℕ) (b : Build) (k : ℕ)
-        → Wrote (ascii "build") o n o1 n1 → Wrote (32 ∷ spelled store name (b .«package»)) o1 n1 o2 n2 → Wrote (32 ∷ decimal k) o2 n2 o3 n3 → Wrote (10 ∷ []) o3 n3 o4 n4
-        → k ≡ length (featureList room store made (b .features))
-        → Wrote (shown.build room store made name b) o n o4 n4
+    pub build-line : (store name : List ℕ) (p : Text) (k : ℕ)
+        → Wrote (ascii "build") o n o1 n1 → Wrote (32 ∷ spelled store name p) o1 n1 o2 n2 → Wrote (32 ∷ decimal k) o2 n2 o3 n3 → Wrote (10 ∷ []) o3 n3 o4 n4
+        → Wrote (shown.build store name p k) o n o4 n4
     unfolding shown.build
-    build-line room store made name b k w x y z e = simp append-assoc (wrote-then w (wrote-then x (wrote-then (field-by y (ap decimal e)) z)))
+    build-line store name p k w x y z = simp append-assoc (wrote-then w (wrote-then x (wrote-then y z)))
 
     module _ (o5 : List ℕ) (n5 : ℕ) where
       pub part-line : (store : List ℕ) (p : Partition) (s : List ℕ) (end : ℕ)
@@ -97,22 +74,20 @@ module _ (o o1 o2 o3 : List ℕ) (n n1 n2 n3 : ℕ) where
       refused-line number section place w x y v z = simp append-assoc (wrote-then w (wrote-then x (wrote-then y (wrote-then v z))))
 
       module _ (store name : List ℕ) where
-        pub comp-line : (c : Component) (b : ComponentBrief) (k : Word)
+        pub comp-line : (b : ComponentBrief) (k : Word)
             → Wrote (ascii "comp") o n o1 n1 → Wrote (32 ∷ spelled store name (b .name)) o1 n1 o2 n2 → Wrote (32 ∷ word k) o2 n2 o3 n3
             → Wrote (32 ∷ dashed (spelled store name (b .partition))) o3 n3 o4 n4 → Wrote (10 ∷ []) o4 n4 o5 n5
-            → k ≡ kindWord (b .kind) → b ≡ shown.componentBrief c
-            → Wrote (shown.comp store name c) o n o5 n5
+            → k ≡ kindWord (b .kind)
+            → Wrote (shown.comp store name b) o n o5 n5
         unfolding shown.comp
-        comp-line c b k w x y v z e d =
-            simp append-assoc (wrote-then w (wrote-then (rw d at x) (wrote-then (field-by y (kind-said (c .head .kind) k (rw d at e))) (wrote-then (rw d at v) z))))
+        comp-line b k w x y v z e = simp append-assoc (wrote-then w (wrote-then x (wrote-then (field-by y (kind-said (b .kind) k e)) (wrote-then v z))))
 
-        pub app-line : (a : Application) (b : ApplicationBrief)
+        pub app-line : (b : ApplicationBrief)
             → Wrote (ascii "app") o n o1 n1 → Wrote (32 ∷ spelled store name (b .«package»)) o1 n1 o2 n2 → Wrote (32 ∷ spelled store name (b .name)) o2 n2 o3 n3
             → Wrote (32 ∷ dashed (spelled store name (b .partition))) o3 n3 o4 n4 → Wrote (10 ∷ []) o4 n4 o5 n5
-            → b ≡ shown.applicationBrief a
-            → Wrote (shown.app store name a) o n o5 n5
+            → Wrote (shown.app store name b) o n o5 n5
         unfolding shown.app
-        app-line a b w x y v z d = simp append-assoc (wrote-then w (wrote-then (rw d at x) (wrote-then (rw d at y) (wrote-then (rw d at v) z))))
+        app-line b w x y v z = simp append-assoc (wrote-then w (wrote-then x (wrote-then y (wrote-then v z))))
 
       pub counts-line : (room store : List ℕ) (made : ℕ) (c : Counts)
           → Wrote (32 ∷ decimal (c .partitions)) o n o1 n1 → Wrote (32 ∷ decimal (c .components)) o1 n1 o2 n2 → Wrote (32 ∷ decimal (c .applications)) o2 n2 o3 n3
@@ -124,13 +99,22 @@ module _ (o o1 o2 o3 : List ℕ) (n n1 n2 n3 : ℕ) where
 
   pub device-line : (chip : Chip) (media : Media) (c m : Word)
       → Wrote (ascii "ok") o n o1 n1 → Wrote (32 ∷ word c) o1 n1 o2 n2 → Wrote (32 ∷ word m) o2 n2 o3 n3 → c ≡ chipWord chip → m ≡ mediaWord media
-      → Wrote (ascii "ok" ++ spaced (meant.chipWord (chipMeant chip) ∷ meant.mediaWord (mediaMeant media) ∷ [])) o n o3 n3
+      → Wrote (shown.device chip media) o n o3 n3
   device-line chip media c m w x y e f = simp append-nil (wrote-then w (wrote-then (field-by x (chip-said chip c e)) (field-by y (media-said media m f))))
 
-module _ (room store : List ℕ) (made : ℕ) (name : List ℕ) (o o1 o2 : List ℕ) (n n1 n2 : ℕ) where
-  pub ok-line : (d : Device)
-      → Wrote (ascii "ok" ++ spaced (meant.chipWord (chipMeant (d .chip)) ∷ meant.mediaWord (mediaMeant (d .media)) ∷ [])) o n o1 n1 → Wrote (shown.counts room store made) o1 n1 o2 n2
-      → d ≡ deviceOf room store made
-      → Wrote (shown.ok room store made name) o n o2 n2
-  unfolding shown.ok deviceOf frontOf boardRead
+module _ (room store : List ℕ) (made : ℕ) (o o1 o2 : List ℕ) (n n1 n2 : ℕ) where
+  pub ok-line : (d : Device) → Wrote (shown.device (d .chip) (d .media)) o n o1 n1 → Wrote (shown.counts room store made) o1 n1 o2 n2 → d ≡ deviceOf room store made
+      → Wrote (shown.ok room store made) o n o2 n2
+  unfolding shown.ok
   ok-line d x y e = wrote-then (rw e at x) y
+
+-- ---- a preset in the rooms
+module _ (room store : List ℕ) (p : Placed) (h : shown.Stands room store p) where
+  pub stands-partitions : (l : Places) → l ≡ p .lists .partitions → l ≡ partitionList room store (p .made)
+  stands-partitions l e = rw e (ap (λ (x : Lists). x .partitions) (h .lists))
+
+  pub stands-components : (l : Places) → l ≡ p .lists .components → l ≡ componentList room store (p .made)
+  stands-components l e = rw e (ap (λ (x : Lists). x .components) (h .lists))
+
+  pub stands-applications : (l : Places) → l ≡ p .lists .applications → l ≡ applicationList room store (p .made)
+  stands-applications l e = rw e (ap (λ (x : Lists). x .applications) (h .lists))

@@ -18,6 +18,7 @@ use Rattle.schema.specs.Texts.{spelled}
 use Rattle.parse.specs.declared.entry.List.{List}
 use Rattle.parse.specs.declared.entry.PartitionRead.{PartitionRead}
 use Rattle.parse.specs.Entries.{partitionAt, walk}
+use Rattle.parse.specs.Meant.{featureList}
 use Rattle.parse.specs.Views.{partitionList}
 use Rattle.parse.proofs.Judging.{partitions-among}
 use Rattle.plan.specs.declared.builds.Use.{Use}
@@ -103,12 +104,12 @@ module _ (f : ℕ → Seq ℕ) (room store : Seq ℕ) (end place : ℕ) (out : S
 
 -- ---- partitions
 
-module _ (room store : Seq ℕ) (made : ℕ) (name : Seq ℕ) (end place : ℕ) (out : Seq ℕ) (at : ℕ) where
-  pub parts-on : (from : ℕ) (out′ : Seq ℕ) (at′ : ℕ) → Left (shown.partAt room store made name) (items room end place 0) (items room end place from) out at out′ at′
+module _ (room store : Seq ℕ) (made : ℕ) (end place : ℕ) (out : Seq ℕ) (at : ℕ) where
+  pub parts-on : (from : ℕ) (out′ : Seq ℕ) (at′ : ℕ) → Left (shown.partAt room store made) (items room end place 0) (items room end place from) out at out′ at′
       → (found : Found) → Finds from end (child room end place from) found → (n : ℕ) → found ≡ At n
       → (r : PartitionRead) → r ≡ partitionAt room store made n → (out″ : Seq ℕ) (at″ : ℕ) → Wrote (shown.part store (r .partition)) out′ at′ out″ at″
-      → Left (shown.partAt room store made name) (items room end place 0) (items room end place (n + 1)) out at out″ at″
-  parts-on from out′ at′ k found h n g r e out″ at″ w = items-on (shown.partAt room store made name) room end place out at from out′ at′ k found h n g out″ at″ (rw e at w)
+      → Left (shown.partAt room store made) (items room end place 0) (items room end place (n + 1)) out at out″ at″
+  parts-on from out′ at′ k found h n g r e out″ at″ w = items-on (shown.partAt room store made) room end place out at from out′ at′ k found h n g out″ at″ (rw e at w)
 
 -- the partitions stand among the values made
 pub parts-within : (room store : Seq ℕ) (made : ℕ) (l : List) → Rooms room made → l ≡ partitionList room store made → l .end ≤ made
@@ -117,7 +118,7 @@ parts-within room store made l r e = partitions-among room store made l r e .end
 -- ---- builds
 
 module _ (room store : Seq ℕ) (made : ℕ) (name : Seq ℕ) (b : BuildList) (u : Used 129 (buildsOf room store made BootChain) b) (out : Seq ℕ) (at i : ℕ) (out′ : Seq ℕ) (at′ : ℕ)
-    (k : Left (shown.build room store made name) (buildsOf room store made BootChain) (drop i (buildsOf room store made BootChain)) out at out′ at′) where
+    (k : Left (shown.buildOf room store made name) (buildsOf room store made BootChain) (drop i (buildsOf room store made BootChain)) out at out′ at′) where
   -- the boot chain's builds
   abbrev bs : Seq Build
   bs = buildsOf room store made BootChain
@@ -125,16 +126,17 @@ module _ (room store : Seq ℕ) (made : ℕ) (name : Seq ℕ) (b : BuildList) (u
   pub builds-past : b .count ≤ i → Wrote (shown.builds room store made name) out at out′ at′
   builds-past h =
       let l : length bs ≤ i = omega (arith, u .count, h) in
-      left-end (shown.build room store made name) bs out at (drop i bs) out′ at′ k (drop-of-length-le bs l)
+      left-end (shown.buildOf room store made name) bs out at (drop i bs) out′ at′ k (drop-of-length-le bs l)
 
-  pub builds-on : i < b .count → (y : Use) (x : Build) → y ≡ getD (b .items) i noUse → x ≡ buildAt y → (out″ : Seq ℕ) (at″ : ℕ) → Wrote (shown.build room store made name x) out′ at′ out″ at″
-      → Left (shown.build room store made name) bs (drop (i + 1) bs) out at out″ at″
-  builds-on h y x e g out″ at″ w =
+  pub builds-on : i < b .count → (y : Use) (x : Build) (n : ℕ) → y ≡ getD (b .items) i noUse → x ≡ buildAt y → n ≡ length (featureList room store made (x .features))
+      → (out″ : Seq ℕ) (at″ : ℕ) → Wrote (shown.build store name (x .«package») n) out′ at′ out″ at″
+      → Left (shown.buildOf room store made name) bs (drop (i + 1) bs) out at out″ at″
+  builds-on h y x n e g q out″ at″ w =
       let d : getD bs i blank ≡ x = used-at 129 bs b i u h ∙ sym (g ∙ ap buildAt e) in
-      left-on (shown.build room store made name) bs out at (drop i bs) out′ at′ k x (drop (i + 1) bs)
-      (rw (add-one i, ← d) (drop-cons bs i blank (omega (arith, h, u .count)))) out″ at″ w
+      left-on (shown.buildOf room store made name) bs out at (drop i bs) out′ at′ k x (drop (i + 1) bs)
+      (rw (add-one i, ← d) (drop-cons bs i blank (omega (arith, h, u .count)))) out″ at″ (rw q at w)
 
--- the builds and the stem behind them
+-- the builds and the stem after them
 pub outcome-wrote : (room store : Seq ℕ) (made : ℕ) (name out out′ out″ : Seq ℕ) (at at′ at″ : ℕ) (t : Text) → Wrote (shown.builds room store made name) out at out′ at′ → t ≡ stem room store made name BootChain
     → Wrote (stemLine (spelled store name t)) out′ at′ out″ at″ → Wrote (shown.outcome room store made name) out at out″ at″
 outcome-wrote room store made name out out′ out″ at at′ at″ t h e k = wrote-then h (rw e at k)

@@ -33,8 +33,8 @@ pub fn component(tree: &[u8], store: &[u8], made: usize, n: usize) -> ComponentB
     let kind = k.kind;
     let name = o.text;
     ComponentBrief {
-        kind: kind,
-        name: name,
+        kind,
+        name,
         partition: p.or(Text::Stored { from: 0, len: 0 }),
     }
 }

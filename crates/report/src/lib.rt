@@ -1,52 +1,56 @@
-// The listing of an accepted preset's boot chain: its lines, one behind the other, into a lent output.
+// The listing of an accepted preset's boot chain: its lines, one after the other, into a lent output.
 
 pub mod brief;
 pub mod line;
 pub mod lists;
 
-use parse::entry::List;
+use parse::view::Lists;
 use plan::choice::Choice;
 ghost use Rattle.tree.specs.Doors.{Rooms};
 ghost use Rattle.page.specs.Page.{Wrote};
 ghost use Rattle.report.specs.Shown as shown;
-ghost use Rattle.report.specs.Shown.{Listed};
+ghost use Rattle.report.specs.Shown.{Stands};
 
-// `ok`, and a line for each entry of these lists.
+// A preset in the rooms: how many values were made of it, and where its lists stand.
+pub struct Placed {
+    pub made: usize,
+    pub lists: Lists,
+}
+
+// `ok`, and a line for each entry of its lists.
 fn entry_lines(
     out: &mut [u8],
     at: usize,
     tree: &[u8],
     store: &[u8],
-    made: usize,
     name: &[u8],
-    p: List,
-    c: List,
-    a: List,
+    p: Placed,
 ) -> usize
-    requires { ⌜ Rooms (now tree) made × Listed (now tree) (now store) made p c a ⌝ }
-    ensures { λ r. ⌜ Wrote (shown.entries (now (tree .entry)) (now (store .entry)) made (now (name .entry))) (now (out .entry)) at (now (out .exit)) r ⌝ }
+    requires { ⌜ Stands (now tree) (now store) p ⌝ }
+    ensures { λ r. ⌜ Wrote (shown.entries (now (tree .entry)) (now (store .entry)) (p .made) (now (name .entry)))
+        (now (out .entry)) at (now (out .exit)) r ⌝ }
 {
-    let i = line::ok(out, at, tree, store, made, name, p, c, a);
-    let j = lists::parts(out, i, tree, store, made, name, p);
-    let k = lists::comps(out, j, tree, store, made, name, c);
-    lists::apps(out, k, tree, store, made, name, a)
+    let i = line::ok(out, at, tree, store, p);
+    let j = lists::parts(out, i, tree, store, p);
+    let k = lists::comps(out, j, tree, store, name, p);
+    lists::apps(out, k, tree, store, name, p)
 }
 
 // `ok`, and a line for each entry of the lists, which are looked up once for both.
 fn entries(out: &mut [u8], at: usize, tree: &[u8], store: &[u8], made: usize, name: &[u8]) -> usize
     requires { ⌜ Rooms (now tree) made ⌝ }
-    ensures { λ r. ⌜ Wrote (shown.entries (now (tree .entry)) (now (store .entry)) made (now (name .entry))) (now (out .entry)) at (now (out .exit)) r ⌝ }
+    ensures { λ r. ⌜ Wrote (shown.entries (now (tree .entry)) (now (store .entry)) made (now (name .entry)))
+        (now (out .entry)) at (now (out .exit)) r ⌝ }
 {
-    let p = parse::view::partition_list(tree, store, made);
-    let c = parse::view::component_list(tree, store, made);
-    let a = parse::view::application_list(tree, store, made);
-    entry_lines(out, at, tree, store, made, name, p, c, a)
+    let lists = parse::view::lists_of(tree, store, made);
+    entry_lines(out, at, tree, store, name, Placed { made, lists })
 }
 
 // What is built, and the stem.
 fn outcome(out: &mut [u8], at: usize, tree: &[u8], store: &[u8], made: usize, name: &[u8]) -> usize
     requires { ⌜ Rooms (now tree) made ⌝ }
-    ensures { λ r. ⌜ Wrote (shown.outcome (now (tree .entry)) (now (store .entry)) made (now (name .entry))) (now (out .entry)) at (now (out .exit)) r ⌝ }
+    ensures { λ r. ⌜ Wrote (shown.outcome (now (tree .entry)) (now (store .entry)) made (now (name .entry)))
+        (now (out .entry)) at (now (out .exit)) r ⌝ }
 {
     let a = lists::builds(out, at, tree, store, made, name);
     let t = plan::stem::stem(tree, store, made, name, Choice::BootChain);
@@ -63,7 +67,8 @@ pub fn lines(
     name: &[u8],
 ) -> usize
     requires { ⌜ Rooms (now tree) made ⌝ }
-    ensures { λ r. ⌜ Wrote (shown.lines (now (tree .entry)) (now (store .entry)) made (now (name .entry))) (now (out .entry)) at (now (out .exit)) r ⌝ }
+    ensures { λ r. ⌜ Wrote (shown.lines (now (tree .entry)) (now (store .entry)) made (now (name .entry)))
+        (now (out .entry)) at (now (out .exit)) r ⌝ }
 {
     let a = entries(out, at, tree, store, made, name);
     outcome(out, a, tree, store, made, name)

@@ -1,63 +1,35 @@
 // The lines of the listing, one function for each.
 
-use crate::page;
-use parse::entry::List;
-use parse::view::Counts;
-use plan::component::Build;
+use crate::Placed;
+use crate::brief::ApplicationBrief;
+use crate::brief::ComponentBrief;
 use schema::Chip;
 use schema::Media;
 use schema::Partition;
 use schema::Text;
-ghost use mathlib.Core.Path.{_≡_};
-ghost use mathlib.Core.List.{[], _∷_, _++_};
-ghost use Rattle.meaning.specs.Base.{ascii};
-ghost use Rattle.meaning.specs.Schema as schemas;
 ghost use Rattle.meaning.specs.Listing as meant;
 ghost use Rattle.schema.specs.Texts.{spelled};
-ghost use Rattle.schema.specs.Words.{chipMeant, mediaMeant};
-ghost use Rattle.tree.specs.Doors.{Rooms, Stood};
-ghost use Rattle.parse.specs.Views.{countsOf};
 ghost use Rattle.page.specs.Page.{Wrote};
 ghost use Rattle.report.specs.Shown as shown;
-ghost use Rattle.report.specs.Shown.{Listed};
+ghost use Rattle.report.specs.Shown.{Stands};
 
-// How many entries the lists have.
-fn counted(tree: &[u8], store: &[u8], made: usize, p: List, c: List, a: List) -> Counts
-    requires { ⌜ Rooms (now tree) made × Listed (now tree) (now store) made p c a ⌝ }
-    ensures { λ r. ⌜ r ≡ countsOf (now (tree .entry)) (now (store .entry)) made ⌝ }
+// How many entries the lists have, and how many values were made.
+fn counts(out: &mut [u8], at: usize, tree: &[u8], store: &[u8], p: Placed) -> usize
+    requires { ⌜ Stands (now tree) (now store) p ⌝ }
+    ensures { λ r. ⌜ Wrote (shown.counts (now (tree .entry)) (now (store .entry)) (p .made)) (now (out .entry)) at (now (out .exit)) r ⌝ }
 {
-    Counts {
-        partitions: tree::count(tree, p.end, p.place),
-        components: tree::count(tree, c.end, c.place),
-        applications: parse::entry::count_keys(tree, store, a, 64),
-    }
-}
-
-// The same, and how many values were made.
-fn counts(
-    out: &mut [u8],
-    at: usize,
-    tree: &[u8],
-    store: &[u8],
-    made: usize,
-    p: List,
-    c: List,
-    a: List,
-) -> usize
-    requires { ⌜ Rooms (now tree) made × Listed (now tree) (now store) made p c a ⌝ }
-    ensures { λ r. ⌜ Wrote (shown.counts (now (tree .entry)) (now (store .entry)) made) (now (out .entry)) at (now (out .exit)) r ⌝ }
-{
-    let n = counted(tree, store, made, p, c, a);
+    let lists = p.lists;
+    let n = parse::view::counts_in(tree, store, p.made, lists);
     let q = page::number(out, at, n.partitions as u64);
     let r = page::number(out, q, n.components as u64);
     let s = page::number(out, r, n.applications as u64);
-    let t = page::number(out, s, made as u64);
+    let t = page::number(out, s, p.made as u64);
     page::put(out, t, b"\n")
 }
 
 // `ok`, chip and media.
 fn device(out: &mut [u8], at: usize, chip: Chip, media: Media) -> usize
-    ensures { λ r. ⌜ Wrote (ascii "ok" ++ meant.spaced (schemas.chipWord (chipMeant chip) ∷ schemas.mediaWord (mediaMeant media) ∷ [])) (now (out .entry)) at (now (out .exit)) r ⌝ }
+    ensures { λ r. ⌜ Wrote (shown.device chip media) (now (out .entry)) at (now (out .exit)) r ⌝ }
 {
     let a = page::put(out, at, b"ok");
     let b = page::word(out, a, chip.name());
@@ -65,25 +37,15 @@ fn device(out: &mut [u8], at: usize, chip: Chip, media: Media) -> usize
 }
 
 // `ok`: chip, media, partitions, components, applications, values made.
-pub fn ok(
-    out: &mut [u8],
-    at: usize,
-    tree: &[u8],
-    store: &[u8],
-    made: usize,
-    name: &[u8],
-    p: List,
-    c: List,
-    a: List,
-) -> usize
-    requires { ⌜ Rooms (now tree) made × Listed (now tree) (now store) made p c a ⌝ }
-    ensures { λ r. ⌜ Wrote (shown.ok (now (tree .entry)) (now (store .entry)) made (now (name .entry))) (now (out .entry)) at (now (out .exit)) r ⌝ }
+pub fn ok(out: &mut [u8], at: usize, tree: &[u8], store: &[u8], p: Placed) -> usize
+    requires { ⌜ Stands (now tree) (now store) p ⌝ }
+    ensures { λ r. ⌜ Wrote (shown.ok (now (tree .entry)) (now (store .entry)) (p .made)) (now (out .entry)) at (now (out .exit)) r ⌝ }
 {
-    let d = parse::view::device_of(tree, store, made);
+    let d = parse::view::device_of(tree, store, p.made);
     let chip = d.chip;
     let media = d.media;
     let to = device(out, at, chip, media);
-    counts(out, to, tree, store, made, p, c, a)
+    counts(out, to, tree, store, p)
 }
 
 // `part`: name, start, end.
@@ -97,20 +59,10 @@ pub fn part(out: &mut [u8], at: usize, store: &[u8], p: Partition) -> usize
     page::put(out, d, b"\n")
 }
 
-// `comp` of the component that value number n is: name, kind, reference.
-pub fn comp(
-    out: &mut [u8],
-    at: usize,
-    tree: &[u8],
-    store: &[u8],
-    made: usize,
-    name: &[u8],
-    n: usize,
-) -> usize
-    requires { ⌜ Rooms (now tree) made × Stood (now tree) n ⌝ }
-    ensures { λ r. ⌜ Wrote (shown.compAt (now (tree .entry)) (now (store .entry)) made (now (name .entry)) n) (now (out .entry)) at (now (out .exit)) r ⌝ }
+// `comp`: name, kind, reference.
+pub fn comp(out: &mut [u8], at: usize, store: &[u8], name: &[u8], x: ComponentBrief) -> usize
+    ensures { λ r. ⌜ Wrote (shown.comp (now (store .entry)) (now (name .entry)) x) (now (out .entry)) at (now (out .exit)) r ⌝ }
 {
-    let x = crate::brief::component(tree, store, made, n);
     let kind = x.kind;
     let own = x.name;
     let partition = x.partition;
@@ -121,20 +73,10 @@ pub fn comp(
     page::put(out, d, b"\n")
 }
 
-// `app` of the application that value number n is: package, name, partition.
-pub fn app(
-    out: &mut [u8],
-    at: usize,
-    tree: &[u8],
-    store: &[u8],
-    made: usize,
-    name: &[u8],
-    n: usize,
-) -> usize
-    requires { ⌜ Rooms (now tree) made × Stood (now tree) n ⌝ }
-    ensures { λ r. ⌜ Wrote (shown.appAt (now (tree .entry)) (now (store .entry)) made (now (name .entry)) n) (now (out .entry)) at (now (out .exit)) r ⌝ }
+// `app`: package, name, partition.
+pub fn app(out: &mut [u8], at: usize, store: &[u8], name: &[u8], x: ApplicationBrief) -> usize
+    ensures { λ r. ⌜ Wrote (shown.app (now (store .entry)) (now (name .entry)) x) (now (out .entry)) at (now (out .exit)) r ⌝ }
 {
-    let x = crate::brief::application(tree, store, made, n);
     let package = x.package;
     let own = x.name;
     let partition = x.partition;
@@ -149,27 +91,24 @@ pub fn app(
 pub fn build(
     out: &mut [u8],
     at: usize,
-    tree: &[u8],
     store: &[u8],
-    made: usize,
     name: &[u8],
-    x: Build,
+    package: Text,
+    features: usize,
 ) -> usize
-    requires { ⌜ Rooms (now tree) made ⌝ }
-    ensures { λ r. ⌜ Wrote (shown.build (now (tree .entry)) (now (store .entry)) made (now (name .entry)) x) (now (out .entry)) at (now (out .exit)) r ⌝ }
+    ensures { λ r. ⌜ Wrote (shown.build (now (store .entry)) (now (name .entry)) «package» features)
+        (now (out .entry)) at (now (out .exit)) r ⌝ }
 {
-    let package = x.package;
-    let list = x.features;
-    let n = features::count(tree, store, made, list);
     let a = page::put(out, at, b"build");
     let b = page::text(out, a, store, name, package);
-    let c = page::number(out, b, n as u64);
+    let c = page::number(out, b, features as u64);
     page::put(out, c, b"\n")
 }
 
 // `stem`.
 pub fn stem(out: &mut [u8], at: usize, store: &[u8], name: &[u8], t: Text) -> usize
-    ensures { λ r. ⌜ Wrote (meant.stemLine (spelled (now (store .entry)) (now (name .entry)) t)) (now (out .entry)) at (now (out .exit)) r ⌝ }
+    ensures { λ r. ⌜ Wrote (meant.stemLine (spelled (now (store .entry)) (now (name .entry)) t))
+        (now (out .entry)) at (now (out .exit)) r ⌝ }
 {
     let a = page::put(out, at, b"stem");
     let b = page::text(out, a, store, name, t);

@@ -1,27 +1,21 @@
 // A line for each entry of a preset's lists, and for each build.
 
-use parse::entry::List;
+use crate::Placed;
 use plan::choice::Choice;
 use tree::Found;
-ghost use mathlib.Core.Path.{_≡_};
 ghost use Rattle.tree.specs.Doors.{Rooms};
-ghost use Rattle.parse.specs.Views.{partitionList, componentList, applicationList};
 ghost use Rattle.page.specs.Page.{Wrote};
 ghost use Rattle.report.specs.Shown as shown;
+ghost use Rattle.report.specs.Shown.{Stands};
 
 // The partitions, in their order.
-pub fn parts(
-    out: &mut [u8],
-    at: usize,
-    tree: &[u8],
-    store: &[u8],
-    made: usize,
-    name: &[u8],
-    l: List,
-) -> usize
-    requires { ⌜ Rooms (now tree) made × (l ≡ partitionList (now tree) (now store) made) ⌝ }
-    ensures { λ r. ⌜ Wrote (shown.parts (now (tree .entry)) (now (store .entry)) made (now (name .entry))) (now (out .entry)) at (now (out .exit)) r ⌝ }
+pub fn parts(out: &mut [u8], at: usize, tree: &[u8], store: &[u8], p: Placed) -> usize
+    requires { ⌜ Stands (now tree) (now store) p ⌝ }
+    ensures { λ r. ⌜ Wrote (shown.parts (now (tree .entry)) (now (store .entry)) (p .made)) (now (out .entry)) at (now (out .exit)) r ⌝ }
 {
+    let made = p.made;
+    let lists = p.lists;
+    let l = lists.partitions;
     let place = l.place;
     let end = l.end;
     let mut to = at;
@@ -42,18 +36,14 @@ pub fn parts(
 }
 
 // The components, in their order.
-pub fn comps(
-    out: &mut [u8],
-    at: usize,
-    tree: &[u8],
-    store: &[u8],
-    made: usize,
-    name: &[u8],
-    l: List,
-) -> usize
-    requires { ⌜ Rooms (now tree) made × (l ≡ componentList (now tree) (now store) made) ⌝ }
-    ensures { λ r. ⌜ Wrote (shown.comps (now (tree .entry)) (now (store .entry)) made (now (name .entry))) (now (out .entry)) at (now (out .exit)) r ⌝ }
+pub fn comps(out: &mut [u8], at: usize, tree: &[u8], store: &[u8], name: &[u8], p: Placed) -> usize
+    requires { ⌜ Stands (now tree) (now store) p ⌝ }
+    ensures { λ r. ⌜ Wrote (shown.comps (now (tree .entry)) (now (store .entry)) (p .made) (now (name .entry)))
+        (now (out .entry)) at (now (out .exit)) r ⌝ }
 {
+    let made = p.made;
+    let lists = p.lists;
+    let l = lists.components;
     let place = l.place;
     let end = l.end;
     let mut to = at;
@@ -63,7 +53,8 @@ pub fn comps(
         match found {
             Found::Nothing => return to,
             Found::At(n) => {
-                to = crate::line::comp(out, to, tree, store, made, name, n);
+                let x = crate::brief::component(tree, store, made, n);
+                to = crate::line::comp(out, to, store, name, x);
                 from = n + 1;
             }
         }
@@ -72,18 +63,14 @@ pub fn comps(
 }
 
 // The applications, in byte order of key.
-pub fn apps(
-    out: &mut [u8],
-    at: usize,
-    tree: &[u8],
-    store: &[u8],
-    made: usize,
-    name: &[u8],
-    l: List,
-) -> usize
-    requires { ⌜ Rooms (now tree) made × (l ≡ applicationList (now tree) (now store) made) ⌝ }
-    ensures { λ r. ⌜ Wrote (shown.apps (now (tree .entry)) (now (store .entry)) made (now (name .entry))) (now (out .entry)) at (now (out .exit)) r ⌝ }
+pub fn apps(out: &mut [u8], at: usize, tree: &[u8], store: &[u8], name: &[u8], p: Placed) -> usize
+    requires { ⌜ Stands (now tree) (now store) p ⌝ }
+    ensures { λ r. ⌜ Wrote (shown.apps (now (tree .entry)) (now (store .entry)) (p .made) (now (name .entry)))
+        (now (out .entry)) at (now (out .exit)) r ⌝ }
 {
+    let made = p.made;
+    let lists = p.lists;
+    let l = lists.applications;
     let place = l.place;
     let end = l.end;
     let low = tree::skip_up(tree, end, place, 0);
@@ -94,7 +81,8 @@ pub fn apps(
         match found {
             Found::Nothing => return to,
             Found::At(n) => {
-                to = crate::line::app(out, to, tree, store, made, name, n);
+                let x = crate::brief::application(tree, store, made, n);
+                to = crate::line::app(out, to, store, name, x);
                 after = Found::At(n);
             }
         }
@@ -112,7 +100,8 @@ pub fn builds(
     name: &[u8],
 ) -> usize
     requires { ⌜ Rooms (now tree) made ⌝ }
-    ensures { λ r. ⌜ Wrote (shown.builds (now (tree .entry)) (now (store .entry)) made (now (name .entry))) (now (out .entry)) at (now (out .exit)) r ⌝ }
+    ensures { λ r. ⌜ Wrote (shown.builds (now (tree .entry)) (now (store .entry)) made (now (name .entry)))
+        (now (out .entry)) at (now (out .exit)) r ⌝ }
 {
     let b = plan::builds::builds(tree, store, made, Choice::BootChain);
     let items = b.items;
@@ -121,7 +110,10 @@ pub fn builds(
     for i in 0..count {
         let u = items[i];
         let x = plan::builds::build_at(u);
-        to = crate::line::build(out, to, tree, store, made, name, x);
+        let package = x.package;
+        let list = x.features;
+        let n = features::count(tree, store, made, list);
+        to = crate::line::build(out, to, store, name, package, n);
     }
     to
 }

@@ -20,14 +20,15 @@ use Rattle.parse.specs.Refusals.{earlier}
 use Rattle.parse.specs.Entries as parsed
 use Rattle.parse.specs.Entries.{told, walk, eachComponent, applicationFault}
 use Rattle.parse.proofs.Entering as reading
-use Rattle.layout.specs.declared.Mark.{Mark}
-use Rattle.layout.specs.declared.Fault.{Fault}
-use Rattle.layout.specs.Marks.{anyOf, firstHit, judged, Marked}
-use Rattle.layout.specs.Parts.{noMarks}
+use Rattle.turns.specs.declared.Mark.{Mark}
+use Rattle.turns.specs.declared.Fault.{Fault}
+use Rattle.turns.specs.Marks.{anyOf, firstHit, judged, Marked}
+use Rattle.turns.specs.Marks.{noMarks}
 use Rattle.validate.specs.declared.Entry.{Entry}
-use Rattle.validate.specs.declared.uses.Spot.{Spot}
+use Rattle.schema.specs.declared.spot.Spot.{Spot}
 use Rattle.validate.specs.declared.uses.Pair.{Pair}
-use Rattle.validate.specs.Clashes.{noSpot, clash}
+use Rattle.schema.specs.Spots.{noSpot}
+use Rattle.validate.specs.Clashes.{clash}
 use Rattle.validate.specs.Entries.{componentEntry, applicationEntry, componentAt, applicationAt}
 use Rattle.validate.specs.Gathered.{blank, either, faultAt, Listed, Counted, Components, Followed, Applications}
 

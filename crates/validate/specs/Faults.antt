@@ -16,9 +16,9 @@ use Rattle.parse.specs.Entries.{told, partitionAt}
 use Rattle.parse.specs.Front.{frontRead}
 use Rattle.parse.specs.Refused.{lentText, partitionNumbers}
 use Rattle.parse.specs.Verdict as verdicts
-use Rattle.layout.specs.declared.Fault.{Fault}
-use Rattle.layout.specs.declared.Mark.{Mark}
-use Rattle.layout.specs.Marks.{anyOf, firstHit, faultOf, judged}
+use Rattle.turns.specs.declared.Fault.{Fault}
+use Rattle.turns.specs.declared.Mark.{Mark}
+use Rattle.turns.specs.Marks.{anyOf, firstHit, faultOf, judged}
 use Rattle.layout.specs.Parts.{partName, partMeant}
 use Rattle.validate.specs.declared.uses.Pair.{Pair}
 use Rattle.validate.specs.declared.gather.Applied.{Applied}

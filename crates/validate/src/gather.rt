@@ -1,19 +1,19 @@
 // All entries of a preset in their order: their marks, and the packages they use.
 
 use crate::uses::Pair;
-use layout::Fault;
 use parse::Refusal;
 use schema::Partition;
 use tree::Found;
-ghost use mathlib.Core.List.{map};
+use turns::Fault;
 ghost use mathlib.Core.Path.{_≡_};
 ghost use lib.ListN.{take, replicate};
 ghost use Rattle.parse.specs.Refusals.{earlier};
-ghost use Rattle.layout.specs.Parts.{partName};
+ghost use Rattle.validate.specs.Entries.{partNames};
 ghost use Rattle.validate.specs.Gathered as gathered;
 ghost use Rattle.validate.specs.Gathered.{Counted, Components, Applications, Followed};
 
-// The components: the first fault of their records; how many there are, and whether one lies in the first partition; what their own rules say, and the packages they use.
+// The components: the first fault of their records; how many there are, and whether one lies in the first partition;
+// what their own rules say, and the packages they use.
 pub struct Gathered {
     pub fault: Refusal,
     pub count: usize,
@@ -22,7 +22,8 @@ pub struct Gathered {
     pub pairs: [Pair; 128],
 }
 
-// The applications: the first fault of their records; how many there are; what their own rules say, and the first of all entries whose packages clash.
+// The applications: the first fault of their records; how many there are;
+// what their own rules say, and the first of all entries whose packages clash.
 pub struct Applied {
     pub fault: Refusal,
     pub count: usize,
@@ -33,7 +34,7 @@ pub struct Applied {
 fn no_pairs() -> [Pair; 128]
     ensures { λ r. ⌜ r ≡ replicate 128 gathered.blank ⌝ }
 {
-    let none = crate::uses::no_spot();
+    let none = schema::spot::no_spot();
     let blank = Pair {
         package: none,
         features: none,
@@ -76,9 +77,9 @@ pub fn each_component(
     count: usize,
 ) -> Gathered
     requires { ⌜ Counted (now tree) made place end count ⌝ }
-    ensures { λ r. ⌜ Components (now (tree .entry)) (now (store .entry)) made place end (map (partName (now (store .entry))) (take count items)) r ⌝ }
+    ensures { λ r. ⌜ Components (now (tree .entry)) (now (store .entry)) made place end (partNames (now (store .entry)) count items) r ⌝ }
 {
-    let mut marks = layout::no_marks();
+    let mut marks = turns::no_marks();
     let mut pairs = no_pairs();
     let mut fault = parse::told(0, 0, 0);
     let mut first = false;
@@ -104,7 +105,7 @@ pub fn each_component(
             }
         }
     }
-    let own = layout::judge(store, marks, i, 51);
+    let own = turns::judge(store, marks, i, 51);
     Gathered {
         fault: fault,
         count: i,
@@ -127,10 +128,10 @@ pub fn each_application(
     behind: usize,
 ) -> Applied
     requires { ⌜ Followed (now tree) made end count behind ⌝ }
-    ensures { λ r. ⌜ Applications (now (tree .entry)) (now (store .entry)) made place end (map (partName (now (store .entry))) (take count items)) (take behind old) r ⌝ }
+    ensures { λ r. ⌜ Applications (now (tree .entry)) (now (store .entry)) made place end (partNames (now (store .entry)) count items) (take behind old) r ⌝ }
 {
     let low = tree::skip_up(tree, end, place, 0);
-    let mut marks = layout::no_marks();
+    let mut marks = turns::no_marks();
     let mut pairs = old;
     let mut fault = parse::told(0, 0, 0);
     let mut after = Found::Nothing;
@@ -156,7 +157,7 @@ pub fn each_application(
             }
         }
     }
-    let own = layout::judge(store, marks, i, 65);
+    let own = turns::judge(store, marks, i, 65);
     let all = behind + i;
     Applied {
         fault: fault,

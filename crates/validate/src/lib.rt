@@ -9,23 +9,23 @@ pub mod uses;
 use crate::gather::Applied;
 use crate::gather::Gathered;
 use crate::uses::Pair;
-use layout::Fault;
-use layout::Mark;
 use parse::Refusal;
 use schema::Chip;
 use schema::Partition;
-ghost use mathlib.Core.List.{map};
+use turns::Fault;
+use turns::Mark;
 ghost use mathlib.Core.Path.{_≡_};
 ghost use Prim.Native.Nat.{_+_, _≤_};
 ghost use lib.ListN.{take};
-ghost use Rattle.layout.specs.Parts.{partName};
+ghost use Rattle.validate.specs.Entries.{partNames};
 ghost use Rattle.validate.specs.Gathered as gathered;
 ghost use Rattle.validate.specs.Faults as faults;
 ghost use Rattle.tree.specs.Doors.{Rooms};
 ghost use Rattle.parse.specs.Verdict.{Told};
 ghost use Rattle.validate.specs.Validated.{validating};
 
-// An entry read once: its record's fault, 0 for none; and what the rules ask of it: its mark, the packages it uses, and whether it lies in the first partition.
+// An entry read once: its record's fault, 0 for none, and what the rules ask of it:
+// its mark, the packages it uses, and whether it lies in the first partition.
 pub struct Entry {
     pub fault: u32,
     pub mark: Mark,
@@ -106,7 +106,7 @@ fn judge_applications(
     rules: Refusal,
 ) -> Refusal
     requires { ⌜ Rooms (now tree) made × (count ≤ 32) × gathered.Few c ⌝ }
-    ensures { λ r. ⌜ r ≡ faults.applicationsJudged (now (tree .entry)) (now (store .entry)) made (map (partName (now (store .entry))) (take count items)) rules (c .count) (take (c .count) (c .pairs)) (c .first) ⌝ }
+    ensures { λ r. ⌜ r ≡ faults.applicationsJudged (now (tree .entry)) (now (store .entry)) made (partNames (now (store .entry)) count items) rules (c .count) (take (c .count) (c .pairs)) (c .first) ⌝ }
 {
     let l = parse::view::application_list(tree, store, made);
     let cs = c.count;
@@ -144,7 +144,7 @@ fn judge_components(
     rules: Refusal,
 ) -> Refusal
     requires { ⌜ Rooms (now tree) made × (count ≤ 32) ⌝ }
-    ensures { λ r. ⌜ r ≡ faults.componentsJudged (now (tree .entry)) (now (store .entry)) made (map (partName (now (store .entry))) (take count items)) rules ⌝ }
+    ensures { λ r. ⌜ r ≡ faults.componentsJudged (now (tree .entry)) (now (store .entry)) made (partNames (now (store .entry)) count items) rules ⌝ }
 {
     let l = parse::view::component_list(tree, store, made);
     let n = tree::count(tree, l.end, l.place);
@@ -176,7 +176,10 @@ fn judge_partitions(tree: &[u8], store: &[u8], made: usize, chip: Chip, rules: R
     }
     let items = p.items;
     let count = p.count;
-    let own = parse::earlier(rules, in_entry(3, layout::check(store, items, count, chip)));
+    let own = parse::earlier(
+        rules,
+        in_entry(3, layout::check_layout(store, items, count, chip)),
+    );
     judge_components(tree, store, made, items, count, own)
 }
 

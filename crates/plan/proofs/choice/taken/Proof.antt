@@ -2,7 +2,7 @@ use borrow.Author.Needs.{needs}
 use Prim.Native.Nat.{_-_}
 use Rattle.parse.proofs.Entering.{item-less}
 use Rattle.parse.proofs.Judging.{components-hold}
-use Rattle.layout.specs.Marks.{anyOf}
+use Rattle.turns.specs.Marks.{anyOf}
 use Rattle.plan.specs.Choices.{named}
 use Rattle.plan.proofs.Walking.{Left, left-start, component-stood, component-fits}
 use Rattle.plan.proofs.Choosing.{ask-on, ask-end, ask-none, ask-hit}

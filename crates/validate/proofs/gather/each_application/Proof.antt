@@ -10,8 +10,8 @@ use Rattle.validate.proofs.gather.each_application.Statement.{statement
 use Rattle.validate.proofs.gather.each_application.Tie as tie
 use Rattle.validate.proofs.gather.each_application.Reads as reads
 use Rattle.validate.proofs.gather.each_application.Lts as lts
-use Rattle.layout.proofs.judge.Reads as judge-reads
-use Rattle.layout.proofs.no_marks.Reads as no-marks-reads
+use Rattle.turns.proofs.judge.Reads as judge-reads
+use Rattle.turns.proofs.no_marks.Reads as no-marks-reads
 use Rattle.parse.proofs.told.Reads as told-reads
 use Rattle.tree.proofs.next.Reads as next-reads
 use Rattle.tree.proofs.skip_up.Reads as skip-up-reads

@@ -10,8 +10,8 @@ use Rattle.validate.proofs.gather.each_component.Statement.{statement}
 use Rattle.validate.proofs.gather.each_component.Tie as tie
 use Rattle.validate.proofs.gather.each_component.Reads as reads
 use Rattle.validate.proofs.gather.each_component.Lts as lts
-use Rattle.layout.proofs.judge.Reads as judge-reads
-use Rattle.layout.proofs.no_marks.Reads as no-marks-reads
+use Rattle.turns.proofs.judge.Reads as judge-reads
+use Rattle.turns.proofs.no_marks.Reads as no-marks-reads
 use Rattle.parse.proofs.told.Reads as told-reads
 use Rattle.tree.proofs.child.Reads as child-reads
 use Rattle.validate.proofs.component.entry.Reads as entry-reads
