@@ -30,7 +30,7 @@ use Rattle.features.specs.Pieces.{pieceOf, isText, piecesAt, allTexts, bytesOf,
 use Rattle.features.specs.Ordered.{bytesAll, words-pieces, words-length}
 use Rattle.agree.specs.Reads.{Place}
 use Rattle.agree.specs.Doors.{Sees, Spelt, Standing, Told, All-see, valueFor, items-see, items-long}
-use Rattle.parse.specs.Fields.{first, textRead, numberRead, ranged, flagRead, missing, kindOf, mediaOf}
+use Rattle.parse.specs.Fields.{firstFault, textRead, numberRead, ranged, flagRead, missing, kindOf, mediaOf}
 use Rattle.parse.specs.Meant.{Got, featureList}
 use Rattle.parse.specs.Reads.{Gives, gives-made, Kept, text-kept, else-spelled, clip-none}
 
@@ -82,7 +82,7 @@ module _ (store : List ℕ) (name : List ℕ) where
   text-by (some (table t)) v from place e d = rw e (refl, wrong)
 
   text-need-by : (o : Option Value) (v : Read) (from place : ℕ) → v ≡ valueFor from place o → Spelt store from o
-      → Got (via (present aText o) (need 24)) (first (textRead v .fault) (missing v)) (spelled store name (textRead v .text))
+      → Got (via (present aText o) (need 24)) (firstFault (textRead v .fault) (missing v)) (spelled store name (textRead v .text))
   unfolding aText
   text-need-by none v from place e d = rw e (refl, omega arith)
   text-need-by (some (str s)) v from place e d = rw e (refl, clip-is store from s (d .0) (d .1))
@@ -115,7 +115,7 @@ number-by (some (array a)) v from place e = rw e (refl, wrong)
 number-by (some (table t)) v from place e = rw e (refl, wrong)
 
 number-need-by : (o : Option Value) (v : Read) (from place : ℕ) → v ≡ valueFor from place o
-    → Got (via (present aNumber o) (need 24)) (first (numberRead v .fault) (missing v)) (orNumber (numberRead v .number) 0)
+    → Got (via (present aNumber o) (need 24)) (firstFault (numberRead v .fault) (missing v)) (orNumber (numberRead v .number) 0)
 unfolding aNumber inRange ranged
 number-need-by none v from place e = rw e (refl, omega arith)
 number-need-by (some (str s)) v from place e = rw e (refl, wrong)
@@ -177,11 +177,11 @@ module _ (store bytes : List ℕ) (vs : List Slot) (x : Value) (name : List ℕ)
   text-or-got d b e = rw (else-spelled store name (textRead v .text) d, e) (gives-made (λ p. else p b) text-got)
 
   -- one that must be there
-  pub text-need-got : Gives (via (present aText o) (need 24)) (first (textRead v .fault) (missing v)) (spelled store name (textRead v .text))
+  pub text-need-got : Gives (via (present aText o) (need 24)) (firstFault (textRead v .fault) (missing v)) (spelled store name (textRead v .text))
   text-need-got = record { got = text-need-by store name o v (s .from) (s .place) (s .is) (s .spelt) }
 
   -- and by where it lies
-  pub text-place-got : Gives (via (present aText o) (need 24)) (first (textRead v .fault) (missing v)) (clip (startOf (textRead v .text)) (lengthOf (textRead v .text)) store)
+  pub text-place-got : Gives (via (present aText o) (need 24)) (firstFault (textRead v .fault) (missing v)) (clip (startOf (textRead v .text)) (lengthOf (textRead v .text)) store)
   text-place-got = rw (spelled-clip store name (textRead v .text) (text-kept v)) text-need-got
 
   pub number-got : Gives (present aNumber o) (numberRead v .fault) (amount (numberRead v .number))
@@ -190,7 +190,7 @@ module _ (store bytes : List ℕ) (vs : List Slot) (x : Value) (name : List ℕ)
   pub number-or-got : (d : ℕ) → Gives (via (present aNumber o) (λ p. ok (else p d))) (numberRead v .fault) (orNumber (numberRead v .number) d)
   number-or-got d = rw (else-amount (numberRead v .number) d) (gives-made (λ p. else p d) number-got)
 
-  pub number-need-got : Gives (via (present aNumber o) (need 24)) (first (numberRead v .fault) (missing v)) (orNumber (numberRead v .number) 0)
+  pub number-need-got : Gives (via (present aNumber o) (need 24)) (firstFault (numberRead v .fault) (missing v)) (orNumber (numberRead v .number) 0)
   number-need-got = record { got = number-need-by o v (s .from) (s .place) (s .is) }
 
   pub flag-got : Gives (via (present aFlag o) (λ p. ok (else p false))) (flagRead v .fault) (flagRead v .flag)

@@ -13,13 +13,13 @@ use lib.Seq.{length-take-le}
 use Rattle.meaning.specs.Base.{pick, nil?}
 use Rattle.laws.specs.Cases.{on}
 use Rattle.schema.specs.Texts.{clip}
-use Rattle.tree.specs.declared.Found.{Found}
-use Rattle.tree.specs.declared.Found.the-variants.{At, Nothing}
+use Rattle.tree.specs.declared.Items.{Items as Walk}
+use Rattle.tree.specs.declared.Item.{Item}
+use Rattle.tree.specs.declared.Item.the-variants as given
 use Rattle.tree.specs.declared.Value.{Value}
-use Rattle.tree.specs.Room.{child, Finds}
+use Rattle.tree.specs.Room.{Holds}
 use Rattle.tree.specs.Doors.{Stood, valueAt, items}
-use Rattle.tree.specs.Spans.{items-step, items-end}
-use Rattle.tree.specs.Laws.{found-below}
+use Rattle.tree.specs.Steps.{itemsFrom, toCome, Given, Gives, item-given, item-ended, item-stands}
 use Rattle.schema.specs.declared.Features.{Features}
 use Rattle.schema.specs.declared.Features.the-variants.{Absent, Words, Items}
 use Rattle.features.specs.declared.Piece.{Piece}
@@ -30,7 +30,8 @@ use Rattle.features.specs.declared.Raw.the-variants as raws
 use Rattle.features.specs.declared.reader.Word.{Word}
 use Rattle.features.specs.declared.reader.Word.the-variants as words
 use Rattle.features.specs.Reading.{wordAt}
-use Rattle.features.specs.Pieces.{wordsAt, wordsFrom, Steps, pieceOf, isText, allTexts, itemsFault, itemsFrom, piecesFrom, pieces, bound, better, nextOf}
+use Rattle.features.specs.Pieces as pieces
+use Rattle.features.specs.Pieces.{wordsAt, wordsFrom, Steps, pieceOf, isText, allTexts, itemsFault, piecesFrom, pieces, bound, better, nextOf}
 use Rattle.tree.specs.Doors.{Rooms}
 use Rattle.features.proofs.Wording.{met, words-none, words-some}
 
@@ -68,33 +69,29 @@ module _ (store : List ℕ) (from len at : ℕ) (s : List ℕ) (e : s ≡ clip f
 
 -- ---- raw_item
 
-module _ (tree : List ℕ) (made place at : ℕ) (found : Found) (h : Finds at made (child tree made place at) found) (n : ℕ) (e : found ≡ At n) where
-  below : n < made
-  below = found-below found made n (h .below) e
+pub raw-room : (tree : List ℕ) (made place at : ℕ) (w : Walk) → Rooms tree made → w ≡ itemsFrom place at made → Holds tree (w .end)
+raw-room tree made place at w r d = rw d (r .fits)
 
-  behind : at ≤ n
-  behind = rw e at (h .from)
+module _ (tree : List ℕ) (w : Walk) (step : Item) (h : Gives tree w step) where
+  module _ (n : ℕ) (rest : Walk) (e : step ≡ given.At n rest) where
+    pub item-stood : (made place at : ℕ) → Rooms tree made → w ≡ itemsFrom place at made → Stood tree n
+    item-stood made place at r d = item-stands tree w step h n rest e made r (omega (arith, ap (λ (u : Walk). u .end) d))
 
-  pub item-stood : Rooms tree made → Stood tree n
-  item-stood r = record { fits = record { fits = omega (arith, r .fits .fits, below) }; low = omega (arith, r .low, below) }
+    pub item-step : (store : List ℕ) (made place at : ℕ) (v : Value) (p : Piece) → w ≡ itemsFrom place at made → v ≡ valueAt tree store n → p ≡ pieceOf v
+        → Steps (pieces.itemsFrom tree store made place) made at (raws.At p (rest .at))
+    item-step store made place at v p d g k =
+        let i : Given tree w n rest = item-given tree w step h n rest e in
+        let c : items tree made place at ≡ n ∷ items tree made place (rest .at) = rw (i .place, i .end, d) at (i .come) in
+        let o : at < rest .at = rw d at (i .on) in
+        let l : rest .at ≤ made = rw d at (i .within) in
+        (rw (c, k, g), o, l)
 
-  pub item-fits : Rooms tree made → Fits w64 (n + 1)
-  item-fits r = record { fits = omega (arith, r .low, below) }
+    item-all : (store : List ℕ) (v : Value) → v ≡ valueAt tree store n
+        → allTexts tree store (toCome tree w) ≡ pick (isText v) (allTexts tree store (toCome tree rest)) false
+    item-all store v g = rw (item-given tree w step h n rest e .come, g)
 
-  pub item-less : made - (n + 1) < made - at
-  item-less = omega (arith, below, behind)
-
-  module _ (store : List ℕ) (v : Value) (g : v ≡ valueAt tree store n) where
-    pub item-step : (p : Piece) → p ≡ pieceOf v → Steps (itemsFrom tree store made place) made at (raws.At p (n + 1))
-    item-step p k =
-        (rw (items-step tree made place at n found h e, k, g), omega (arith, behind), omega (arith, below))
-
-    pub item-all : allTexts tree store (items tree made place at) ≡ pick (isText v) (allTexts tree store (items tree made place (n + 1))) false
-    item-all = rw (items-step tree made place at n found h e, g)
-
-pub item-end : (tree store : List ℕ) (made place at : ℕ) (found : Found) → Finds at made (child tree made place at) found → found ≡ Nothing
-    → itemsFrom tree store made place at ≡ []
-item-end tree store made place at found h e = rw (items-end tree made place at found h e)
+  pub item-end : (store : List ℕ) (made place at : ℕ) → w ≡ itemsFrom place at made → step ≡ given.End → pieces.itemsFrom tree store made place at ≡ []
+  item-end store made place at d e = let c : items tree made place at ≡ [] = rw d at (item-ended tree w step h e) in rw c
 
 -- ---- items_fault
 
@@ -104,42 +101,40 @@ spoilt true b fault = refl
 spoilt false true fault = refl
 spoilt false false fault = refl
 
-pub record Sifting (tree store : List ℕ) (made place limit fault n at : ℕ) : Type 0 where
+pub record Sifting (tree store : List ℕ) (made place limit fault n : ℕ) (w : Walk) : Type 0 where
+  pub within : w .end ≤ made
   pub few : n ≤ limit
-  pub count : n + length (items tree made place at) ≡ length (items tree made place 0)
-  pub left : pick (allTexts tree store (items tree made place 0)) 0 20 ≡ pick (allTexts tree store (items tree made place at)) fault 20
+  pub count : n + length (toCome tree w) ≡ length (items tree made place 0)
+  pub left : pick (allTexts tree store (items tree made place 0)) 0 20 ≡ pick (allTexts tree store (toCome tree w)) fault 20
 
-pub sift-start : (tree store : List ℕ) (made place limit : ℕ) → Sifting tree store made place limit 0 0 0
-sift-start tree store made place limit = record { few = omega arith; count = omega arith; left = refl }
+pub sift-start : (tree store : List ℕ) (made place limit : ℕ) (w : Walk) → w ≡ itemsFrom place 0 made → Sifting tree store made place limit 0 0 w
+sift-start tree store made place limit w e = rw e (record { within = omega arith; few = omega arith; count = omega arith; left = refl })
 
-module _ (tree store : List ℕ) (made place limit fault n at : ℕ) (k : Sifting tree store made place limit fault n at) where
-  sift-done : items tree made place at ≡ [] → fault ≡ itemsFault tree store made limit place
-  sift-done e =
-      let l : length (items tree made place 0) ≤ limit = omega (arith, k .few, k .count, ap length e) in
-      rw (le-ltb limit (length (items tree made place 0)) l) (sym (rw e at (k .left)))
+module _ (tree store : List ℕ) (made place limit fault n : ℕ) (w : Walk) (k : Sifting tree store made place limit fault n w) where
+  module _ (step : Item) (h : Gives tree w step) where
+    pub sift-end : step ≡ given.End → fault ≡ itemsFault tree store made limit place
+    sift-end e =
+        let g : toCome tree w ≡ [] = item-ended tree w step h e in
+        let l : length (items tree made place 0) ≤ limit = omega (arith, k .few, k .count, ap length g) in
+        rw (le-ltb limit (length (items tree made place 0)) l) (sym (rw g at (k .left)))
 
-  pub sift-end : made ≤ at → fault ≡ itemsFault tree store made limit place
-  unfolding items
-  sift-end l = let d : made - at ≡ 0 = omega arith in sift-done (rw d)
+    module _ (m : ℕ) (rest : Walk) (e : step ≡ given.At m rest) where
+      come : toCome tree w ≡ m ∷ toCome tree rest
+      come = item-given tree w step h m rest e .come
 
-  module _ (found : Found) (h : Finds at made (child tree made place at) found) where
-    pub sift-none : found ≡ Nothing → fault ≡ itemsFault tree store made limit place
-    sift-none e = sift-done (items-end tree made place at found h e)
-
-    module _ (m : ℕ) (e : found ≡ At m) where
       pub sift-many : n ≡ limit → 25 ≡ itemsFault tree store made limit place
       sift-many f =
-          let l : limit < length (items tree made place 0) = omega (arith, k .count, ap length (items-step tree made place at m found h e)) in
+          let l : limit < length (items tree made place 0) = omega (arith, k .count, ap length come) in
           rw (lt-ltb limit (length (items tree made place 0)) l)
 
       pub sift-on : (v : Value) (r : ℕ) → (n ≡ limit → ⊥) → v ≡ valueAt tree store m → r ≡ pick (isText v) fault 20
-          → Sifting tree store made place limit r (n + 1) (m + 1)
+          → Sifting tree store made place limit r (n + 1) rest
       sift-on v r f g t =
-          let all = allTexts tree store (items tree made place (m + 1)) in
           record {
+            within = omega (arith, item-given tree w step h m rest e .end, k .within);
             few = omega (arith, k .few, f);
-            count = omega (arith, k .count, ap length (items-step tree made place at m found h e));
-            left = rw t (rw (item-all tree made place at found h m e store v g) at (k .left) ∙ spoilt (isText v) all fault);
+            count = omega (arith, k .count, ap length come);
+            left = rw t (rw (item-all tree w step h m rest e store v g) at (k .left) ∙ spoilt (isText v) (allTexts tree store (toCome tree rest)) fault);
           }
 
 -- ---- raw_next
@@ -158,7 +153,7 @@ module _ (tree store : List ℕ) (made at : ℕ) (f : Features) where
     unfolding piecesFrom
     next-words from len e h = rw e h
 
-    pub next-items : (place : ℕ) → f ≡ Items place → Steps (itemsFrom tree store made place) made at r
+    pub next-items : (place : ℕ) → f ≡ Items place → Steps (pieces.itemsFrom tree store made place) made at r
         → Steps (piecesFrom tree store made f) (bound tree store made f) at r
     unfolding piecesFrom
     next-items place e h = rw e h

@@ -5,7 +5,7 @@ mod reader;
 use reader::Word;
 use schema::Features;
 use tree::Fields;
-use tree::Found;
+use tree::Item;
 use tree::Value;
 ghost use mathlib.Core.Bool.{true};
 ghost use mathlib.Core.Path.{_≡_};
@@ -86,10 +86,10 @@ fn raw_item(tree: &[u8], store: &[u8], made: usize, place: u16, at: usize) -> Ra
     requires { ⌜ Rooms (now tree) made × (at ≤ made) ⌝ }
     ensures { λ r. ⌜ piece.Steps (piece.itemsFrom (now (tree .entry)) (now (store .entry)) made place) made at r ⌝ }
 {
-    let found = tree::child(tree, made, place, at);
-    match found {
-        Found::At(n) => Raw::At(piece_of(tree::value_at(tree, store, n)), n + 1),
-        Found::Nothing => Raw::End,
+    let step = tree::next_item(tree, tree::items_from(place, at, made));
+    match step {
+        Item::At { value, rest } => Raw::At(piece_of(tree::value_at(tree, store, value)), rest.at),
+        Item::End => Raw::End,
     }
 }
 
@@ -150,22 +150,21 @@ fn items_fault(tree: &[u8], store: &[u8], made: usize, place: u16, limit: usize)
 {
     let mut fault: u32 = 0;
     let mut n: usize = 0;
-    let mut at = 0;
-    while at < made {
-        let found = tree::child(tree, made, place, at);
-        match found {
-            Found::Nothing => return fault,
-            Found::At(m) => {
+    let mut w = tree::items_of(place, made);
+    loop {
+        let step = tree::next_item(tree, w);
+        match step {
+            Item::End => return fault,
+            Item::At { value, rest } => {
                 if n == limit {
                     return 25;
                 }
-                fault = kind_fault(fault, tree::value_at(tree, store, m));
+                fault = kind_fault(fault, tree::value_at(tree, store, value));
                 n += 1;
-                at = m + 1;
+                w = rest;
             }
         }
     }
-    fault
 }
 
 fn wrong(fault: u32) -> FeaturesRead
@@ -292,7 +291,7 @@ fn nearest(
 }
 
 // The next item in byte order behind the last one given, each once.
-pub fn next(tree: &[u8], store: &[u8], made: usize, f: Features, after: Feature) -> Feature
+pub fn next_feature(tree: &[u8], store: &[u8], made: usize, f: Features, after: Feature) -> Feature
     requires { ⌜ Rooms (now tree) made ⌝ }
     ensures { λ r. ⌜ r ≡ piece.nextOf (now (store .entry)) after Feature.Nothing (piece.pieces (now (tree .entry)) (now (store .entry)) made f) ⌝ }
 {
@@ -361,8 +360,8 @@ fn equal_slow(tree: &[u8], store: &[u8], made: usize, f: Features, g: Features) 
     let mut a = Feature::Nothing;
     let mut b = Feature::Nothing;
     loop {
-        a = next(tree, store, made, f, a);
-        b = next(tree, store, made, g, b);
+        a = next_feature(tree, store, made, f, a);
+        b = next_feature(tree, store, made, g, b);
         if !same_feature(store, a, b) {
             return false;
         }
@@ -433,7 +432,7 @@ fn tally(tree: &[u8], store: &[u8], made: usize, f: Features, from: usize) -> us
 }
 
 // How many items a list has, each once.
-pub fn count(tree: &[u8], store: &[u8], made: usize, f: Features) -> usize
+pub fn count_features(tree: &[u8], store: &[u8], made: usize, f: Features) -> usize
     requires { ⌜ Rooms (now tree) made ⌝ }
     ensures { λ r. ⌜ r ≡ length (meant.ordered (bytesAll (now (store .entry)) (piece.pieces (now (tree .entry)) (now (store .entry)) made f))) ⌝ }
 {

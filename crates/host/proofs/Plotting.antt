@@ -9,7 +9,7 @@ use Rattle.parse.specs.declared.view.ComponentFound.{ComponentFound}
 use Rattle.parse.specs.declared.view.ComponentFound.the-variants as components
 use Rattle.parse.specs.declared.view.PartitionFound.{PartitionFound}
 use Rattle.parse.specs.declared.view.PartitionFound.the-variants as partitions
-use Rattle.parse.specs.Views.{sound}
+use Rattle.parse.specs.Views.{holdsValues}
 use Rattle.plan.specs.declared.choice.Choice.{Choice}
 use Rattle.plan.specs.declared.component.Build.{Build}
 use Rattle.plan.specs.declared.component.Source.{Source}
@@ -103,7 +103,7 @@ module _ (room store : List ℕ) (made : ℕ) where
       → r ≡ targetOf room store made f
   target-told f p r e h = rw e h
 
-  module _ (s : Bool) (e : s ≡ sound room made) where
+  module _ (s : Bool) (e : s ≡ holdsValues room made) where
     pub target-shown : (f g : PlannedFound) (q : PartitionFound) (r : PartitionView) → s ≡ true → g ≡ f → q ≡ targetOf room store made g → r ≡ partitionOf q → r ≡ targetShown room store made f
     target-shown f g q r p d k h = rw (← e, p) (h ∙ rw (k, d))
 

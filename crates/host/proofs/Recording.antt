@@ -37,7 +37,7 @@ use Rattle.parse.specs.declared.Refusal.{Refusal}
 use Rattle.preset.specs.declared.Outcome as parsed
 use Rattle.parse.specs.Refusals.{earlier}
 use Rattle.parse.specs.Refused.{lentText, verdict}
-use Rattle.parse.specs.Views.{sound}
+use Rattle.parse.specs.Views.{holdsValues}
 use Rattle.parse.specs.Verdict as verdicts
 use Rattle.preset.specs.Settled as settled
 use Rattle.parse.specs.Filed.{file-named, file-inside}
@@ -160,8 +160,8 @@ module _ (judge : List ℕ → List ℕ → ℕ → Refusal) (way : Table → An
       room-long = length-over (cells (d .slots)) (zeros (length tree)) (omega (arith, length-cells (d .slots), slots-fit of01 text d doc, big .1, length-zeros (length tree))) ∙ length-zeros (length tree)
 
       -- no more values than the room takes
-      sounds : sound room (length (d .slots)) ≡ true
-      unfolding sound
+      sounds : holdsValues room (length (d .slots)) ≡ true
+      unfolding holdsValues
       sounds =
           let k : made ≤ length room / 32 = omega (arith, room-long, big .1, slots-fit of01 text d doc) in
           let l : length (d .slots) ≤ 65000 = j .few in
@@ -178,7 +178,7 @@ module _ (judge : List ℕ → List ℕ → ℕ → Refusal) (way : Table → An
             says = rw (e, eo, mm);
             store-is = rw e (es ∙ ap (λ (b : List ℕ). over b (zeros (length store))) (h .0));
             tree-is = rw (e, ed) et;
-            shows = rw e (record { shown = shown es et; sound = rw (mm, et) sounds; clear = rw (mm, es, et) (js .clear room bytes made z); records = rw (mm, es, et) });
+            shows = rw e (record { shown = shown es et; holdsValues = rw (mm, et) sounds; clear = rw (mm, es, et) (js .clear room bytes made z); records = rw (mm, es, et) });
           }
 
       answered-not : (found .number ≡ 0 → ⊥) → Answered its text name store tree store' tree' (exported o)

@@ -27,7 +27,7 @@ use Rattle.parse.specs.declared.view.ApplicationFound.{ApplicationFound}
 use Rattle.parse.specs.declared.view.ApplicationFound.the-variants as applications
 use Rattle.parse.specs.declared.view.Counts as counted
 use Rattle.parse.specs.Front.{frontRead}
-use Rattle.parse.specs.Views.{sound, countsAt, partition, application}
+use Rattle.parse.specs.Views.{holdsValues, countsAt, partition, application}
 use Rattle.parse.specs.Refused.{lentText}
 use Rattle.host.specs.declared.records.Bytes.{Bytes}
 use Rattle.host.specs.declared.records.Amount.{Amount}
@@ -142,7 +142,7 @@ pub counts-told : (room store : List ℕ) (made : ℕ) (c : counted.Counts) → 
 counts-told room store made c e = ap countsOf e
 
 -- ---- of sound rooms
-module _ (room store : List ℕ) (made i : ℕ) (s : Bool) (e : s ≡ sound room made) (p : s ≡ true) where
+module _ (room store : List ℕ) (made i : ℕ) (s : Bool) (e : s ≡ holdsValues room made) (p : s ≡ true) where
   pub partition-shown : (f : PartitionFound) (r : PartitionView) → f ≡ partition room store made i → r ≡ partitionOf f → r ≡ partitionShown room store made i
   partition-shown f r d h = rw (← e, p) (h ∙ ap partitionOf d)
 
@@ -182,7 +182,7 @@ pub item-told : (f g : Feature) → f ≡ g → featureOf g ≡ featureOf f
 item-told f g e = ap featureOf (sym e)
 
 pub feature-shown : (room store : List ℕ) (made kind from len begun last size : ℕ) (s : Bool) (f : Features) (b g : Feature) (r : FeatureView)
-    → s ≡ sound room made → s ≡ true → f ≡ featuresBy kind from len → b ≡ behindItem begun last size → g ≡ nextOf store b items.Nothing (pieces room store made f)
+    → s ≡ holdsValues room made → s ≡ true → f ≡ featuresBy kind from len → b ≡ behindItem begun last size → g ≡ nextOf store b items.Nothing (pieces room store made f)
     → r ≡ featureOf g → r ≡ featureShown room store made kind from len begun last size
 feature-shown room store made kind from len begun last size s f b g r es p ef eb eg h =
     let k : g ≡ nextOf store (behindItem begun last size) items.Nothing (pieces room store made (featuresBy kind from len)) = rw (← ef, ← eb) eg in

@@ -11,7 +11,7 @@ use Rattle.parse.specs.declared.view.ComponentFound.{ComponentFound}
 use Rattle.parse.specs.declared.view.ComponentFound.the-variants as components
 use Rattle.parse.specs.declared.view.PartitionFound.{PartitionFound}
 use Rattle.parse.specs.declared.view.PartitionFound.the-variants as partitions
-use Rattle.parse.specs.Views.{sound}
+use Rattle.parse.specs.Views.{holdsValues}
 use Rattle.plan.specs.declared.choice.Choice.{Choice}
 use Rattle.plan.specs.declared.component.Source.{Source}
 use Rattle.plan.specs.declared.component.Source.the-variants as sources
@@ -71,22 +71,22 @@ module _ (room store : List ℕ) (made : ℕ) where
   targetOf (founds.At p) = targets.partition room store made (p .spec .role .partition)
 
   abbrev pub targetShown : PlannedFound → PartitionView
-  targetShown f = pick (sound room made) (partitionOf (targetOf f)) (partitionOf partitions.Nothing)
+  targetShown f = pick (holdsValues room made) (partitionOf (targetOf f)) (partitionOf partitions.Nothing)
 
   module _ (app : ℕ) (key : List ℕ) where
     abbrev pub chosen : Choice
     chosen = choices.choice room store made app key
 
     abbrev pub component : ℕ → PlannedFound
-    component i = pick (sound room made) (composed.component room store made chosen i) founds.Nothing
+    component i = pick (holdsValues room made) (composed.component room store made chosen i) founds.Nothing
 
     abbrev pub buildShown : ℕ → BuildView
-    buildShown i = pick (sound room made) (buildOf (needed.build room store made chosen i)) (buildOf builds.Nothing)
+    buildShown i = pick (holdsValues room made) (buildOf (needed.build room store made chosen i)) (buildOf builds.Nothing)
 
     abbrev pub countsShown : PlanCounts
     countsShown =
-        pick (sound room made) (record { components = composed.count room store made chosen; builds = length (needed.buildsOf room store made chosen) })
+        pick (holdsValues room made) (record { components = composed.count room store made chosen; builds = length (needed.buildsOf room store made chosen) })
         (record { components = 0; builds = 0 })
 
   abbrev pub stemShown : List ℕ → ℕ → List ℕ → Bytes
-  stemShown name app key = pick (sound room made) (bytesOf (stems.stem room store made name (chosen app key))) (bytesOf texts.Absent)
+  stemShown name app key = pick (holdsValues room made) (bytesOf (stems.stem room store made name (chosen app key))) (bytesOf texts.Absent)

@@ -13,7 +13,7 @@ use Rattle.tree.specs.Doors.{fieldsOf}
 use Rattle.toml_lite.specs.Rooms.{judged, treeOf}
 use Rattle.preset.specs.declared.Outcome as parsed
 use Rattle.parse.specs.Refused.{lentText, verdict}
-use Rattle.parse.specs.Views.{sound}
+use Rattle.parse.specs.Views.{holdsValues}
 use Rattle.parse.specs.Whole.{presetMeant}
 use Rattle.host.specs.declared.documents.Outcome.{Outcome}
 use Rattle.host.specs.Documents.{Shown}
@@ -36,7 +36,7 @@ treeBy text store tree (refused f section place) = zeros tree
 -- the rooms show 01's tree, and what is read from them is 01's preset, without a refusal
 pub record Recorded (name store tree : List ℕ) (p : Read) : Type 0 where
   pub shown : Shown store tree (p .parsed)
-  pub sound : sound tree (p .parsed .made) ≡ true
+  pub holdsValues : holdsValues tree (p .parsed .made) ≡ true
   pub clear : verdict tree store (p .parsed .made) (fieldsOf tree (p .parsed .made) 1) of01 (lentText name) .number ≡ 0
   pub records : presetMeant tree store (p .parsed .made) name (fieldsOf tree (p .parsed .made) 1) of01 (lentText name) ≡ p .preset
 

@@ -37,7 +37,7 @@ use Rattle.parse.specs.declared.view.ApplicationFound.the-variants as applicati
 use Rattle.parse.specs.Front.{frontRead}
 use Rattle.parse.specs.declared.view.Counts as counted
 use Rattle.parse.specs.Views as views
-use Rattle.parse.specs.Views.{sound}
+use Rattle.parse.specs.Views.{holdsValues}
 use Rattle.parse.specs.Refused.{lentText}
 use Rattle.host.specs.declared.records.Bytes.{Bytes}
 use Rattle.host.specs.declared.records.Amount.{Amount}
@@ -232,19 +232,19 @@ module _ (room store : List ℕ) (made : ℕ) where
   imageView = pick (eqb (front [] .fault .number) 0) (imageOf (front [] .image)) noImage
 
   abbrev pub boardShown : List ℕ → BoardView
-  boardShown name = pick (sound room made) (boardView name) noBoard
+  boardShown name = pick (holdsValues room made) (boardView name) noBoard
 
   abbrev pub imageShown : ImageView
-  imageShown = pick (sound room made) imageView noImage
+  imageShown = pick (holdsValues room made) imageView noImage
 
   abbrev pub partitionShown : ℕ → PartitionView
-  partitionShown i = pick (sound room made) (partitionOf (views.partition room store made i)) noPartition
+  partitionShown i = pick (holdsValues room made) (partitionOf (views.partition room store made i)) noPartition
 
   abbrev pub component : ℕ → ComponentFound
-  component i = pick (sound room made) (views.component room store made i 32) components.Nothing
+  component i = pick (holdsValues room made) (views.component room store made i 32) components.Nothing
 
   abbrev pub applicationShown : ℕ → ApplicationView
-  applicationShown i = pick (sound room made) (applicationOf (views.application room store made i 32)) noApplication
+  applicationShown i = pick (holdsValues room made) (applicationOf (views.application room store made i 32)) noApplication
 
 abbrev pub countsOf : counted.Counts → Counts
 countsOf c = record { partitions = c .partitions; components = c .components; applications = c .applications }
@@ -263,7 +263,7 @@ featureOf (items.At p) = record { found = 1; from = p .from; len = p .len }
 
 abbrev pub featureShown : List ℕ → List ℕ → ℕ → ℕ → ℕ → ℕ → ℕ → ℕ → ℕ → FeatureView
 featureShown room store made kind from len begun last size =
-    pick (sound room made) (featureOf (nextOf store (behindItem begun last size) items.Nothing (pieces room store made (featuresBy kind from len)))) (featureOf items.Nothing)
+    pick (holdsValues room made) (featureOf (nextOf store (behindItem begun last size) items.Nothing (pieces room store made (featuresBy kind from len)))) (featureOf items.Nothing)
 
 -- ---- words
 

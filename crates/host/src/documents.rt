@@ -74,7 +74,7 @@ pub extern "C" fn tree_find(tree: &[u8], store: &[u8], made: usize, parent: u16,
     if tree::capacity(tree) < made {
         return told(Found::Nothing);
     }
-    told(tree::find(tree, store, made, parent, key))
+    told(tree::find_child(tree, store, made, parent, key))
 }
 
 // The first of the values made, from a number on, that hangs under the parent; nothing where the room has fewer values.

@@ -80,7 +80,7 @@ fn planned_at(
 ) -> PlannedFound
     ensures { λ r. ⌜ r ≡ plans.component (now (tree .entry)) (now (store .entry)) made app (now (key .entry)) i ⌝ }
 {
-    if parse::view::sound(tree, made) {
+    if parse::view::holds_values(tree, made) {
         let c = plan::choice::choose(tree, store, made, app, key);
         return plan::component::component(tree, store, made, c, i);
     }
@@ -271,7 +271,7 @@ pub extern "C" fn plan_partition(
     ensures { λ r. ⌜ r ≡ plans.targetShown (now (tree .entry)) (now (store .entry)) made (plans.component (now (tree .entry)) (now (store .entry)) made app (now (key .entry)) i) ⌝ }
 {
     let f = planned_at(tree, store, made, app, key, i);
-    if parse::view::sound(tree, made) {
+    if parse::view::holds_values(tree, made) {
         return partition_of(target_of(tree, store, made, f));
     }
     partition_of(PartitionFound::Nothing)
@@ -313,7 +313,7 @@ pub extern "C" fn plan_build(
 ) -> BuildView
     ensures { λ r. ⌜ r ≡ plans.buildShown (now (tree .entry)) (now (store .entry)) made app (now (key .entry)) i ⌝ }
 {
-    if parse::view::sound(tree, made) {
+    if parse::view::holds_values(tree, made) {
         let c = plan::choice::choose(tree, store, made, app, key);
         return build_of(plan::builds::build(tree, store, made, c, i));
     }
@@ -331,7 +331,7 @@ pub extern "C" fn plan_counts(
 ) -> PlanCounts
     ensures { λ r. ⌜ r ≡ plans.countsShown (now (tree .entry)) (now (store .entry)) made app (now (key .entry)) ⌝ }
 {
-    if parse::view::sound(tree, made) {
+    if parse::view::holds_values(tree, made) {
         let c = plan::choice::choose(tree, store, made, app, key);
         let b = plan::builds::builds(tree, store, made, c);
         return PlanCounts {
@@ -357,7 +357,7 @@ pub extern "C" fn plan_stem(
 ) -> Bytes
     ensures { λ r. ⌜ r ≡ plans.stemShown (now (tree .entry)) (now (store .entry)) made (now (name .entry)) app (now (key .entry)) ⌝ }
 {
-    if parse::view::sound(tree, made) {
+    if parse::view::holds_values(tree, made) {
         let c = plan::choice::choose(tree, store, made, app, key);
         return bytes_of(plan::stem::stem(tree, store, made, name, c));
     }

@@ -327,7 +327,7 @@ fn board_view(tree: &[u8], store: &[u8], made: usize, lent: &[u8]) -> BoardView
 pub extern "C" fn preset_board(tree: &[u8], store: &[u8], made: usize, name: &[u8]) -> BoardView
     ensures { λ r. ⌜ r ≡ records.boardShown (now (tree .entry)) (now (store .entry)) made (now (name .entry)) ⌝ }
 {
-    if parse::view::sound(tree, made) {
+    if parse::view::holds_values(tree, made) {
         return board_view(tree, store, made, name);
     }
     no_board()
@@ -380,7 +380,7 @@ fn image_view(tree: &[u8], store: &[u8], made: usize) -> ImageView
 pub extern "C" fn preset_image(tree: &[u8], store: &[u8], made: usize) -> ImageView
     ensures { λ r. ⌜ r ≡ records.imageShown (now (tree .entry)) (now (store .entry)) made ⌝ }
 {
-    if parse::view::sound(tree, made) {
+    if parse::view::holds_values(tree, made) {
         return image_view(tree, store, made);
     }
     no_image()
@@ -423,7 +423,7 @@ pub extern "C" fn preset_partition(
 ) -> PartitionView
     ensures { λ r. ⌜ r ≡ records.partitionShown (now (tree .entry)) (now (store .entry)) made i ⌝ }
 {
-    if parse::view::sound(tree, made) {
+    if parse::view::holds_values(tree, made) {
         return partition_of(parse::view::partition(tree, store, made, i));
     }
     no_partition()
@@ -433,7 +433,7 @@ pub extern "C" fn preset_partition(
 fn component(tree: &[u8], store: &[u8], made: usize, i: usize) -> ComponentFound
     ensures { λ r. ⌜ r ≡ records.component (now (tree .entry)) (now (store .entry)) made i ⌝ }
 {
-    if parse::view::sound(tree, made) {
+    if parse::view::holds_values(tree, made) {
         return parse::view::component(tree, store, made, i, 32);
     }
     ComponentFound::Nothing
@@ -656,7 +656,7 @@ pub extern "C" fn preset_application(
 ) -> ApplicationView
     ensures { λ r. ⌜ r ≡ records.applicationShown (now (tree .entry)) (now (store .entry)) made i ⌝ }
 {
-    if parse::view::sound(tree, made) {
+    if parse::view::holds_values(tree, made) {
         return application_of(parse::view::application(tree, store, made, i, 32));
     }
     no_application()
@@ -738,9 +738,15 @@ pub extern "C" fn preset_feature(
 ) -> FeatureView
     ensures { λ r. ⌜ r ≡ records.featureShown (now (tree .entry)) (now (store .entry)) made kind from len begun last size ⌝ }
 {
-    if parse::view::sound(tree, made) {
+    if parse::view::holds_values(tree, made) {
         let f = features_by(kind, from, len);
-        return feature_of(features::next(tree, store, made, f, behind_item(begun, last, size)));
+        return feature_of(features::next_feature(
+            tree,
+            store,
+            made,
+            f,
+            behind_item(begun, last, size),
+        ));
     }
     feature_of(Feature::Nothing)
 }

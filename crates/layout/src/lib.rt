@@ -114,7 +114,7 @@ pub fn check_layout(
             place: 0,
         };
     }
-    turns::judge(
+    turns::judge_marks(
         bytes,
         marks_of(bytes, items, count, chip.erase_size()),
         count,

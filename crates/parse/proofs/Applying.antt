@@ -16,14 +16,14 @@ use Rattle.parse.specs.declared.field.TextRead.{TextRead}
 use Rattle.parse.specs.declared.field.NumberRead.{NumberRead}
 use Rattle.parse.specs.declared.application.Names.{Names}
 use Rattle.parse.specs.declared.application.Loading.{Loading}
-use Rattle.parse.specs.Fields.{first, textAt, numberAt}
+use Rattle.parse.specs.Fields.{firstFault, textAt, numberAt}
 use Rattle.parse.specs.Application.{names, loading, applicationRead}
 
 module _ (room store : List ℕ) (f : Fields) where
   pub names-are : (key : Text) (n p t a : TextRead) (late mid all : ℕ) (called part file aic attr : Text)
       → n ≡ textAt room store f (ascii "name") → p ≡ textAt room store f (ascii "partition")
       → t ≡ textAt room store f (ascii "filename") → a ≡ textAt room store f (ascii "attr")
-      → late ≡ first (t .fault) (a .fault) → mid ≡ first (p .fault) late → all ≡ first (n .fault) mid
+      → late ≡ firstFault (t .fault) (a .fault) → mid ≡ firstFault (p .fault) late → all ≡ firstFault (n .fault) mid
       → called ≡ orText (n .text) key → part ≡ orText (p .text) (texts.Fixed words.App)
       → aic ≡ aicOf called → file ≡ orText (t .text) aic → attr ≡ orText (a .text) (texts.Fixed words.Optional)
       → record { fault = all; name = called; partition = part; filename = file; attr = attr } ≡ names room store f key
@@ -35,13 +35,13 @@ module _ (room store : List ℕ) (f : Fields) where
     pub loading-is : (v : Value) (l : FeaturesRead) (a o : NumberRead) (late all : ℕ)
         → v ≡ field room store f (ascii "features") → l ≡ featuresRead room store made limit v
         → a ≡ numberAt room store f (ascii "load_address") → o ≡ numberAt room store f (ascii "entry_offset")
-        → late ≡ first (a .fault) (o .fault) → all ≡ first (l .fault) late
+        → late ≡ firstFault (a .fault) (o .fault) → all ≡ firstFault (l .fault) late
         → record { fault = all; features = l .features; «load_address» = a .number; «entry_offset» = o .number } ≡ loading room store made f limit
     unfolding loading
     loading-is v l a o late all e1 e2 e3 e4 e5 e6 = rw (e6, e5, e2, e1, e3, e4)
 
     pub application-is : (key : Text) (n : Names) (l : Loading) (all : ℕ)
-        → n ≡ names room store f key → l ≡ loading room store made f limit → all ≡ first (n .fault) (l .fault)
+        → n ≡ names room store f key → l ≡ loading room store made f limit → all ≡ firstFault (n .fault) (l .fault)
         → record {
           fault = all;
           application = record {

@@ -33,7 +33,7 @@ use Rattle.parse.specs.declared.component.Lists.{Lists}
 use Rattle.parse.specs.declared.component.RoleRead.{RoleRead}
 use Rattle.parse.specs.declared.component.BootRead.{BootRead}
 use Rattle.parse.specs.declared.component.LoadRead.{LoadRead}
-use Rattle.parse.specs.Fields.{first, textAt, textNeeded, numberAt, flagAt, kindAt}
+use Rattle.parse.specs.Fields.{firstFault, textAt, textNeeded, numberAt, flagAt, kindAt}
 use Rattle.parse.specs.File.{fileAt, Placed}
 use Rattle.parse.specs.Component.{nameIn, filenameFor, sources, headRead, lists, roleRead, bootRead, loadRead, componentRead}
 
@@ -78,14 +78,14 @@ filename-is store s named last rest r e g h i = rw (i, h, g, e)
 
 module _ (room store : List ℕ) (f : Fields) where
   pub sources-are : (p b s : TextRead) (late all : ℕ) → p ≡ textAt room store f (ascii "package") → b ≡ textAt room store f (ascii "bin")
-      → s ≡ textAt room store f (ascii "file") → late ≡ first (b .fault) (s .fault) → all ≡ first (p .fault) late
+      → s ≡ textAt room store f (ascii "file") → late ≡ firstFault (b .fault) (s .fault) → all ≡ firstFault (p .fault) late
       → record { fault = all; «package» = p .text; bin = b .text; file = s .text } ≡ sources room store f
   unfolding sources
   sources-are p b s late all e g h i j = rw (j, i, e, g, h)
 
   pub head-is : (k : KindRead) (n : TextRead) (s : Sources) (t : TextRead) (late mid all : ℕ) (g r : Text)
       → k ≡ kindAt room store f → n ≡ textNeeded room store f (ascii "name") → s ≡ sources room store f → t ≡ textAt room store f (ascii "filename")
-      → late ≡ first (s .fault) (t .fault) → mid ≡ first (n .fault) late → all ≡ first (k .fault) mid
+      → late ≡ firstFault (s .fault) (t .fault) → mid ≡ firstFault (n .fault) late → all ≡ firstFault (k .fault) mid
       → g ≡ filenameFor store s → r ≡ orText (t .text) g
       → record {
         fault = all;
@@ -98,7 +98,7 @@ module _ (room store : List ℕ) (f : Fields) where
   pub boot-is : (u : FlagRead) (n : NumberRead) (t o p : TextRead) (end late mid all : ℕ)
       → u ≡ flagAt room store f (ascii "updater") → n ≡ numberAt room store f (ascii "ram") → t ≡ textAt room store f (ascii "pbp")
       → o ≡ textAt room store f (ascii "pbp_package") → p ≡ textAt room store f (ascii "private")
-      → end ≡ first (o .fault) (p .fault) → late ≡ first (t .fault) end → mid ≡ first (n .fault) late → all ≡ first (u .fault) mid
+      → end ≡ firstFault (o .fault) (p .fault) → late ≡ firstFault (t .fault) end → mid ≡ firstFault (n .fault) late → all ≡ firstFault (u .fault) mid
       → record { fault = all; boot = record { updater = u .flag; ram = n .number; pbp = t .text; «pbp_package» = o .text; private = p .text } }
       ≡ bootRead room store f
   unfolding bootRead
@@ -108,8 +108,8 @@ module _ (room store : List ℕ) (f : Fields) where
       → a ≡ numberAt room store f (ascii "load_address") → p ≡ numberAt room store f (ascii "entry_point")
       → o ≡ numberAt room store f (ascii "entry_offset") → v ≡ numberAt room store f (ascii "header_version")
       → e ≡ flagAt room store f (ascii "with_ext") → r ≡ numberAt room store f (ascii "ext_reserve")
-      → end ≡ first (e .fault) (r .fault) → late ≡ first (v .fault) end → low ≡ first (o .fault) late
-      → mid ≡ first (p .fault) low → all ≡ first (a .fault) mid → d ≡ orNumber (r .number) 0
+      → end ≡ firstFault (e .fault) (r .fault) → late ≡ firstFault (v .fault) end → low ≡ firstFault (o .fault) late
+      → mid ≡ firstFault (p .fault) low → all ≡ firstFault (a .fault) mid → d ≡ orNumber (r .number) 0
       → record {
         fault = all;
         load = record {
@@ -130,7 +130,7 @@ module _ (room store : List ℕ) (f : Fields) where
     module _ (v w : Value) (all own : FeaturesRead) (fault : ℕ) (b : Bool)
         (e1 : v ≡ field room store f (ascii "features")) (e2 : all ≡ featuresRead room store made limit v)
         (e3 : w ≡ field room store f (ascii "pbp_features")) (e4 : own ≡ featuresRead room store made limit w)
-        (e5 : fault ≡ first (all .fault) (own .fault)) (e6 : b ≡ nil? (pieces room store made (own .features))) where
+        (e5 : fault ≡ firstFault (all .fault) (own .fault)) (e6 : b ≡ nil? (pieces room store made (own .features))) where
       pub lists-same : b ≡ true → record { fault = fault; features = all .features; «pbp_features» = all .features } ≡ lists room store made f limit
       unfolding lists
       lists-same t = rw (e5, ← e1, ← e3, ← e2, ← e4, ← e6, t)
@@ -142,7 +142,7 @@ module _ (room store : List ℕ) (f : Fields) where
     pub role-is : (l : Lists) (p a t n : TextRead) (end late mid all : ℕ) (x y : Text)
         → l ≡ lists room store made f limit → p ≡ textAt room store f (ascii "partition") → a ≡ textAt room store f (ascii "attr")
         → t ≡ textAt room store f (ascii "target_attr") → n ≡ textAt room store f (ascii "target_filename")
-        → end ≡ first (t .fault) (n .fault) → late ≡ first (a .fault) end → mid ≡ first (p .fault) late → all ≡ first (l .fault) mid
+        → end ≡ firstFault (t .fault) (n .fault) → late ≡ firstFault (a .fault) end → mid ≡ firstFault (p .fault) late → all ≡ firstFault (l .fault) mid
         → x ≡ orText (p .text) (texts.Stored 0 0) → y ≡ orText (a .text) (texts.Fixed words.Required)
         → record {
           fault = all;
@@ -161,7 +161,7 @@ module _ (room store : List ℕ) (f : Fields) where
 
     pub component-is : (h : HeadRead) (r : RoleRead) (b : BootRead) (l : LoadRead) (late mid all : ℕ)
         → h ≡ headRead room store f → r ≡ roleRead room store made f limit → b ≡ bootRead room store f → l ≡ loadRead room store f
-        → late ≡ first (b .fault) (l .fault) → mid ≡ first (r .fault) late → all ≡ first (h .fault) mid
+        → late ≡ firstFault (b .fault) (l .fault) → mid ≡ firstFault (r .fault) late → all ≡ firstFault (h .fault) mid
         → record { fault = all; component = record { head = h .head; role = r .role; boot = b .boot; load = l .load } }
         ≡ componentRead room store made f limit
     unfolding componentRead

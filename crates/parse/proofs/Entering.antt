@@ -14,17 +14,35 @@ use Rattle.meaning.specs.Base.{ascii}
 use Rattle.meaning.specs.Refusal.{R, ok, bad, Answer, accepted, refused, numbered, after, inPartition, inComponent, inApplication}
 use Rattle.meaning.specs.Fields.{each, listed}
 use Rattle.laws.specs.Cases.{on}
-use Rattle.tree.specs.declared.Slot.{Slot}
-use Rattle.tree.specs.declared.Found.{Found}
 use Rattle.tree.specs.declared.Found.the-variants.{At, Nothing}
 use Rattle.tree.specs.declared.Value.{Value}
 use Rattle.tree.specs.declared.Value.the-variants as values
 use Rattle.tree.specs.declared.Fields.{Fields}
-use Rattle.tree.specs.Room.{Holds, Finds, Counts, slotAt, child}
-use Rattle.tree.specs.Order.{next}
+use Rattle.tree.specs.declared.Span.{Span}
+use Rattle.tree.specs.declared.Items.{Items}
+use Rattle.tree.specs.declared.Item.{Item}
+use Rattle.tree.specs.declared.Item.the-variants as given
+use Rattle.tree.specs.declared.Keys.{Keys}
+use Rattle.tree.specs.declared.Key.{Key}
+use Rattle.tree.specs.declared.Key.the-variants as keyed
+use Rattle.tree.specs.Room.{Holds, Finds, Counts}
 use Rattle.tree.specs.Doors.{Rooms, Stood, Spread, field, fieldsOf, valueAt, items, nthOf}
-use Rattle.tree.specs.Spans.{spread-fields, items-step, items-end, items-count}
-use Rattle.tree.specs.Laws.{found-below, found-from}
+use Rattle.tree.specs.Spans.{spread-fields, items-count}
+use Rattle.tree.specs.Steps.{
+  itemsFrom,
+  toCome,
+  Given,
+  Gives,
+  item-given,
+  item-ended,
+  keyAt,
+  Over,
+  Begins,
+  KeyGives,
+  key-given,
+  key-ended,
+  key-stands,
+}
 use Rattle.schema.specs.declared.Text.the-variants as texts
 use Rattle.schema.specs.declared.Partition.{Partition}
 use Rattle.schema.specs.Texts.{startOf, lengthOf, orNumber}
@@ -38,7 +56,7 @@ use Rattle.parse.specs.declared.entry.Partitions.{Partitions}
 use Rattle.parse.specs.declared.component.ComponentRead.{ComponentRead}
 use Rattle.parse.specs.declared.application.ApplicationRead.{ApplicationRead}
 use Rattle.parse.specs.Refusals.{earlier}
-use Rattle.parse.specs.Fields.{first, textNeeded, numberNeeded}
+use Rattle.parse.specs.Fields.{firstFault, textNeeded, numberNeeded}
 use Rattle.parse.specs.Component.{componentRead}
 use Rattle.parse.specs.Application.{applicationRead}
 use Rattle.parse.specs.Entries.{
@@ -53,7 +71,7 @@ use Rattle.parse.specs.Entries.{
   keysAt,
   entryTable,
   asR,
-  told,
+  refusalAt,
   refusalOf,
   partitionRead,
   partitionAt,
@@ -119,25 +137,25 @@ table-spread room made v t h e = rw e (entry-spread room made v h)
 module _ (room store : Seq ℕ) where
   pub partition-is : (f : Fields) (n : TextRead) (o s : NumberRead) (late all from len offset size : ℕ)
       → n ≡ textNeeded room store f (ascii "name") → o ≡ numberNeeded room store f (ascii "offset") → s ≡ numberNeeded room store f (ascii "size")
-      → late ≡ first (o .fault) (s .fault) → all ≡ first (n .fault) late
+      → late ≡ firstFault (o .fault) (s .fault) → all ≡ firstFault (n .fault) late
       → from ≡ startOf (n .text) → len ≡ lengthOf (n .text) → offset ≡ orNumber (o .number) 0 → size ≡ orNumber (s .number) 0
       → record { fault = all; partition = record { from = from; len = len; offset = offset; size = size } } ≡ partitionRead room store f
   unfolding partitionRead
   partition-is f n o s late all from len offset size e1 e2 e3 e4 e5 e6 e7 e8 e9 = rw (e5, e4, e6, e7, e8, e9, e1, e2, e3)
 
   module _ (made n : ℕ) (v : Value) (t : TableRead) (e1 : v ≡ valueAt room store n) (e2 : t ≡ entryTable room made v) (all : ℕ) where
-    pub partition-at : (p : PartitionRead) → p ≡ partitionRead room store (t .fields) → all ≡ first (t .fault) (p .fault)
+    pub partition-at : (p : PartitionRead) → p ≡ partitionRead room store (t .fields) → all ≡ firstFault (t .fault) (p .fault)
         → record { fault = all; partition = p .partition } ≡ partitionAt room store made n
     unfolding partitionAt
     partition-at p e3 e4 = rw (e4, e3, e2, e1)
 
-    pub component-at : (limit : ℕ) (c : ComponentRead) → c ≡ componentRead room store made (t .fields) limit → all ≡ first (t .fault) (c .fault)
+    pub component-at : (limit : ℕ) (c : ComponentRead) → c ≡ componentRead room store made (t .fields) limit → all ≡ firstFault (t .fault) (c .fault)
         → record { fault = all; component = c .component } ≡ componentAt room store made n limit
     unfolding componentAt
     component-at limit c e3 e4 = rw (e4, e3, e2, e1)
 
-    pub application-at : (limit : ℕ) (s : Slot) (a : ApplicationRead) → s ≡ slotAt room n
-        → a ≡ applicationRead room store made (t .fields) (texts.Stored (s .key) (s .len)) limit → all ≡ first (t .fault) (a .fault)
+    pub application-at : (limit : ℕ) (s : Span) (a : ApplicationRead) → s ≡ keyAt room n
+        → a ≡ applicationRead room store made (t .fields) (texts.Stored (s .from) (s .len)) limit → all ≡ firstFault (t .fault) (a .fault)
         → record { fault = all; application = a .application } ≡ applicationAt room store made n limit
     unfolding applicationAt
     application-at limit s a e3 e4 e5 = rw (e5, e4, e3, e2, e1)
@@ -159,79 +177,57 @@ module _ {X : Type 0} where
     each-good : (x : X) → read n ≡ ok x → refusalOf (each read section i (n ∷ ns)) ≡ refusalOf (each read section (i + 1) ns)
     each-good x e = rw e (kept x (each read section (i + 1) ns))
 
-    each-wrong : (fault : ℕ) → read n ≡ bad fault → refusalOf (each read section i (n ∷ ns)) ≡ told section fault i
+    each-wrong : (fault : ℕ) → read n ≡ bad fault → refusalOf (each read section i (n ∷ ns)) ≡ refusalAt section fault i
     each-wrong fault e = rw e
 
--- ---- items
-
--- no item stands behind the end
-items-past : (room : Seq ℕ) (end place from : ℕ) → end ≤ from → items room end place from ≡ []
-unfolding items
-items-past room end place from l = let d : end - from ≡ 0 = omega arith in rw d
+-- ---- all components
 
 pub holds-end : (room : Seq ℕ) (made end : ℕ) → Rooms room made → end ≤ made → Holds room end
 holds-end room made end h l = record { fits = omega (arith, h .fits .fits) }
 
--- the next item
-module _ (room : Seq ℕ) (end place from n : ℕ) (found : Found) (h : Finds from end (child room end place from) found) (e : found ≡ At n) where
-  below : n < end
-  below = found-below found end n (h .below) e
-
-  behind : from ≤ n
-  behind = found-from found from n (h .from) e
-
-  pub item-stood : (made : ℕ) → Rooms room made → end ≤ made → Stood room n
-  item-stood made r l = record { fits = record { fits = omega (arith, r .fits .fits, below) }; low = omega (arith, r .low, below) }
-
-  pub item-fits : (made : ℕ) → Rooms room made → end ≤ made → Fits w64 (n + 1)
-  item-fits made r l = record { fits = omega (arith, r .low, below) }
-
-  pub item-less : end - (n + 1) < end - from
-  item-less = omega (arith, below, behind)
-
--- ---- all components
-
-pub record Composed (room store : Seq ℕ) (made place end limit i from : ℕ) : Type 0 where
-  pub low : i ≤ from
-  pub high : from ≤ end
-  pub left : eachComponent room store made place end limit ≡ refusalOf (each (componentR room store made limit) inComponent i (items room end place from))
+pub record Composed (room store : Seq ℕ) (made place end limit i : ℕ) (w : Items) : Type 0 where
+  pub low : i ≤ w .at
+  pub high : w .at ≤ made
+  pub within : w .end ≤ made
+  pub most : made ≤ 65000
+  pub left : eachComponent room store made place end limit ≡ refusalOf (each (componentR room store made limit) inComponent i (toCome room w))
 
 module _ (room store : Seq ℕ) (made place end limit : ℕ) where
-  pub comps-start : Composed room store made place end limit 0 0
-  comps-start = record { low = omega arith; high = omega arith; left = refl }
+  pub comps-start : (w : Items) → w ≡ itemsFrom place 0 end → Rooms room made → end ≤ made → Composed room store made place end limit 0 w
+  comps-start w e r l = rw e (record { low = omega arith; high = omega arith; within = l; most = r .low; left = refl })
 
-  module _ (i from : ℕ) (k : Composed room store made place end limit i from) where
-    pub comps-fits : Rooms room made → end ≤ made → Fits w64 (i + 1)
-    comps-fits r l = record { fits = omega (arith, r .low, k .low, k .high) }
+  module _ (i : ℕ) (w : Items) (k : Composed room store made place end limit i w) where
+    pub comps-fits : Fits w64 (i + 1)
+    comps-fits = record { fits = omega (arith, k .most, k .low, k .high) }
 
-    module _ (r : Refusal) where
-      pub comps-end : end ≤ from → r ≡ told 0 0 0 → r ≡ eachComponent room store made place end limit
-      comps-end l e = e ∙ sym (rw (items-past room end place from l) at (k .left))
+    module _ (step : Item) (h : Gives room w step) where
+      pub comps-end : (r : Refusal) → step ≡ given.End → r ≡ refusalAt 0 0 0 → r ≡ eachComponent room store made place end limit
+      comps-end r g e = e ∙ sym (rw (item-ended room w step h g) at (k .left))
 
-      module _ (found : Found) (h : Finds from end (child room end place from) found) where
-        pub comps-none : found ≡ Nothing → r ≡ told 0 0 0 → r ≡ eachComponent room store made place end limit
-        comps-none g e = e ∙ sym (rw (items-end room end place from found h g) at (k .left))
+      module _ (n : ℕ) (rest : Items) (g : step ≡ given.At n rest) (c : ComponentRead) (e : c ≡ componentAt room store made n limit) where
+        next : Given room w n rest
+        next = item-given room w step h n rest g
 
-        pub comps-not : (n : ℕ) (c : ComponentRead) → found ≡ At n → c ≡ componentAt room store made n limit → (c .fault ≡ 0 → ⊥)
-            → r ≡ told 4 (c .fault) i → r ≡ eachComponent room store made place end limit
-        comps-not n c g e f t =
+        pub comps-not : (r : Refusal) → (c .fault ≡ 0 → ⊥) → r ≡ refusalAt 4 (c .fault) i → r ≡ eachComponent room store made place end limit
+        comps-not r f t =
             let q : asR (c .fault) (c .component) ≡ bad (c .fault) = wrong (c .fault) (c .component) f in
             let p : componentR room store made limit n ≡ bad (c .fault) = rw (← e) q in
             t
-            ∙ sym (each-wrong (componentR room store made limit) inComponent i n (items room end place (n + 1)) (c .fault) p)
-            ∙ sym (rw (items-step room end place from n found h g) at (k .left))
+            ∙ sym (each-wrong (componentR room store made limit) inComponent i n (toCome room rest) (c .fault) p)
+            ∙ sym (rw (next .come) at (k .left))
 
-    pub comps-on : (n : ℕ) (found : Found) (c : ComponentRead) → Finds from end (child room end place from) found → found ≡ At n
-        → c ≡ componentAt room store made n limit → c .fault ≡ 0 → Composed room store made place end limit (i + 1) (n + 1)
-    comps-on n found c h g e f =
-        let q : asR (c .fault) (c .component) ≡ ok (c .component) = good (c .fault) (c .component) f in
-        let p : componentR room store made limit n ≡ ok (c .component) = rw (← e) q in
-        record {
-          low = omega (arith, k .low, behind room end place from n found h g);
-          high = omega (arith, below room end place from n found h g);
-          left = rw (items-step room end place from n found h g) at (k .left)
-              ∙ each-good (componentR room store made limit) inComponent i n (items room end place (n + 1)) (c .component) p;
-        }
+        pub comps-on : c .fault ≡ 0 → Composed room store made place end limit (i + 1) rest
+        comps-on f =
+            let q : asR (c .fault) (c .component) ≡ ok (c .component) = good (c .fault) (c .component) f in
+            let p : componentR room store made limit n ≡ ok (c .component) = rw (← e) q in
+            record {
+              low = omega (arith, k .low, next .on);
+              high = omega (arith, next .within, k .within);
+              within = omega (arith, next .end, k .within);
+              most = k .most;
+              left = rw (next .come) at (k .left)
+                  ∙ each-good (componentR room store made limit) inComponent i n (toCome room rest) (c .component) p;
+            }
 
 -- ---- all partitions
 
@@ -247,72 +243,70 @@ module _ {X : Type 0} where
   fronted qs x (accepted ys) = rw append-assoc
   fronted qs x (refused f s p) = refl
 
-pub record Filled (room store : Seq ℕ) (made place end : ℕ) (xs : Seq Partition) (i from : ℕ) : Type 0 where
-  pub high : from ≤ end
+pub record Filled (room store : Seq ℕ) (made place end : ℕ) (xs : Seq Partition) (i : ℕ) (w : Items) : Type 0 where
+  pub within : w .end ≤ made
   pub size : length xs ≡ 32
-  pub few : i + length (items room end place from) ≤ 32
+  pub few : i + length (toCome room w) ≤ 32
   pub rest : drop i xs ≡ replicate (32 - i) blank
   pub left : eachPartition room store made place end
-      ≡ after (each (partitionR room store made) inPartition i (items room end place from)) (λ ys. accepted (take i xs ++ ys))
+      ≡ after (each (partitionR room store made) inPartition i (toCome room w)) (λ ys. accepted (take i xs ++ ys))
 
 module _ (room store : Seq ℕ) (made place end : ℕ) where
-  pub parts-start : (xs : Seq Partition) → Few room made place end → xs ≡ replicate 32 blank → Filled room store made place end xs 0 0
-  parts-start xs h e =
+  pub parts-start : (xs : Seq Partition) (w : Items) → Few room made place end → xs ≡ replicate 32 blank → w ≡ itemsFrom place 0 end
+      → Filled room store made place end xs 0 w
+  parts-start xs w h e d =
+      rw d (
       record {
-        high = omega arith;
+        within = h .within;
         size = ap length e;
         few = omega (arith, h .few);
         rest = e;
         left = bare (eachPartition room store made place end);
       }
+      )
 
-  module _ (xs : Seq Partition) (i from : ℕ) (k : Filled room store made place end xs i from) where
+  module _ (xs : Seq Partition) (i : ℕ) (w : Items) (k : Filled room store made place end xs i w) (step : Item) (h : Gives room w step) where
     -- no item is left
-    module _ (t : Refusal) (e : t ≡ told 0 0 0) where
-      parts-done : items room end place from ≡ [] → Partitioned (eachPartition room store made place end) (record { fault = t; count = i; items = xs })
-      parts-done g =
-          let a : eachPartition room store made place end ≡ accepted (take i xs ++ []) = rw g at (k .left) in
-          let b : eachPartition room store made place end ≡ accepted (take i xs) = rw append-nil at a in
-          let n : length (take i xs) ≡ i = length-take-le i xs (omega (arith, k .size, k .few)) in
-          let w : xs ≡ take i xs ++ replicate (32 - i) blank = sym (take-append-drop i xs) ∙ ap (λ (ys : Seq Partition). take i xs ++ ys) (k .rest) in
-          rw (b, n) (e, refl, omega (arith, k .few), w)
+    pub parts-end : (t : Refusal) → t ≡ refusalAt 0 0 0 → step ≡ given.End
+        → Partitioned (eachPartition room store made place end) (record { fault = t; count = i; items = xs })
+    parts-end t e g =
+        let a : eachPartition room store made place end ≡ accepted (take i xs ++ []) = rw (item-ended room w step h g) at (k .left) in
+        let b : eachPartition room store made place end ≡ accepted (take i xs) = rw append-nil at a in
+        let n : length (take i xs) ≡ i = length-take-le i xs (omega (arith, k .size, k .few)) in
+        let u : xs ≡ take i xs ++ replicate (32 - i) blank = sym (take-append-drop i xs) ∙ ap (λ (ys : Seq Partition). take i xs ++ ys) (k .rest) in
+        rw (b, n) (e, refl, omega (arith, k .few), u)
 
-      pub parts-end : end ≤ from → Partitioned (eachPartition room store made place end) (record { fault = t; count = i; items = xs })
-      parts-end l = parts-done (items-past room end place from l)
+    module _ (n : ℕ) (rest : Items) (g : step ≡ given.At n rest) where
+      more : toCome room w ≡ n ∷ toCome room rest
+      more = item-given room w step h n rest g .come
 
-      pub parts-none : (found : Found) → Finds from end (child room end place from) found → found ≡ Nothing
-          → Partitioned (eachPartition room store made place end) (record { fault = t; count = i; items = xs })
-      parts-none found h g = parts-done (items-end room end place from found h g)
-
-    module _ (n : ℕ) (found : Found) (h : Finds from end (child room end place from) found) (g : found ≡ At n) where
       pub parts-room : i < 32
-      parts-room = omega (arith, k .few, ap length (items-step room end place from n found h g))
+      parts-room = omega (arith, k .few, ap length more)
 
       module _ (p : PartitionRead) (e : p ≡ partitionAt room store made n) where
-        pub parts-not : (r : Partitions) → (p .fault ≡ 0 → ⊥) → r .fault ≡ told 3 (p .fault) i → Partitioned (eachPartition room store made place end) r
+        pub parts-not : (r : Partitions) → (p .fault ≡ 0 → ⊥) → r .fault ≡ refusalAt 3 (p .fault) i → Partitioned (eachPartition room store made place end) r
         parts-not r f t =
             let q : asR (p .fault) (p .partition) ≡ bad (p .fault) = wrong (p .fault) (p .partition) f in
             let b : partitionR room store made n ≡ bad (p .fault) = rw (← e) q in
             let a : eachPartition room store made place end ≡ refused (numbered (p .fault)) 3 i
-            = rw (items-step room end place from n found h g, b) at (k .left) in
+            = rw (more, b) at (k .left) in
             rw a t
 
-        pub parts-on : p .fault ≡ 0 → Filled room store made place end (set xs i (p .partition)) (i + 1) (n + 1)
+        pub parts-on : p .fault ≡ 0 → Filled room store made place end (set xs i (p .partition)) (i + 1) rest
         parts-on f =
             let q : asR (p .fault) (p .partition) ≡ ok (p .partition) = good (p .fault) (p .partition) f in
             let b : partitionR room store made n ≡ ok (p .partition) = rw (← e) q in
-            let s = items-step room end place from n found h g in
             let d : 32 - i ≡ suc (32 - (i + 1)) = omega (arith, parts-room) in
-            let w : drop i xs ≡ replicate (suc (32 - (i + 1))) blank = rw d at (k .rest) in
+            let v : drop i xs ≡ replicate (suc (32 - (i + 1))) blank = rw d at (k .rest) in
             let l : i < length xs = omega (arith, parts-room, k .size) in
             let u : take (i + 1) (set xs i (p .partition)) ≡ take i xs ++ (p .partition ∷ []) = rw add-one (take-suc-set xs i (p .partition) l) in
             record {
-              high = omega (arith, below room end place from n found h g);
+              within = omega (arith, item-given room w step h n rest g .end, k .within);
               size = length-set xs i (p .partition) ∙ k .size;
-              few = omega (arith, k .few, ap length s);
-              rest = drop-set-lt (i + 1) xs i (p .partition) (omega arith) ∙ sym (drop-drop 1 i xs) ∙ ap (drop 1) w;
-              left = rw (s, b) at (k .left)
-                  ∙ fronted (take i xs) (p .partition) (each (partitionR room store made) inPartition (i + 1) (items room end place (n + 1)))
+              few = omega (arith, k .few, ap length more);
+              rest = drop-set-lt (i + 1) xs i (p .partition) (omega arith) ∙ sym (drop-drop 1 i xs) ∙ ap (drop 1) v;
+              left = rw (more, b) at (k .left)
+                  ∙ fronted (take i xs) (p .partition) (each (partitionR room store made) inPartition (i + 1) (toCome room rest))
                   ∙ rw u;
             }
 
@@ -323,7 +317,7 @@ module _ (room store : Seq ℕ) (made n : ℕ) (l : List) (h : Counts room (l .e
   counted = items-count room (l .end) (l .place) ∙ sym (h .is)
 
   module _ (most limit : ℕ) (r : Refusal) where
-    pub comps-many : most < n → r ≡ told 4 25 most → r ≡ components room store made l most limit
+    pub comps-many : most < n → r ≡ refusalAt 4 25 most → r ≡ components room store made l most limit
     unfolding listed
     comps-many g e = rw (counted, lt-ltb most n g) e
 
@@ -335,7 +329,7 @@ module _ (room store : Seq ℕ) (made n : ℕ) (l : List) (h : Counts room (l .e
   parts-few limit a k g = record { rooms = a .rooms; within = a .end; few = omega (arith, counted) }
 
   module _ (limit : ℕ) (r : Partitions) where
-    pub parts-many : limit < n → r .fault ≡ told 3 25 limit → Partitioned (partitions room store made l limit) r
+    pub parts-many : limit < n → r .fault ≡ refusalAt 3 25 limit → Partitioned (partitions room store made l limit) r
     unfolding listed
     parts-many g e = rw (counted, lt-ltb limit n g) e
 
@@ -345,83 +339,106 @@ module _ (room store : Seq ℕ) (made n : ℕ) (l : List) (h : Counts room (l .e
 
 -- ---- keys in byte order
 
-module _ (room store : Seq ℕ) (end place : ℕ) where
-  walk-none : (k : ℕ) (after : Found) → next (slotAt room) store end place after ≡ Nothing → walk room store end place k after ≡ []
-  walk-none zero after e = refl
-  walk-none (suc k) after e = rw e
+-- what a walk has still to give, at most k of them, by what a step says
+module _ (room store : Seq ℕ) (place end : ℕ) (w : Keys) (o : Over room place end w) (step : Key) (h : KeyGives room store w step) where
+  pub walk-ended : (k : ℕ) → step ≡ keyed.End → walk room store end place k (w .after) ≡ []
+  walk-ended zero e = refl
+  walk-ended (suc k) e = rw (key-ended room store place end w o step h e)
 
-  walk-on : (k : ℕ) (after : Found) (n : ℕ) → next (slotAt room) store end place after ≡ At n
-      → walk room store end place (suc k) after ≡ n ∷ walk room store end place k (At n)
-  walk-on k after n e = rw e
+  pub walk-given : (k n : ℕ) (rest : Keys) → step ≡ keyed.At n rest
+      → walk room store end place (suc k) (w .after) ≡ n ∷ walk room store end place k (rest .after)
+  walk-given k n rest e = let g = key-given room store place end w o step h n rest e in rw (g .next, g .after)
 
-pub record Counted (room store : Seq ℕ) (end place most : ℕ) (after : Found) (n : ℕ) : Type 0 where
+-- a walk is over the keys that it is over
+over-itself : (room : Seq ℕ) (place end : ℕ) (w : Keys) → Over room place end w → Over room (w .place) (w .end) w
+over-itself room place end w o = record { ready = o .ready; place = refl; end = refl }
+
+-- n keys are counted
+pub record Counted (room store : Seq ℕ) (place end most : ℕ) (w : Keys) (n : ℕ) : Type 0 where
+  pub over : Over room place end w
   pub high : n ≤ most + 1
-  pub left : length (walk room store end place (most + 1) Nothing) ≡ n + length (walk room store end place (most + 1 - n) after)
+  pub left : length (walk room store end place (most + 1) Nothing) ≡ n + length (walk room store end place (most + 1 - n) (w .after))
 
-module _ (room store : Seq ℕ) (end place most : ℕ) where
-  pub count-start : Counted room store end place most Nothing 0
-  count-start =
+module _ (room store : Seq ℕ) (place end most : ℕ) (w : Keys) where
+  pub count-start : Begins room place end Nothing w → Counted room store (w .place) (w .end) most w 0
+  count-start b =
       let d : most + 1 - 0 ≡ most + 1 = omega arith in
-      record { high = omega arith; left = rw d (omega arith) }
+      record { over = over-itself room place end w (b .over); high = omega arith; left = rw (d, b .after) (omega arith) }
 
-  module _ (after : Found) (n : ℕ) (k : Counted room store end place most after n) where
-    pub count-on : (m : ℕ) (found : Found) → n ≤ most → Finds 0 end (next (slotAt room) store end place after) found → found ≡ At m
-        → Counted room store end place most (At m) (n + 1)
-    count-on m found l h e =
+  module _ (n : ℕ) (k : Counted room store place end most w n) where
+    pub count-on : (m : ℕ) (rest : Keys) (step : Key) → n ≤ most → KeyGives room store w step → step ≡ keyed.At m rest
+        → Counted room store place end most rest (n + 1)
+    count-on m rest step l h e =
         let d : most + 1 - n ≡ suc (most + 1 - (n + 1)) = omega arith in
-        let w : walk room store end place (most + 1 - n) after ≡ m ∷ walk room store end place (most + 1 - (n + 1)) (At m)
-        = rw d (walk-on room store end place (most + 1 - (n + 1)) after m (sym (h .is) ∙ e)) in
-        record { high = omega arith; left = omega (arith, k .left, ap length w) }
+        let v : walk room store end place (most + 1 - n) (w .after) ≡ m ∷ walk room store end place (most + 1 - (n + 1)) (rest .after)
+        = rw d (walk-given room store place end w (k .over) step h (most + 1 - (n + 1)) m rest e) in
+        record {
+          over = key-given room store place end w (k .over) step h m rest e .over;
+          high = omega arith;
+          left = omega (arith, k .left, ap length v);
+        }
 
-module _ (room store : Seq ℕ) (l : List) (most : ℕ) (after : Found) (n : ℕ) (k : Counted room store (l .end) (l .place) most after n) where
-  pub count-none : (found : Found) → Finds 0 (l .end) (next (slotAt room) store (l .end) (l .place) after) found → found ≡ Nothing → Keyed room store l most n
-  count-none found h e =
-      let w : walk room store (l .end) (l .place) (most + 1 - n) after ≡ []
-      = walk-none room store (l .end) (l .place) (most + 1 - n) after (sym (h .is) ∙ e) in
-      record { is = omega (arith, k .left, ap length w); fits = k .high }
+module _ (room store : Seq ℕ) (l : List) (v : Keys) (b : Begins room (l .place) (l .end) Nothing v)
+    (most : ℕ) (w : Keys) (n : ℕ) (c : Counted room store (v .place) (v .end) most w n) where
+  counted-keys : Counted room store (l .place) (l .end) most w n
+  counted-keys = rw (b .over .place, b .over .end) at c
+
+  pub count-none : (step : Key) → KeyGives room store w step → step ≡ keyed.End → Keyed room store l most n
+  count-none step h e =
+      let u : walk room store (l .end) (l .place) (most + 1 - n) (w .after) ≡ []
+      = walk-ended room store (l .place) (l .end) w (counted-keys .over) step h (most + 1 - n) e in
+      record { is = omega (arith, counted-keys .left, ap length u); fits = counted-keys .high }
 
   pub count-full : most < n → Keyed room store l most n
   count-full g =
       let d : most + 1 - n ≡ 0 = omega arith in
-      let w : walk room store (l .end) (l .place) (most + 1 - n) after ≡ [] = rw d in
-      record { is = omega (arith, k .left, ap length w); fits = k .high }
+      let u : walk room store (l .end) (l .place) (most + 1 - n) (w .after) ≡ [] = rw d in
+      record { is = omega (arith, counted-keys .left, ap length u); fits = counted-keys .high }
 
 -- ---- one key by its number
 
-pub record Nearing (room store : Seq ℕ) (end place i : ℕ) (after : Found) (left : ℕ) : Type 0 where
-  pub is : nthOf (walk room store end place (i + 1) Nothing) i ≡ nthOf (walk room store end place (left + 1) after) left
+pub record Nearing (room store : Seq ℕ) (place end i : ℕ) (w : Keys) (left : ℕ) : Type 0 where
+  pub over : Over room place end w
+  pub is : nthOf (walk room store end place (i + 1) Nothing) i ≡ nthOf (walk room store end place (left + 1) (w .after)) left
 
-pub nth-start : (room store : Seq ℕ) (end place i : ℕ) → Nearing room store end place i Nothing i
-nth-start room store end place i = record { is = refl }
+pub nth-start : (room store : Seq ℕ) (place end i : ℕ) (w : Keys) → Begins room place end Nothing w
+    → Nearing room store (w .place) (w .end) i w i
+nth-start room store place end i w b = record { over = over-itself room place end w (b .over); is = rw (b .after) }
 
-module _ (room store : Seq ℕ) (end place i : ℕ) (after : Found) (left : ℕ) (k : Nearing room store end place i after left)
-    (m : ℕ) (found : Found) (h : Finds 0 end (next (slotAt room) store end place after) found) (e : found ≡ At m) where
-  onward-is : nthOf (walk room store end place (i + 1) Nothing) i ≡ nthOf (m ∷ walk room store end place left (At m)) left
+module _ (room store : Seq ℕ) (place end i : ℕ) (w : Keys) (left : ℕ) (k : Nearing room store place end i w left)
+    (step : Key) (h : KeyGives room store w step) (m : ℕ) (rest : Keys) (e : step ≡ keyed.At m rest) where
+  onward-is : nthOf (walk room store end place (i + 1) Nothing) i ≡ nthOf (m ∷ walk room store end place left (rest .after)) left
   onward-is =
-      let w : walk room store end place (left + 1) after ≡ m ∷ walk room store end place left (At m)
-      = rw (add-one left) (walk-on room store end place left after m (sym (h .is) ∙ e)) in
-      rw w at (k .is)
+      let v : walk room store end place (left + 1) (w .after) ≡ m ∷ walk room store end place left (rest .after)
+      = rw (add-one left) (walk-given room store place end w (k .over) step h left m rest e) in
+      rw v at (k .is)
 
-  pub nth-on : (left ≡ 0 → ⊥) → Nearing room store end place i (At m) (left - 1)
+  pub nth-on : (left ≡ 0 → ⊥) → Nearing room store place end i rest (left - 1)
   nth-on f =
       let d : left ≡ suc (left - 1) = omega arith in
       let z : left - 1 + 1 ≡ left = omega arith in
-      record { is = rw z (onward-is ∙ ap (λ (j : ℕ). nthOf (m ∷ walk room store end place left (At m)) j) d) }
-
-module _ (room store : Seq ℕ) (l : List) (i : ℕ) (after : Found) (left : ℕ) (k : Nearing room store (l .end) (l .place) i after left)
-    (found : Found) (h : Finds 0 (l .end) (next (slotAt room) store (l .end) (l .place) after) found) where
-  pub nth-none : found ≡ Nothing → Finds 0 (l .end) (nthKey room store l i) Nothing
-  nth-none e =
-      let w : walk room store (l .end) (l .place) (left + 1) after ≡ []
-      = walk-none room store (l .end) (l .place) (left + 1) after (sym (h .is) ∙ e) in
-      record { is = sym (rw w at (k .is)); from = tt; below = tt }
-
-  pub nth-hit : (m : ℕ) → found ≡ At m → left ≡ 0 → Finds 0 (l .end) (nthKey room store l i) (At m)
-  nth-hit m e z =
       record {
-        is = sym (rw z at (onward-is room store (l .end) (l .place) i after left k m found h e));
+        over = key-given room store place end w (k .over) step h m rest e .over;
+        is = rw z (onward-is ∙ ap (λ (j : ℕ). nthOf (m ∷ walk room store end place left (rest .after)) j) d);
+      }
+
+module _ (room store : Seq ℕ) (l : List) (v : Keys) (b : Begins room (l .place) (l .end) Nothing v)
+    (i : ℕ) (w : Keys) (left : ℕ) (c : Nearing room store (v .place) (v .end) i w left) (step : Key) (h : KeyGives room store w step) where
+  nearing-key : Nearing room store (l .place) (l .end) i w left
+  nearing-key = rw (b .over .place, b .over .end) at c
+
+  pub nth-none : step ≡ keyed.End → Finds 0 (l .end) (nthKey room store l i) Nothing
+  nth-none e =
+      let u : walk room store (l .end) (l .place) (left + 1) (w .after) ≡ []
+      = walk-ended room store (l .place) (l .end) w (nearing-key .over) step h (left + 1) e in
+      record { is = sym (rw u at (nearing-key .is)); from = tt; below = tt }
+
+  pub nth-hit : (m : ℕ) (rest : Keys) → step ≡ keyed.At m rest → left ≡ 0 → Finds 0 (l .end) (nthKey room store l i) (At m)
+  nth-hit m rest e z =
+      record {
+        is = sym (rw z at (onward-is room store (l .place) (l .end) i w left nearing-key step h m rest e));
         from = omega arith;
-        below = found-below found (l .end) m (h .below) e;
+        below = key-given room store (l .place) (l .end) w (nearing-key .over) step h m rest e .below;
       }
 
 -- ---- all applications
@@ -431,13 +448,13 @@ earlier-both a b c = on (eqb (a .number) 0) (λ e. rw e) (λ e. rw (e, e))
 
 -- a refusal that says nothing else where it is none
 abbrev Plain : Refusal → Type 0
-Plain a = earlier a (told 0 0 0) ≡ a
+Plain a = earlier a (refusalAt 0 0 0) ≡ a
 
 module _ (room store : Seq ℕ) (made limit i n : ℕ) where
   fault-plain : Plain (applicationFault room store made limit i n)
   fault-plain = let f = applicationAt room store made n limit .fault in on (eqb f 0) (λ e. rw e) (λ e. rw (e, e))
 
-  -- the first entry before those behind it
+  -- the first entry before those after it
   each-fault : (ns : Seq ℕ)
       → refusalOf (each (applicationR room store made limit) inApplication i (n ∷ ns))
       ≡ earlier (applicationFault room store made limit i n) (refusalOf (each (applicationR room store made limit) inApplication (i + 1) ns))
@@ -452,58 +469,58 @@ module _ (room store : Seq ℕ) (made limit i n : ℕ) where
     fault-so-far f = rw (ne-eqb (fault .number) 0 f)
 
     module _ (r : Refusal) (z : fault .number ≡ 0) (a : ApplicationRead) (g : a ≡ applicationAt room store made n limit) where
-      pub fault-here : (a .fault ≡ 0 → ⊥) → r ≡ told 5 (a .fault) i → r ≡ earlier fault (applicationFault room store made limit i n)
+      pub fault-here : (a .fault ≡ 0 → ⊥) → r ≡ refusalAt 5 (a .fault) i → r ≡ earlier fault (applicationFault room store made limit i n)
       fault-here f e = rw (z, ← g, ne-eqb (a .fault) 0 f) e
 
-      pub fault-none : a .fault ≡ 0 → r ≡ told 0 0 0 → r ≡ earlier fault (applicationFault room store made limit i n)
+      pub fault-none : a .fault ≡ 0 → r ≡ refusalAt 0 0 0 → r ≡ earlier fault (applicationFault room store made limit i n)
       fault-none f e = rw (z, ← g, f) e
 
-pub record Walking (room store : Seq ℕ) (made most limit end place : ℕ) (after : Found) (fault : Refusal) (i : ℕ) : Type 0 where
-  pub count : Counted room store end place most after i
+pub record Walking (room store : Seq ℕ) (made most limit place end : ℕ) (w : Keys) (fault : Refusal) (i : ℕ) : Type 0 where
+  pub count : Counted room store place end most w i
   pub plain : Plain fault
   pub left : refusalOf (each (applicationR room store made limit) inApplication 0 (walk room store end place (most + 1) Nothing))
-      ≡ earlier fault (refusalOf (each (applicationR room store made limit) inApplication i (walk room store end place (most + 1 - i) after)))
+      ≡ earlier fault (refusalOf (each (applicationR room store made limit) inApplication i (walk room store end place (most + 1 - i) (w .after))))
 
-module _ (room store : Seq ℕ) (made most limit end place : ℕ) where
-  pub apps-start : (fault : Refusal) → fault ≡ told 0 0 0 → Walking room store made most limit end place Nothing fault 0
-  apps-start fault e =
+module _ (room store : Seq ℕ) (made most limit place end : ℕ) (w : Keys) (fault : Refusal) where
+  pub apps-start : Begins room place end Nothing w → fault ≡ refusalAt 0 0 0 → Walking room store made most limit (w .place) (w .end) w fault 0
+  apps-start b e =
       let d : most + 1 - 0 ≡ most + 1 = omega arith in
-      record { count = count-start room store end place most; plain = rw e; left = rw (d, e) }
+      record { count = count-start room store place end most w b; plain = rw e; left = rw (d, e, b .after) }
 
-  module _ (after : Found) (fault : Refusal) (i : ℕ) (k : Walking room store made most limit end place after fault i) (l : i ≤ most)
-      (found : Found) (h : Finds 0 end (next (slotAt room) store end place after) found) (m : ℕ) (g : found ≡ At m) where
-    pub key-stood : Rooms room made → end ≤ made → Stood room m
-    key-stood r b =
-        let c : m < end = found-below found end m (h .below) g in
-        record { fits = record { fits = omega (arith, r .fits .fits) }; low = omega (arith, r .low) }
-
-    pub apps-on : (r : Refusal) → r ≡ earlier fault (applicationFault room store made limit i m) → Walking room store made most limit end place (At m) r (i + 1)
+  module _ (i : ℕ) (k : Walking room store made most limit place end w fault i) (l : i ≤ most)
+      (step : Key) (h : KeyGives room store w step) (m : ℕ) (rest : Keys) (g : step ≡ keyed.At m rest) where
+    pub apps-on : (r : Refusal) → r ≡ earlier fault (applicationFault room store made limit i m) → Walking room store made most limit place end rest r (i + 1)
     apps-on r e =
         let d : most + 1 - i ≡ suc (most + 1 - (i + 1)) = omega arith in
-        let w : walk room store end place (most + 1 - i) after ≡ m ∷ walk room store end place (most + 1 - (i + 1)) (At m)
-        = rw d (walk-on room store end place (most + 1 - (i + 1)) after m (sym (h .is) ∙ g)) in
-        let ns = walk room store end place (most + 1 - (i + 1)) (At m) in
+        let v : walk room store end place (most + 1 - i) (w .after) ≡ m ∷ walk room store end place (most + 1 - (i + 1)) (rest .after)
+        = rw d (walk-given room store place end w (k .count .over) step h (most + 1 - (i + 1)) m rest g) in
+        let ns = walk room store end place (most + 1 - (i + 1)) (rest .after) in
         let here = applicationFault room store made limit i m in
-        let rest = refusalOf (each (applicationR room store made limit) inApplication (i + 1) ns) in
+        let late = refusalOf (each (applicationR room store made limit) inApplication (i + 1) ns) in
         record {
-          count = count-on room store end place most after i (k .count) m found l h g;
-          plain = rw e (sym (earlier-both fault here (told 0 0 0)) ∙ ap (earlier fault) (fault-plain room store made limit i m));
-          left = rw e (rw w at (k .left) ∙ ap (earlier fault) (each-fault room store made limit i m ns) ∙ earlier-both fault here rest);
+          count = count-on room store place end most w i (k .count) m rest step l h g;
+          plain = rw e (sym (earlier-both fault here (refusalAt 0 0 0)) ∙ ap (earlier fault) (fault-plain room store made limit i m));
+          left = rw e (rw v at (k .left) ∙ ap (earlier fault) (each-fault room store made limit i m ns) ∙ earlier-both fault here late);
         }
 
-module _ (room store : Seq ℕ) (made most limit : ℕ) (l : List) (after : Found) (fault : Refusal) (i : ℕ)
-    (k : Walking room store made most limit (l .end) (l .place) after fault i) where
-  pub apps-none : (found : Found) → i ≤ most → Finds 0 (l .end) (next (slotAt room) store (l .end) (l .place) after) found → found ≡ Nothing
-      → fault ≡ applications room store made l most limit
-  unfolding listed
-  apps-none found b h g =
-      let n : Keyed room store l most i = count-none room store l most after i (k .count) found h g in
-      let w : walk room store (l .end) (l .place) (most + 1 - i) after ≡ []
-      = walk-none room store (l .end) (l .place) (most + 1 - i) after (sym (h .is) ∙ g) in
-      rw (← n .is, le-ltb most i b) (sym (k .plain) ∙ sym (rw w at (k .left)))
+module _ (room store : Seq ℕ) (made : ℕ) (l : List) (v : Keys) (b : Begins room (l .place) (l .end) Nothing v)
+    (most limit : ℕ) (w : Keys) (fault : Refusal) (i : ℕ) (c : Walking room store made most limit (v .place) (v .end) w fault i) where
+  walked-keys : Walking room store made most limit (l .place) (l .end) w fault i
+  walked-keys = rw (b .over .place, b .over .end) at c
 
-  pub apps-many : (r : Refusal) → most < i → r ≡ told 5 25 most → r ≡ applications room store made l most limit
+  pub apps-stood : (step : Key) (m : ℕ) (rest : Keys) → Among room made l → KeyGives room store w step → step ≡ keyed.At m rest → Stood room m
+  apps-stood step m rest a h g = key-stands room store (l .place) (l .end) w (walked-keys .count .over) step h m rest g made (a .rooms) (a .end)
+
+  pub apps-none : (step : Key) → i ≤ most → KeyGives room store w step → step ≡ keyed.End → fault ≡ applications room store made l most limit
   unfolding listed
-  apps-many r b e =
-      let n : Keyed room store l most i = count-full room store l most after i (k .count) b in
-      rw (← n .is, lt-ltb most i b) e
+  apps-none step a h g =
+      let n : Keyed room store l most i = count-none room store l v b most w i (c .count) step h g in
+      let u : walk room store (l .end) (l .place) (most + 1 - i) (w .after) ≡ []
+      = walk-ended room store (l .place) (l .end) w (walked-keys .count .over) step h (most + 1 - i) g in
+      rw (← n .is, le-ltb most i a) (sym (walked-keys .plain) ∙ sym (rw u at (walked-keys .left)))
+
+  pub apps-many : (r : Refusal) → most < i → r ≡ refusalAt 5 25 most → r ≡ applications room store made l most limit
+  unfolding listed
+  apps-many r a e =
+      let n : Keyed room store l most i = count-full room store l v b most w i (c .count) a in
+      rw (← n .is, lt-ltb most i a) e

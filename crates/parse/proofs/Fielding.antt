@@ -20,7 +20,7 @@ use Rattle.schema.specs.Texts.{clip}
 use Rattle.parse.specs.declared.field.TextRead.{TextRead}
 use Rattle.parse.specs.declared.field.NumberRead.{NumberRead}
 use Rattle.parse.specs.declared.field.FlagRead.{FlagRead}
-use Rattle.parse.specs.Fields.{first, missing, textRead, numberRead, flagRead, noNumber, ranged, kindOf, mediaOf, textAt, numberAt, flagAt, textNeeded, numberNeeded}
+use Rattle.parse.specs.Fields.{firstFault, missing, textRead, numberRead, flagRead, noNumber, ranged, kindOf, mediaOf, textAt, numberAt, flagAt, textNeeded, numberNeeded}
 
 -- ---- an integer's range
 module _ (negative : Bool) (magnitude : ℕ) where
@@ -60,10 +60,10 @@ module _ (room store : List ℕ) (f : Fields) (key : List ℕ) (v : Value) (e : 
   flag-at r h = h ∙ ap flagRead e
 
   module _ (m n : ℕ) (em : m ≡ missing v) where
-    pub text-needs : (t : TextRead) → t ≡ textRead v → n ≡ first (t .fault) m → record { fault = n; text = t .text } ≡ textNeeded room store f key
+    pub text-needs : (t : TextRead) → t ≡ textRead v → n ≡ firstFault (t .fault) m → record { fault = n; text = t .text } ≡ textNeeded room store f key
     text-needs t et en = rw (en, em, et, e)
 
-    pub number-needs : (t : NumberRead) → t ≡ numberRead v → n ≡ first (t .fault) m → record { fault = n; number = t .number } ≡ numberNeeded room store f key
+    pub number-needs : (t : NumberRead) → t ≡ numberRead v → n ≡ firstFault (t .fault) m → record { fault = n; number = t .number } ≡ numberNeeded room store f key
     number-needs t et en = rw (en, em, et, e)
 
 -- ---- a text that is a word of some

@@ -31,7 +31,7 @@ use Rattle.parse.specs.declared.front.ImageNames.{ImageNames}
 use Rattle.parse.specs.declared.front.ImageRead.{ImageRead}
 use Rattle.parse.specs.declared.front.ImageRest.{ImageRest}
 use Rattle.parse.specs.declared.front.Front.{Front}
-use Rattle.parse.specs.Fields.{first, textAt, numberAt, mediaAt}
+use Rattle.parse.specs.Fields.{firstFault, textAt, numberAt, mediaAt}
 use Rattle.parse.specs.Refusals.{inSection, earlier}
 use Rattle.parse.specs.Front.{tableOf, tableAt, chipWord, chosen, chosenBy, sections, chipOf, boardRead, imageNames, imageRest, imageRead, frontOf, frontRead}
 
@@ -94,7 +94,7 @@ module _ (room store : List ℕ) where
   -- ---- the records
   pub board-is : (f : Fields) (chip : Chip) (lent : Text) (name target profile : TextRead) (a b : ℕ) (n t p : Text) (w : Word)
       → name ≡ textAt room store f (ascii "name") → target ≡ textAt room store f (ascii "target") → profile ≡ textAt room store f (ascii "profile")
-      → a ≡ first (target .fault) (profile .fault) → b ≡ first (name .fault) a
+      → a ≡ firstFault (target .fault) (profile .fault) → b ≡ firstFault (name .fault) a
       → n ≡ orText (name .text) lent → w ≡ targetWord chip → t ≡ orText (target .text) (texts.Fixed w) → p ≡ orText (profile .text) (texts.Fixed words.Release)
       → record { fault = b; board = record { name = n; chip = chip; target = t; profile = p } } ≡ boardRead room store f chip lent
   unfolding boardRead
@@ -102,7 +102,7 @@ module _ (room store : List ℕ) where
 
   pub names-are : (f : Fields) (chip : Chip) (platform product version : TextRead) (a b : ℕ) (x y z : Text) (w : Word)
       → platform ≡ textAt room store f (ascii "platform") → product ≡ textAt room store f (ascii "product") → version ≡ textAt room store f (ascii "version")
-      → a ≡ first (product .fault) (version .fault) → b ≡ first (platform .fault) a
+      → a ≡ firstFault (product .fault) (version .fault) → b ≡ firstFault (platform .fault) a
       → w ≡ wordOf chip → x ≡ orText (platform .text) (texts.Fixed w) → y ≡ orText (product .text) (texts.Fixed words.Unknown) → z ≡ orText (version .text) (texts.Fixed words.Version)
       → record { fault = b; platform = x; product = y; version = z } ≡ imageNames room store f chip
   unfolding imageNames
@@ -110,7 +110,7 @@ module _ (room store : List ℕ) where
 
   pub rest-is : (f : Fields) (dev : NumberRead) (id app : TextRead) (a b n : ℕ) (x y : Text)
       → dev ≡ numberAt room store f (ascii "media_dev_id") → id ≡ textAt room store f (ascii "media_id") → app ≡ textAt room store f (ascii "app")
-      → a ≡ first (id .fault) (app .fault) → b ≡ first (dev .fault) a
+      → a ≡ firstFault (id .fault) (app .fault) → b ≡ firstFault (dev .fault) a
       → n ≡ orNumber (dev .number) 0 → x ≡ orText (id .text) (texts.Stored 0 0) → y ≡ orText (app .text) (texts.Stored 0 0)
       → record { fault = b; «media_dev_id» = n; «media_id» = x; app = y } ≡ imageRest room store f
   unfolding imageRest
@@ -118,7 +118,7 @@ module _ (room store : List ℕ) where
 
   pub image-is : (f : Fields) (chip : Chip) (names : ImageNames) (d : Media) (kept : MediaRead) (rest : ImageRest) (a b : ℕ)
       → names ≡ imageNames room store f chip → kept ≡ mediaAt room store f d → d ≡ mediaChoice chip → rest ≡ imageRest room store f
-      → b ≡ first (names .fault) a → a ≡ first (kept .fault) (rest .fault)
+      → b ≡ firstFault (names .fault) a → a ≡ firstFault (kept .fault) (rest .fault)
       → record {
         fault = b;
         image = record {

@@ -45,7 +45,7 @@ use Rattle.parse.specs.Refusals.{inSection, earlier}
 use Rattle.parse.specs.Fields.{mediaAt}
 use Rattle.parse.specs.Front.{tableAt, chipOf, boardRead, imageRead, frontOf, frontRead}
 use Rattle.parse.specs.Entries.{listOf, orOther, listAt, keysOf, keysAt, Among, Partitioned, partitions, components, applications, refusalOf, partitionAt, componentAt, applicationAt, Keyed, nthKey}
-use Rattle.parse.specs.Views.{partitionList, componentList, applicationList, goodPartition, goodComponent, goodApplication, partitionOf, componentOf, applicationOf, partition, component, application, listsOf, countsOf, deviceOf, sound}
+use Rattle.parse.specs.Views.{partitionList, componentList, applicationList, goodPartition, goodComponent, goodApplication, partitionOf, componentOf, applicationOf, partition, component, application, listsOf, countsOf, deviceOf, holdsValues}
 use Rattle.parse.specs.Refused as refused
 use Rattle.parse.specs.Placed.{verdict-place}
 use Rattle.parse.specs.Refused.{lentText}
@@ -219,22 +219,22 @@ module _ (room store : Seq ℕ) (made i : ℕ) (l : List) (r : Found) where
   application-none limit el f e = ap (applicationOf room store made limit) (sym e) ∙ application-is limit el f
 
 -- ---- sound rooms
-pub sound-short : (room : Seq ℕ) (made takes : ℕ) → takes ≡ length room / 32 → takes < made → false ≡ sound room made
-unfolding sound
+pub sound-short : (room : Seq ℕ) (made takes : ℕ) → takes ≡ length room / 32 → takes < made → false ≡ holdsValues room made
+unfolding holdsValues
 sound-short room made takes e h = rw (← e, lt-ltb takes made h)
 
-pub sound-many : (room : Seq ℕ) (made takes : ℕ) → takes ≡ length room / 32 → made ≤ takes → 65000 < made → false ≡ sound room made
-unfolding sound
+pub sound-many : (room : Seq ℕ) (made takes : ℕ) → takes ≡ length room / 32 → made ≤ takes → 65000 < made → false ≡ holdsValues room made
+unfolding holdsValues
 sound-many room made takes e h l = rw (← e, le-ltb takes made h, lt-ltb 65000 made l)
 
-pub sound-well : (room : Seq ℕ) (made takes : ℕ) → takes ≡ length room / 32 → made ≤ takes → made ≤ 65000 → true ≡ sound room made
-unfolding sound
+pub sound-well : (room : Seq ℕ) (made takes : ℕ) → takes ≡ length room / 32 → made ≤ takes → made ≤ 65000 → true ≡ holdsValues room made
+unfolding holdsValues
 sound-well room made takes e h l = rw (← e, le-ltb takes made h, le-ltb 65000 made l)
 
-pub sound-rooms : (room : Seq ℕ) (made : ℕ) (b : Bool) → b ≡ sound room made → b ≡ true → Rooms room made
-unfolding sound
+pub sound-rooms : (room : Seq ℕ) (made : ℕ) (b : Bool) → b ≡ holdsValues room made → b ≡ true → Rooms room made
+unfolding holdsValues
 sound-rooms room made b e t =
-    let k : sound room made ≡ true = sym e ∙ t in
+    let k : holdsValues room made ≡ true = sym e ∙ t in
     on (ltb (length room / 32) made) (λ p. absurd (else (rw p at k)))
     (λ p. on (ltb 65000 made) (λ q. absurd (else (rw (p, q) at k)))
     (λ q. record { fits = record { fits = omega (arith, ltb-false (length room / 32) made p) }; low = ltb-false 65000 made q }))

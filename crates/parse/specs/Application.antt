@@ -12,7 +12,7 @@ use Rattle.features.specs.Pieces.{featuresRead}
 use Rattle.parse.specs.declared.application.Names.{Names}
 use Rattle.parse.specs.declared.application.Loading.{Loading}
 use Rattle.parse.specs.declared.application.ApplicationRead.{ApplicationRead}
-use Rattle.parse.specs.Fields.{first, textAt, numberAt}
+use Rattle.parse.specs.Fields.{firstFault, textAt, numberAt}
 
 module _ (room store : List ℕ) where
   unfoldable pub names : Fields → Text → Names
@@ -23,7 +23,7 @@ module _ (room store : List ℕ) where
       let attr = textAt room store f (ascii "attr") in
       let called = orText (name .text) key in
       record {
-        fault = first (name .fault) (first (partition .fault) (first (filename .fault) (attr .fault)));
+        fault = firstFault (name .fault) (firstFault (partition .fault) (firstFault (filename .fault) (attr .fault)));
         name = called;
         partition = orText (partition .text) (texts.Fixed words.App);
         filename = orText (filename .text) (aicOf called);
@@ -36,7 +36,7 @@ module _ (room store : List ℕ) where
       let address = numberAt room store f (ascii "load_address") in
       let offset = numberAt room store f (ascii "entry_offset") in
       record {
-        fault = first (list .fault) (first (address .fault) (offset .fault));
+        fault = firstFault (list .fault) (firstFault (address .fault) (offset .fault));
         features = list .features;
         «load_address» = address .number;
         «entry_offset» = offset .number;
@@ -47,7 +47,7 @@ module _ (room store : List ℕ) where
       let called = names f key in
       let how = loading made f limit in
       record {
-        fault = first (called .fault) (how .fault);
+        fault = firstFault (called .fault) (how .fault);
         application = record {
           «package» = key;
           name = called .name;

@@ -19,7 +19,7 @@ use Rattle.parse.specs.declared.component.BootRead.{BootRead}
 use Rattle.parse.specs.declared.component.LoadRead.{LoadRead}
 use Rattle.parse.specs.declared.component.ComponentRead.{ComponentRead}
 use Rattle.parse.specs.File.{fileAt}
-use Rattle.parse.specs.Fields.{first, textAt, textNeeded, numberAt, flagAt, kindAt}
+use Rattle.parse.specs.Fields.{firstFault, textAt, textNeeded, numberAt, flagAt, kindAt}
 
 -- a piece of a stored text
 abbrev pub pieceIn : ℕ → Piece → Text
@@ -43,7 +43,7 @@ module _ (room store : List ℕ) where
       let pack = textAt room store f (ascii "package") in
       let bin = textAt room store f (ascii "bin") in
       let file = textAt room store f (ascii "file") in
-      record { fault = first (pack .fault) (first (bin .fault) (file .fault)); «package» = pack .text; bin = bin .text; file = file .text }
+      record { fault = firstFault (pack .fault) (firstFault (bin .fault) (file .fault)); «package» = pack .text; bin = bin .text; file = file .text }
 
   unfoldable pub headRead : Fields → HeadRead
   headRead f =
@@ -52,7 +52,7 @@ module _ (room store : List ℕ) where
       let from = sources f in
       let filename = textAt room store f (ascii "filename") in
       record {
-        fault = first (kind .fault) (first (name .fault) (first (from .fault) (filename .fault)));
+        fault = firstFault (kind .fault) (firstFault (name .fault) (firstFault (from .fault) (filename .fault)));
         head = record {
           kind = kind .kind;
           name = name .text;
@@ -68,7 +68,7 @@ module _ (room store : List ℕ) where
       let all = featuresRead room store made limit (field room store f (ascii "features")) in
       let own = featuresRead room store made limit (field room store f (ascii "pbp_features")) in
       record {
-        fault = first (all .fault) (own .fault);
+        fault = firstFault (all .fault) (own .fault);
         features = all .features;
         «pbp_features» = pick (nil? (pieces room store made (own .features))) (all .features) (own .features);
       }
@@ -81,7 +81,7 @@ module _ (room store : List ℕ) where
       let targetAttr = textAt room store f (ascii "target_attr") in
       let targetFilename = textAt room store f (ascii "target_filename") in
       record {
-        fault = first (both .fault) (first (partition .fault) (first (attr .fault) (first (targetAttr .fault) (targetFilename .fault))));
+        fault = firstFault (both .fault) (firstFault (partition .fault) (firstFault (attr .fault) (firstFault (targetAttr .fault) (targetFilename .fault))));
         role = record {
           features = both .features;
           «pbp_features» = both .«pbp_features»;
@@ -100,7 +100,7 @@ module _ (room store : List ℕ) where
       let pbpPack = textAt room store f (ascii "pbp_package") in
       let private = textAt room store f (ascii "private") in
       record {
-        fault = first (updater .fault) (first (ram .fault) (first (pbp .fault) (first (pbpPack .fault) (private .fault))));
+        fault = firstFault (updater .fault) (firstFault (ram .fault) (firstFault (pbp .fault) (firstFault (pbpPack .fault) (private .fault))));
         boot = record { updater = updater .flag; ram = ram .number; pbp = pbp .text; «pbp_package» = pbpPack .text; private = private .text };
       }
 
@@ -113,7 +113,7 @@ module _ (room store : List ℕ) where
       let ext = flagAt room store f (ascii "with_ext") in
       let reserve = numberAt room store f (ascii "ext_reserve") in
       record {
-        fault = first (address .fault) (first (point .fault) (first (offset .fault) (first (version .fault) (first (ext .fault) (reserve .fault)))));
+        fault = firstFault (address .fault) (firstFault (point .fault) (firstFault (offset .fault) (firstFault (version .fault) (firstFault (ext .fault) (reserve .fault)))));
         load = record {
           «load_address» = address .number;
           «entry_point» = point .number;
@@ -131,6 +131,6 @@ module _ (room store : List ℕ) where
       let boot = bootRead f in
       let load = loadRead f in
       record {
-        fault = first (head .fault) (first (role .fault) (first (boot .fault) (load .fault)));
+        fault = firstFault (head .fault) (firstFault (role .fault) (firstFault (boot .fault) (load .fault)));
         component = record { head = head .head; role = role .role; boot = boot .boot; load = load .load };
       }

@@ -24,12 +24,13 @@ use Rattle.schema.specs.Texts.{startOf, lengthOf, orNumber}
 use Rattle.parse.specs.declared.Refusal.{Refusal}
 use Rattle.parse.specs.declared.front.TableRead.{TableRead}
 use Rattle.parse.specs.declared.entry.List.{List}
+use Rattle.parse.specs.declared.entry.Entry.{Entry}
 use Rattle.parse.specs.declared.entry.PartitionRead.{PartitionRead}
 use Rattle.parse.specs.declared.entry.Partitions.{Partitions}
 use Rattle.parse.specs.declared.component.ComponentRead.{ComponentRead}
 use Rattle.parse.specs.declared.application.ApplicationRead.{ApplicationRead}
-use Rattle.parse.specs.Refusals.{refusal}
-use Rattle.parse.specs.Fields.{first, textNeeded, numberNeeded}
+use Rattle.parse.specs.Refusals.{refusal, earlier}
+use Rattle.parse.specs.Fields.{firstFault, textNeeded, numberNeeded}
 use Rattle.parse.specs.Front.{noTable}
 use Rattle.parse.specs.Component.{componentRead}
 use Rattle.parse.specs.Application.{applicationRead}
@@ -96,12 +97,12 @@ abbrev pub asR : {X : Type 0} → ℕ → X → R X
 asR fault x = pick (eqb fault 0) (ok x) (bad fault)
 
 -- a refusal, 0 for none
-abbrev pub told : ℕ → ℕ → ℕ → Refusal
-told section number place = refusal number section place
+abbrev pub refusalAt : ℕ → ℕ → ℕ → Refusal
+refusalAt section number place = refusal number section place
 
 abbrev pub refusalOf : {X : Type 0} → Answer X → Refusal
-refusalOf (accepted x) = told 0 0 0
-refusalOf (refused f section place) = told section (numberOf f) place
+refusalOf (accepted x) = refusalAt 0 0 0
+refusalOf (refused f section place) = refusalAt section (numberOf f) place
 
 module _ (room store : Seq ℕ) where
   unfoldable pub partitionRead : Fields → PartitionRead
@@ -110,7 +111,7 @@ module _ (room store : Seq ℕ) where
       let offset = numberNeeded room store f (ascii "offset") in
       let size = numberNeeded room store f (ascii "size") in
       record {
-        fault = first (name .fault) (first (offset .fault) (size .fault));
+        fault = firstFault (name .fault) (firstFault (offset .fault) (size .fault));
         partition = record {
           from = startOf (name .text);
           len = lengthOf (name .text);
@@ -126,18 +127,18 @@ module _ (room store : Seq ℕ) where
 
     unfoldable pub partitionAt : ℕ → PartitionRead
     partitionAt n =
-        record { fault = first (tableAt n .fault) (partitionRead (tableAt n .fields) .fault); partition = partitionRead (tableAt n .fields) .partition }
+        record { fault = firstFault (tableAt n .fault) (partitionRead (tableAt n .fields) .fault); partition = partitionRead (tableAt n .fields) .partition }
 
     unfoldable pub componentAt : ℕ → ℕ → ComponentRead
     componentAt n limit =
         let c = componentRead room store made (tableAt n .fields) limit in
-        record { fault = first (tableAt n .fault) (c .fault); component = c .component }
+        record { fault = firstFault (tableAt n .fault) (c .fault); component = c .component }
 
     unfoldable pub applicationAt : ℕ → ℕ → ApplicationRead
     applicationAt n limit =
         let v = slotAt room n in
         let a = applicationRead room store made (tableAt n .fields) (texts.Stored (v .key) (v .len)) limit in
-        record { fault = first (tableAt n .fault) (a .fault); application = a .application }
+        record { fault = firstFault (tableAt n .fault) (a .fault); application = a .application }
 
     -- ---- all entries
 
@@ -179,7 +180,11 @@ module _ (room store : Seq ℕ) where
     -- what the application that value number n is says at place i
     abbrev pub applicationFault : ℕ → ℕ → ℕ → Refusal
     applicationFault limit i n =
-        pick (eqb (applicationAt made n limit .fault) 0) (told 0 0 0) (told inApplication (applicationAt made n limit .fault) i)
+        pick (eqb (applicationAt made n limit .fault) 0) (refusalAt 0 0 0) (refusalAt inApplication (applicationAt made n limit .fault) i)
+
+    -- the refusal so far; where there is none, an entry's
+    abbrev pub earlierFault : ℕ → Entry → Refusal → Refusal
+    earlierFault limit e fault = earlier fault (applicationFault limit (e .place) (e .value))
 
     abbrev pub applications : List → ℕ → ℕ → Refusal
     applications l most limit = refusalOf (listed (applicationR made limit) inApplication most (walk (l .end) (l .place) (most + 1) Nothing))
@@ -195,5 +200,5 @@ abbrev pub blank : Partition
 blank = record { from = 0; len = 0; offset = 0; size = 0 }
 
 abbrev pub Partitioned : Answer (Seq Partition) → Partitions → Type 0
-Partitioned (accepted ps) r = (r .fault ≡ told 0 0 0) × (r .count ≡ length ps) × (length ps ≤ 32) × (r .items ≡ ps ++ replicate (32 - length ps) blank)
-Partitioned (refused f section place) r = r .fault ≡ told section (numberOf f) place
+Partitioned (accepted ps) r = (r .fault ≡ refusalAt 0 0 0) × (r .count ≡ length ps) × (length ps ≤ 32) × (r .items ≡ ps ++ replicate (32 - length ps) blank)
+Partitioned (refused f section place) r = r .fault ≡ refusalAt section (numberOf f) place

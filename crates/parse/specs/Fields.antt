@@ -23,8 +23,8 @@ use Rattle.parse.specs.declared.field.NumberRead.{NumberRead}
 use Rattle.parse.specs.declared.field.FlagRead.{FlagRead}
 
 -- the first fault of two
-abbrev pub first : ℕ → ℕ → ℕ
-first a b = pick (eqb a 0) b a
+abbrev pub firstFault : ℕ → ℕ → ℕ
+firstFault a b = pick (eqb a 0) b a
 
 -- ---- a value of a kind
 
@@ -100,10 +100,10 @@ module _ (room store : List ℕ) (f : Fields) where
   flagAt key = flagRead (doors.field room store f key)
 
   abbrev pub textNeeded : List ℕ → TextRead
-  textNeeded key = record { fault = first (textAt key .fault) (missing (doors.field room store f key)); text = textAt key .text }
+  textNeeded key = record { fault = firstFault (textAt key .fault) (missing (doors.field room store f key)); text = textAt key .text }
 
   abbrev pub numberNeeded : List ℕ → NumberRead
-  numberNeeded key = record { fault = first (numberAt key .fault) (missing (doors.field room store f key)); number = numberAt key .number }
+  numberNeeded key = record { fault = firstFault (numberAt key .fault) (missing (doors.field room store f key)); number = numberAt key .number }
 
   abbrev pub kindAt : KindRead
   kindAt = kindOf store (textAt (ascii "kind")) (textAt (ascii "kind") .text)

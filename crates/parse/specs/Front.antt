@@ -21,7 +21,7 @@ use Rattle.parse.specs.declared.front.ImageNames.{ImageNames}
 use Rattle.parse.specs.declared.front.ImageRest.{ImageRest}
 use Rattle.parse.specs.declared.front.ImageRead.{ImageRead}
 use Rattle.parse.specs.declared.front.Front.{Front}
-use Rattle.parse.specs.Fields.{first, textAt, numberAt, mediaAt}
+use Rattle.parse.specs.Fields.{firstFault, textAt, numberAt, mediaAt}
 use Rattle.parse.specs.Refusals.{inSection, earlier}
 
 -- ---- tables of the root
@@ -79,7 +79,7 @@ module _ (room store : List ℕ) where
       let target = textAt room store f (ascii "target") in
       let profile = textAt room store f (ascii "profile") in
       record {
-        fault = first (name .fault) (first (target .fault) (profile .fault));
+        fault = firstFault (name .fault) (firstFault (target .fault) (profile .fault));
         board = record {
           name = orText (name .text) lent;
           chip = chip;
@@ -94,7 +94,7 @@ module _ (room store : List ℕ) where
       let product = textAt room store f (ascii "product") in
       let version = textAt room store f (ascii "version") in
       record {
-        fault = first (platform .fault) (first (product .fault) (version .fault));
+        fault = firstFault (platform .fault) (firstFault (product .fault) (version .fault));
         platform = orText (platform .text) (texts.Fixed (wordOf chip));
         product = orText (product .text) (texts.Fixed words.Unknown);
         version = orText (version .text) (texts.Fixed words.Version);
@@ -106,7 +106,7 @@ module _ (room store : List ℕ) where
       let id = textAt room store f (ascii "media_id") in
       let app = textAt room store f (ascii "app") in
       record {
-        fault = first (dev .fault) (first (id .fault) (app .fault));
+        fault = firstFault (dev .fault) (firstFault (id .fault) (app .fault));
         «media_dev_id» = orNumber (dev .number) 0;
         «media_id» = orText (id .text) (texts.Stored 0 0);
         app = orText (app .text) (texts.Stored 0 0);
@@ -118,7 +118,7 @@ module _ (room store : List ℕ) where
       let kept = mediaAt room store f (mediaChoice chip) in
       let rest = imageRest f in
       record {
-        fault = first (names .fault) (first (kept .fault) (rest .fault));
+        fault = firstFault (names .fault) (firstFault (kept .fault) (rest .fault));
         image = record {
           platform = names .platform;
           product = names .product;

@@ -15,32 +15,32 @@ use Rattle.schema.specs.declared.Text.{Text}
 use Rattle.schema.specs.declared.Text.the-variants as texts
 use Rattle.schema.specs.declared.Number.{Number}
 use Rattle.schema.specs.Texts.{clip, spelled, optional, orText}
-use Rattle.parse.specs.Fields.{first, textRead}
+use Rattle.parse.specs.Fields.{firstFault, textRead}
 use Rattle.parse.specs.Meant.{Got}
 
 -- ---- one reader after the other
 
-first-none : (n m : ℕ) → n ≡ 0 → first n m ≡ m
+first-none : (n m : ℕ) → n ≡ 0 → firstFault n m ≡ m
 first-none n m e = rw (eq-eqb n 0 e)
 
-first-some : (n m : ℕ) → 1 ≤ n → first n m ≡ n
+first-some : (n m : ℕ) → 1 ≤ n → firstFault n m ≡ n
 first-some n m h = rw (ne-eqb n 0 (λ e. omega arith))
 
 -- faults that were found in groups
-pub first-two : (a b c : ℕ) → first a (first b c) ≡ first (first a b) c
+pub first-two : (a b c : ℕ) → firstFault a (firstFault b c) ≡ firstFault (firstFault a b) c
 first-two a b c = on (eqb a 0) (λ e. rw e) (λ e. rw (e, e))
 
-pub first-three : (a b c d : ℕ) → first a (first b (first c d)) ≡ first (first a (first b c)) d
-first-three a b c d = ap (first a) (first-two b c d) ∙ first-two a (first b c) d
+pub first-three : (a b c d : ℕ) → firstFault a (firstFault b (firstFault c d)) ≡ firstFault (firstFault a (firstFault b c)) d
+first-three a b c d = ap (firstFault a) (first-two b c d) ∙ first-two a (firstFault b c) d
 
-pub first-four : (a b c d e : ℕ) → first a (first b (first c (first d e))) ≡ first (first a (first b (first c d))) e
-first-four a b c d e = ap (first a) (first-three b c d e) ∙ first-two a (first b (first c d)) e
+pub first-four : (a b c d e : ℕ) → firstFault a (firstFault b (firstFault c (firstFault d e))) ≡ firstFault (firstFault a (firstFault b (firstFault c d))) e
+first-four a b c d e = ap (firstFault a) (first-three b c d e) ∙ first-two a (firstFault b (firstFault c d)) e
 
 -- the same as Got, as a record: its type says what was read
 pub record Gives {X : Type 0} (m : R X) (fault : ℕ) (y : X) : Type 0 where
   pub got : Got m fault y
 
-pub got-via : {X Y : Type 0} (m : R X) (k : X → R Y) (n l : ℕ) (y : X) (z : Y) → Got m n y → Got (k y) l z → Got (via m k) (first n l) z
+pub got-via : {X Y : Type 0} (m : R X) (k : X → R Y) (n l : ℕ) (y : X) (z : Y) → Got m n y → Got (k y) l z → Got (via m k) (firstFault n l) z
 got-via (ok x) k n l y z g h = rw (first-none n l (g .0), ← g .1) h
 got-via (bad b) k n l y z g h = (first-some n l (omega arith) ∙ g .0, g .1)
 
@@ -51,7 +51,7 @@ got-made (bad b) f n y g = g
 pub gives-ok : {X : Type 0} {x : X} → Gives (ok x) 0 x
 gives-ok = record { got = (refl, refl) }
 
-pub gives-via : {X Y : Type 0} {m : R X} (k : X → R Y) {n l : ℕ} {y : X} {z : Y} → Gives m n y → Gives (k y) l z → Gives (via m k) (first n l) z
+pub gives-via : {X Y : Type 0} {m : R X} (k : X → R Y) {n l : ℕ} {y : X} {z : Y} → Gives m n y → Gives (k y) l z → Gives (via m k) (firstFault n l) z
 gives-via {m} k {n} {l} {y} {z} g h = record { got = got-via m k n l y z (g .got) (h .got) }
 
 -- the last step, which only makes something of what was read

@@ -9,8 +9,6 @@ use Rattle.tree.specs.declared.Found.{Found}
 use Rattle.tree.specs.declared.Found.the-variants as founds
 use Rattle.tree.specs.Room.{count}
 use Rattle.tree.specs.Doors.{fieldsOf, items, nthOf}
-use Rattle.schema.specs.declared.Chip.the-variants.{D13x}
-use Rattle.schema.specs.declared.Media.the-variants.{SpiNor}
 use Rattle.schema.specs.declared.Text.the-variants.{Lent}
 use Rattle.parse.specs.declared.entry.List.{List}
 use Rattle.parse.specs.declared.view.PartitionFound.{PartitionFound}
@@ -89,11 +87,8 @@ module _ (room store : Seq ℕ) (made : ℕ) where
       record { chip = f .board .chip; media = f .image .media }
 
 -- the room has so many values, and not more than reading ever makes
-unfoldable pub sound : Seq ℕ → ℕ → Bool
-sound room made = pick (ltb (length room / 32) made) false (pick (ltb 65000 made) false true)
+unfoldable pub holdsValues : Seq ℕ → ℕ → Bool
+holdsValues room made = pick (ltb (length room / 32) made) false (pick (ltb 65000 made) false true)
 
 abbrev pub countsAt : Seq ℕ → Seq ℕ → ℕ → Counts
-countsAt room store made = pick (sound room made) (countsOf room store made) (record { partitions = 0; components = 0; applications = 0 })
-
-abbrev pub deviceAt : Seq ℕ → Seq ℕ → ℕ → Device
-deviceAt room store made = pick (sound room made) (deviceOf room store made) (record { chip = D13x; media = SpiNor })
+countsAt room store made = pick (holdsValues room made) (countsOf room store made) (record { partitions = 0; components = 0; applications = 0 })

@@ -1,6 +1,6 @@
 // An application's fields in 01's order.
 
-use crate::field::first;
+use crate::field::first_fault;
 use crate::field::number;
 use crate::field::text;
 use schema::Application;
@@ -48,7 +48,7 @@ fn read_names(tree: &[u8], store: &[u8], f: Fields, key: Text) -> Names
     let attr = a.text;
     let called = name.or(key);
     Names {
-        fault: first(n.fault, first(p.fault, first(t.fault, a.fault))),
+        fault: first_fault(n.fault, first_fault(p.fault, first_fault(t.fault, a.fault))),
         name: called,
         partition: partition.or(Text::Fixed(Word::App)),
         filename: filename.or(called.aic()),
@@ -74,7 +74,7 @@ fn read_loading(tree: &[u8], store: &[u8], made: usize, f: Fields, limit: usize)
     let load_address = a.number;
     let entry_offset = o.number;
     Loading {
-        fault: first(l.fault, first(a.fault, o.fault)),
+        fault: first_fault(l.fault, first_fault(a.fault, o.fault)),
         features: features,
         load_address: load_address,
         entry_offset: entry_offset,
@@ -102,7 +102,7 @@ pub fn read_application(
     let load_address = l.load_address;
     let entry_offset = l.entry_offset;
     ApplicationRead {
-        fault: first(n.fault, l.fault),
+        fault: first_fault(n.fault, l.fault),
         application: Application {
             package: key,
             name: name,

@@ -1,6 +1,6 @@
 // A component's fields, in four groups that follow 01's order.
 
-use crate::field::first;
+use crate::field::first_fault;
 use crate::field::flag;
 use crate::field::kind;
 use crate::field::number;
@@ -105,7 +105,7 @@ pub fn read_sources(tree: &[u8], store: &[u8], f: Fields) -> Sources
     let bin = b.text;
     let file = s.text;
     Sources {
-        fault: first(p.fault, first(b.fault, s.fault)),
+        fault: first_fault(p.fault, first_fault(b.fault, s.fault)),
         package: package,
         bin: bin,
         file: file,
@@ -121,7 +121,7 @@ pub fn read_head(tree: &[u8], store: &[u8], f: Fields) -> HeadRead
     let n = text_needed(tree, store, f, b"name");
     let s = read_sources(tree, store, f);
     let t = text(tree, store, f, b"filename");
-    let late = first(s.fault, t.fault);
+    let late = first_fault(s.fault, t.fault);
     let kind = k.kind;
     let name = n.text;
     let package = s.package;
@@ -129,7 +129,7 @@ pub fn read_head(tree: &[u8], store: &[u8], f: Fields) -> HeadRead
     let file = s.file;
     let filename = t.text;
     HeadRead {
-        fault: first(k.fault, first(n.fault, late)),
+        fault: first_fault(k.fault, first_fault(n.fault, late)),
         head: Head {
             kind: kind,
             name: name,
@@ -160,7 +160,7 @@ pub fn read_lists(tree: &[u8], store: &[u8], made: usize, f: Fields, limit: usiz
         tree::field(tree, store, f, b"pbp_features"),
         limit,
     );
-    let fault = first(all.fault, own.fault);
+    let fault = first_fault(all.fault, own.fault);
     let features = all.features;
     let pbp_features = own.features;
     if features::is_empty(tree, store, made, pbp_features) {
@@ -187,7 +187,7 @@ pub fn read_role(tree: &[u8], store: &[u8], made: usize, f: Fields, limit: usize
     let a = text(tree, store, f, b"attr");
     let t = text(tree, store, f, b"target_attr");
     let n = text(tree, store, f, b"target_filename");
-    let late = first(a.fault, first(t.fault, n.fault));
+    let late = first_fault(a.fault, first_fault(t.fault, n.fault));
     let features = l.features;
     let pbp_features = l.pbp_features;
     let partition = p.text;
@@ -195,7 +195,7 @@ pub fn read_role(tree: &[u8], store: &[u8], made: usize, f: Fields, limit: usize
     let target_attr = t.text;
     let target_filename = n.text;
     RoleRead {
-        fault: first(l.fault, first(p.fault, late)),
+        fault: first_fault(l.fault, first_fault(p.fault, late)),
         role: Role {
             features: features,
             pbp_features: pbp_features,
@@ -217,13 +217,13 @@ pub fn read_boot(tree: &[u8], store: &[u8], f: Fields) -> BootRead
     let t = text(tree, store, f, b"pbp");
     let o = text(tree, store, f, b"pbp_package");
     let p = text(tree, store, f, b"private");
-    let late = first(t.fault, first(o.fault, p.fault));
+    let late = first_fault(t.fault, first_fault(o.fault, p.fault));
     let ram = n.number;
     let pbp = t.text;
     let pbp_package = o.text;
     let private = p.text;
     BootRead {
-        fault: first(u.fault, first(n.fault, late)),
+        fault: first_fault(u.fault, first_fault(n.fault, late)),
         boot: Boot {
             updater: u.flag,
             ram: ram,
@@ -245,14 +245,14 @@ pub fn read_load(tree: &[u8], store: &[u8], f: Fields) -> LoadRead
     let v = number(tree, store, f, b"header_version");
     let e = flag(tree, store, f, b"with_ext");
     let r = number(tree, store, f, b"ext_reserve");
-    let late = first(v.fault, first(e.fault, r.fault));
+    let late = first_fault(v.fault, first_fault(e.fault, r.fault));
     let load_address = a.number;
     let entry_point = p.number;
     let entry_offset = o.number;
     let header_version = v.number;
     let ext_reserve = r.number;
     LoadRead {
-        fault: first(a.fault, first(p.fault, first(o.fault, late))),
+        fault: first_fault(a.fault, first_fault(p.fault, first_fault(o.fault, late))),
         load: Load {
             load_address: load_address,
             entry_point: entry_point,
@@ -278,13 +278,13 @@ pub fn read_component(
     let r = read_role(tree, store, made, f, limit);
     let b = read_boot(tree, store, f);
     let l = read_load(tree, store, f);
-    let late = first(b.fault, l.fault);
+    let late = first_fault(b.fault, l.fault);
     let head = h.head;
     let role = r.role;
     let boot = b.boot;
     let load = l.load;
     ComponentRead {
-        fault: first(h.fault, first(r.fault, late)),
+        fault: first_fault(h.fault, first_fault(r.fault, late)),
         component: Component {
             head: head,
             role: role,

@@ -3,11 +3,13 @@
 use crate::Refusal;
 use crate::application::ApplicationRead;
 use crate::component::ComponentRead;
-use crate::field::first;
+use crate::field::first_fault;
 use schema::Partition;
 use schema::Text;
 use tree::Fields;
 use tree::Found;
+use tree::Item;
+use tree::Key;
 use tree::Value;
 ghost use mathlib.Core.Path.{_≡_};
 ghost use Prim.Native.Nat.{_≤_};
@@ -22,6 +24,12 @@ pub struct List {
     pub fault: u32,
     pub place: u16,
     pub end: usize,
+}
+
+// The number of an entry's value, and its place in the list.
+struct Entry {
+    value: usize,
+    place: usize,
 }
 
 pub struct PartitionRead {
@@ -126,7 +134,7 @@ fn read_partition(tree: &[u8], store: &[u8], f: Fields) -> PartitionRead
     let offset = o.number;
     let size = s.number;
     PartitionRead {
-        fault: first(n.fault, first(o.fault, s.fault)),
+        fault: first_fault(n.fault, first_fault(o.fault, s.fault)),
         partition: Partition {
             from: name.start(),
             len: name.length(),
@@ -146,7 +154,7 @@ pub fn partition_at(tree: &[u8], store: &[u8], made: usize, n: usize) -> Partiti
     let p = read_partition(tree, store, f);
     let partition = p.partition;
     PartitionRead {
-        fault: first(t.fault, p.fault),
+        fault: first_fault(t.fault, p.fault),
         partition: partition,
     }
 }
@@ -160,7 +168,7 @@ pub fn component_at(tree: &[u8], store: &[u8], made: usize, n: usize, limit: usi
     let c = crate::component::read_component(tree, store, made, f, limit);
     let component = c.component;
     ComponentRead {
-        fault: first(t.fault, c.fault),
+        fault: first_fault(t.fault, c.fault),
         component: component,
     }
 }
@@ -177,24 +185,24 @@ pub fn application_at(
 {
     let t = entry_table(tree, made, tree::value_at(tree, store, n));
     let f = t.fields;
-    let v = tree::get(tree, n);
+    let k = tree::key_at(tree, n);
     let key = Text::Stored {
-        from: v.key as usize,
-        len: v.len as usize,
+        from: k.from,
+        len: k.len,
     };
     let a = crate::application::read_application(tree, store, made, f, key, limit);
     let application = a.application;
     ApplicationRead {
-        fault: first(t.fault, a.fault),
+        fault: first_fault(t.fault, a.fault),
         application: application,
     }
 }
 
 fn no_partitions(number: u32, place: usize, items: [Partition; 32]) -> Partitions
-    ensures { λ r. ⌜ (r .fault ≡ entries.told 3 number place) × (r .count ≡ 0) × (r .items ≡ items) ⌝ }
+    ensures { λ r. ⌜ (r .fault ≡ entries.refusalAt 3 number place) × (r .count ≡ 0) × (r .items ≡ items) ⌝ }
 {
     Partitions {
-        fault: crate::told(3, number, place),
+        fault: crate::refusal_at(3, number, place),
         count: 0,
         items: items,
     }
@@ -213,33 +221,28 @@ fn each_partition(tree: &[u8], store: &[u8], made: usize, place: u16, end: usize
     };
     let mut items = [blank; 32];
     let mut i = 0;
-    let mut from = 0;
-    while from < end {
-        let found = tree::child(tree, end, place, from);
-        match found {
-            Found::Nothing => {
+    let mut w = tree::items_of(place, end);
+    loop {
+        let step = tree::next_item(tree, w);
+        match step {
+            Item::End => {
                 return Partitions {
-                    fault: crate::told(0, 0, 0),
+                    fault: crate::refusal_at(0, 0, 0),
                     count: i,
-                    items: items,
+                    items,
                 };
             }
-            Found::At(n) => {
-                let r = partition_at(tree, store, made, n);
+            Item::At { value, rest } => {
+                let r = partition_at(tree, store, made, value);
                 if r.fault != 0 {
                     return no_partitions(r.fault, i, items);
                 }
                 let p = r.partition;
                 items[i] = p;
                 i += 1;
-                from = n + 1;
+                w = rest;
             }
         }
-    }
-    Partitions {
-        fault: crate::told(0, 0, 0),
-        count: i,
-        items: items,
     }
 }
 
@@ -254,7 +257,7 @@ pub fn read_partitions(
     requires { ⌜ Among (now tree) made list × (limit ≤ 32) ⌝ }
     ensures { λ r. ⌜ Partitioned (entries.partitions (now (tree .entry)) (now (store .entry)) made list limit) r ⌝ }
 {
-    let n = tree::count(tree, list.end, list.place);
+    let n = tree::count_items(tree, list.end, list.place);
     if limit < n {
         let blank = Partition {
             from: 0,
@@ -280,22 +283,21 @@ fn each_component(
     ensures { λ r. ⌜ r ≡ entries.eachComponent (now (tree .entry)) (now (store .entry)) made place end limit ⌝ }
 {
     let mut i = 0;
-    let mut from = 0;
-    while from < end {
-        let found = tree::child(tree, end, place, from);
-        match found {
-            Found::Nothing => return crate::told(0, 0, 0),
-            Found::At(n) => {
-                let r = component_at(tree, store, made, n, limit);
+    let mut w = tree::items_of(place, end);
+    loop {
+        let step = tree::next_item(tree, w);
+        match step {
+            Item::End => return crate::refusal_at(0, 0, 0),
+            Item::At { value, rest } => {
+                let r = component_at(tree, store, made, value, limit);
                 if r.fault != 0 {
-                    return crate::told(4, r.fault, i);
+                    return crate::refusal_at(4, r.fault, i);
                 }
                 i += 1;
-                from = n + 1;
+                w = rest;
             }
         }
     }
-    crate::told(0, 0, 0)
 }
 
 pub fn check_components(
@@ -309,9 +311,9 @@ pub fn check_components(
     requires { ⌜ Among (now tree) made list ⌝ }
     ensures { λ r. ⌜ r ≡ entries.components (now (tree .entry)) (now (store .entry)) made list most limit ⌝ }
 {
-    let n = tree::count(tree, list.end, list.place);
+    let n = tree::count_items(tree, list.end, list.place);
     if most < n {
-        return crate::told(4, 25, most);
+        return crate::refusal_at(4, 25, most);
     }
     each_component(tree, store, made, list.place, list.end, limit)
 }
@@ -349,17 +351,14 @@ pub fn count_keys(tree: &[u8], store: &[u8], list: List, most: usize) -> usize
     requires { ⌜ Holds (now tree) (list .end) × (most ≤ 65000) ⌝ }
     ensures { λ r. ⌜ Keyed (now (tree .entry)) (now (store .entry)) list most r ⌝ }
 {
-    let place = list.place;
-    let end = list.end;
-    let low = tree::skip_up(tree, end, place, 0);
-    let mut after = Found::Nothing;
+    let mut w = tree::keys_of(tree, list.place, list.end);
     let mut n: usize = 0;
     while n <= most {
-        let found = tree::next(tree, store, low, end, place, after);
-        match found {
-            Found::Nothing => return n,
-            Found::At(m) => {
-                after = Found::At(m);
+        let step = tree::next_key(tree, store, w);
+        match step {
+            Key::End => return n,
+            Key::At { value: _, rest } => {
+                w = rest;
                 n += 1;
             }
         }
@@ -372,47 +371,43 @@ pub fn nth_key(tree: &[u8], store: &[u8], list: List, i: usize) -> Found
     requires { ⌜ Holds (now tree) (list .end) ⌝ }
     ensures { λ r. ⌜ Finds 0 (list .end) (entries.nthKey (now (tree .entry)) (now (store .entry)) list i) r ⌝ }
 {
-    let place = list.place;
-    let end = list.end;
-    let low = tree::skip_up(tree, end, place, 0);
-    let mut after = Found::Nothing;
+    let mut w = tree::keys_of(tree, list.place, list.end);
     let mut left = i;
     loop {
-        let found = tree::next(tree, store, low, end, place, after);
-        match found {
-            Found::Nothing => return Found::Nothing,
-            Found::At(m) => {
+        let step = tree::next_key(tree, store, w);
+        match step {
+            Key::End => return Found::Nothing,
+            Key::At { value, rest } => {
                 if left == 0 {
-                    return Found::At(m);
+                    return Found::At(value);
                 }
-                after = Found::At(m);
+                w = rest;
                 left -= 1;
             }
         }
     }
 }
 
-// The refusal so far; where there is none, that of the application that value number n is, told at place i.
+// The refusal so far; where there is none, that of the application that an entry is.
 fn earlier_application(
     tree: &[u8],
     store: &[u8],
     made: usize,
-    n: usize,
-    i: usize,
+    e: Entry,
     limit: usize,
     fault: Refusal,
 ) -> Refusal
-    requires { ⌜ Rooms (now tree) made × Stood (now tree) n ⌝ }
-    ensures { λ r. ⌜ r ≡ refusals.earlier fault (entries.applicationFault (now (tree .entry)) (now (store .entry)) made limit i n) ⌝ }
+    requires { ⌜ Rooms (now tree) made × Stood (now tree) (e .value) ⌝ }
+    ensures { λ r. ⌜ r ≡ entries.earlierFault (now (tree .entry)) (now (store .entry)) made limit e fault ⌝ }
 {
     if fault.number != 0 {
         return fault;
     }
-    let a = application_at(tree, store, made, n, limit);
+    let a = application_at(tree, store, made, e.value, limit);
     if a.fault != 0 {
-        return crate::told(5, a.fault, i);
+        return crate::refusal_at(5, a.fault, e.place);
     }
-    crate::told(0, 0, 0)
+    crate::refusal_at(0, 0, 0)
 }
 
 // The list's length is told before its entries, so the first refusal waits for the last key; a second walk would cost as much again.
@@ -427,22 +422,20 @@ pub fn check_applications(
     requires { ⌜ Among (now tree) made list × (most ≤ 65000) ⌝ }
     ensures { λ r. ⌜ r ≡ entries.applications (now (tree .entry)) (now (store .entry)) made list most limit ⌝ }
 {
-    let place = list.place;
-    let end = list.end;
-    let low = tree::skip_up(tree, end, place, 0);
-    let mut after = Found::Nothing;
-    let mut fault = crate::told(0, 0, 0);
+    let mut w = tree::keys_of(tree, list.place, list.end);
+    let mut fault = crate::refusal_at(0, 0, 0);
     let mut i = 0;
     while i <= most {
-        let found = tree::next(tree, store, low, end, place, after);
-        match found {
-            Found::Nothing => return fault,
-            Found::At(m) => {
-                fault = earlier_application(tree, store, made, m, i, limit, fault);
-                after = Found::At(m);
+        let step = tree::next_key(tree, store, w);
+        match step {
+            Key::End => return fault,
+            Key::At { value, rest } => {
+                let e = Entry { value, place: i };
+                fault = earlier_application(tree, store, made, e, limit, fault);
+                w = rest;
                 i += 1;
             }
         }
     }
-    crate::told(5, 25, most)
+    crate::refusal_at(5, 25, most)
 }

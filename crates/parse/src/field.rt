@@ -50,8 +50,8 @@ pub struct FlagRead {
 }
 
 // The first fault of two.
-pub fn first(a: u32, b: u32) -> u32
-    ensures { λ r. ⌜ r ≡ fields.first a b ⌝ }
+pub fn first_fault(a: u32, b: u32) -> u32
+    ensures { λ r. ⌜ r ≡ fields.firstFault a b ⌝ }
 {
     if a == 0 {
         return b;
@@ -204,7 +204,7 @@ pub fn text_needed(tree: &[u8], store: &[u8], f: Fields, key: &[u8]) -> TextRead
     let t = text_of(v);
     let place = t.text;
     TextRead {
-        fault: first(t.fault, missing(v)),
+        fault: first_fault(t.fault, missing(v)),
         text: place,
     }
 }
@@ -218,7 +218,7 @@ pub fn number_needed(tree: &[u8], store: &[u8], f: Fields, key: &[u8]) -> Number
     let n = number_of(v);
     let amount = n.number;
     NumberRead {
-        fault: first(n.fault, missing(v)),
+        fault: first_fault(n.fault, missing(v)),
         number: amount,
     }
 }

@@ -149,7 +149,10 @@ fn read_board(tree: &[u8], store: &[u8], f: Fields, chip: Chip, lent: Text) -> B
     let target = crate::field::text(tree, store, f, b"target");
     let profile = crate::field::text(tree, store, f, b"profile");
     BoardRead {
-        fault: crate::field::first(name.fault, crate::field::first(target.fault, profile.fault)),
+        fault: crate::field::first_fault(
+            name.fault,
+            crate::field::first_fault(target.fault, profile.fault),
+        ),
         board: Board {
             name: name.or(lent),
             chip: chip,
@@ -168,9 +171,9 @@ fn image_names(tree: &[u8], store: &[u8], f: Fields, chip: Chip) -> ImageNames
     let product = crate::field::text(tree, store, f, b"product");
     let version = crate::field::text(tree, store, f, b"version");
     ImageNames {
-        fault: crate::field::first(
+        fault: crate::field::first_fault(
             platform.fault,
-            crate::field::first(product.fault, version.fault),
+            crate::field::first_fault(product.fault, version.fault),
         ),
         platform: platform.or(Text::Fixed(chip.name())),
         product: product.or(Text::Fixed(Word::Unknown)),
@@ -187,7 +190,7 @@ fn image_rest(tree: &[u8], store: &[u8], f: Fields) -> ImageRest
     let id = crate::field::text(tree, store, f, b"media_id");
     let app = crate::field::text(tree, store, f, b"app");
     ImageRest {
-        fault: crate::field::first(dev.fault, crate::field::first(id.fault, app.fault)),
+        fault: crate::field::first_fault(dev.fault, crate::field::first_fault(id.fault, app.fault)),
         media_dev_id: dev.or(0),
         media_id: id.or(Text::Stored { from: 0, len: 0 }),
         app: app.or(Text::Stored { from: 0, len: 0 }),
@@ -208,7 +211,10 @@ fn read_image(tree: &[u8], store: &[u8], f: Fields, chip: Chip) -> ImageRead
     let id = rest.media_id;
     let app = rest.app;
     ImageRead {
-        fault: crate::field::first(names.fault, crate::field::first(kept.fault, rest.fault)),
+        fault: crate::field::first_fault(
+            names.fault,
+            crate::field::first_fault(kept.fault, rest.fault),
+        ),
         image: Image {
             platform: platform,
             product: product,

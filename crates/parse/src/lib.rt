@@ -27,7 +27,7 @@ pub struct Refusal {
     pub place: usize,
 }
 
-pub fn told(section: u32, number: u32, place: usize) -> Refusal
+pub fn refusal_at(section: u32, number: u32, place: usize) -> Refusal
     ensures { λ r. ⌜ r ≡ refusals.refusal number section place ⌝ }
 {
     Refusal {
@@ -105,7 +105,7 @@ fn check_applications(tree: &[u8], store: &[u8], made: usize, limits: Limits) ->
 }
 
 // The first refusal of the records, in 01's order.
-pub fn check(tree: &[u8], store: &[u8], made: usize, name: &[u8], limits: Limits) -> Refusal
+pub fn check_records(tree: &[u8], store: &[u8], made: usize, name: &[u8], limits: Limits) -> Refusal
     requires { ⌜ Judging (now tree) made limits ⌝ }
     ensures { λ r. ⌜ r ≡ verdicts.verdict (now (tree .entry)) (now (store .entry)) made (now (name .entry)) limits ⌝ }
 {
@@ -125,9 +125,9 @@ pub fn check(tree: &[u8], store: &[u8], made: usize, name: &[u8], limits: Limits
 }
 
 // The same within 01's limits: the judge of records.
-pub fn judge(tree: &[u8], store: &[u8], made: usize, name: &[u8]) -> Refusal
+pub fn judge_records(tree: &[u8], store: &[u8], made: usize, name: &[u8]) -> Refusal
     requires { ⌜ Rooms (now tree) made ⌝ }
     ensures { λ r. ⌜ Told (verdicts.reading (now (name .entry)) (now (tree .entry)) (now (store .entry)) made) r ⌝ }
 {
-    check(tree, store, made, name, meaning::of01())
+    check_records(tree, store, made, name, meaning::of01())
 }

@@ -100,7 +100,7 @@ pub fn partition(tree: &[u8], store: &[u8], made: usize, i: usize) -> PartitionF
     ensures { λ r. ⌜ r ≡ views.partition (now (tree .entry)) (now (store .entry)) made i ⌝ }
 {
     let l = partition_list(tree, store, made);
-    let found = tree::nth(tree, l.end, l.place, i);
+    let found = tree::nth_item(tree, l.end, l.place, i);
     match found {
         Found::At(n) => good_partition(tree, store, made, n),
         Found::Nothing => PartitionFound::Nothing,
@@ -112,7 +112,7 @@ pub fn component(tree: &[u8], store: &[u8], made: usize, i: usize, limit: usize)
     ensures { λ r. ⌜ r ≡ views.component (now (tree .entry)) (now (store .entry)) made i limit ⌝ }
 {
     let l = component_list(tree, store, made);
-    let found = tree::nth(tree, l.end, l.place, i);
+    let found = tree::nth_item(tree, l.end, l.place, i);
     match found {
         Found::At(n) => good_component(tree, store, made, n, limit),
         Found::Nothing => ComponentFound::Nothing,
@@ -138,8 +138,8 @@ pub fn application(
 }
 
 // Whether the room has so many values, and not more than reading ever makes.
-pub fn sound(tree: &[u8], made: usize) -> bool
-    ensures { λ r. ⌜ r ≡ views.sound (now (tree .entry)) made ⌝ }
+pub fn holds_values(tree: &[u8], made: usize) -> bool
+    ensures { λ r. ⌜ r ≡ views.holdsValues (now (tree .entry)) made ⌝ }
 {
     if tree::capacity(tree) < made {
         return false;
@@ -184,8 +184,8 @@ pub fn counts_in(tree: &[u8], store: &[u8], made: usize, l: Lists) -> Counts
     let c = l.components;
     let a = l.applications;
     Counts {
-        partitions: tree::count(tree, p.end, p.place),
-        components: tree::count(tree, c.end, c.place),
+        partitions: tree::count_items(tree, p.end, p.place),
+        components: tree::count_items(tree, c.end, c.place),
         applications: crate::entry::count_keys(tree, store, a, 64),
     }
 }
@@ -202,7 +202,7 @@ pub fn counts_of(tree: &[u8], store: &[u8], made: usize) -> Counts
 pub fn counts_at(tree: &[u8], store: &[u8], made: usize) -> Counts
     ensures { λ r. ⌜ r ≡ views.countsAt (now (tree .entry)) (now (store .entry)) made ⌝ }
 {
-    if sound(tree, made) {
+    if holds_values(tree, made) {
         return counts_of(tree, store, made);
     }
     Counts {
@@ -234,18 +234,5 @@ pub fn device_of(tree: &[u8], store: &[u8], made: usize) -> Device
     Device {
         chip: chip,
         media: media,
-    }
-}
-
-// The same of any rooms: the first chip and its media where they are not sound.
-pub fn device_at(tree: &[u8], store: &[u8], made: usize) -> Device
-    ensures { λ r. ⌜ r ≡ views.deviceAt (now (tree .entry)) (now (store .entry)) made ⌝ }
-{
-    if sound(tree, made) {
-        return device_of(tree, store, made);
-    }
-    Device {
-        chip: Chip::D13x,
-        media: Media::SpiNor,
     }
 }

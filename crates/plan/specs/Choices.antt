@@ -11,7 +11,7 @@ use Rattle.tree.specs.Doors.{Stood}
 use Rattle.schema.specs.Texts.{clip}
 use Rattle.parse.specs.declared.Refusal.{Refusal}
 use Rattle.parse.specs.declared.entry.List.{List}
-use Rattle.parse.specs.Entries.{told, walk, componentAt, applicationAt}
+use Rattle.parse.specs.Entries.{refusalAt, walk, componentAt, applicationAt}
 use Rattle.parse.specs.Views.{applicationList}
 use Rattle.turns.specs.Marks.{anyOf}
 use Rattle.validate.specs.Entries.{kept}
@@ -55,12 +55,12 @@ module _ (room store : Seq ℕ) where
 
     -- 81
     unfoldable pub nameFault : ℕ → ℕ → Refusal
-    nameFault place n = pick (taken (kept store (applicationAt room store made n 32 .application .name))) (told 5 81 place) (told 0 0 0)
+    nameFault place n = pick (taken (kept store (applicationAt room store made n 32 .application .name))) (refusalAt 5 81 place) (refusalAt 0 0 0)
 
     -- 80, 81
     abbrev pub fault : Choice → Refusal
-    fault BootChain = told 0 0 0
-    fault Undeclared = told 5 80 0
+    fault BootChain = refusalAt 0 0 0
+    fault Undeclared = refusalAt 5 80 0
     fault (At place n) = nameFault place n
 
     -- of a selection

@@ -1,5 +1,6 @@
 -- Level 2 of references: the partition that one finds.
 use Prim.Native.Nat.{ℕ}
+use mathlib.Core.Bool.{true}
 use mathlib.Core.List.{List as Seq, [], map}
 use lib.Dec.{ltb}
 use lib.ListN.{length, getD}

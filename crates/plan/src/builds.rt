@@ -6,13 +6,14 @@ use schema::Features;
 use schema::MOST_FEATURES;
 use schema::Text;
 use schema::spot::Spot;
+use schema::spot::bytes_spot;
 use schema::spot::list_at;
 use schema::spot::list_spot;
 use schema::spot::no_spot;
 use schema::spot::same_text;
 use schema::spot::text_at;
 use schema::spot::text_spot;
-use tree::Found;
+use tree::Item;
 ghost use mathlib.Core.List.{[], map};
 ghost use mathlib.Core.Path.{_≡_};
 ghost use Prim.Native.Nat.{_≤_};
@@ -22,10 +23,15 @@ ghost use Rattle.plan.specs.Choices.{Standing};
 ghost use Rattle.plan.specs.Builds as builds;
 ghost use Rattle.plan.specs.Builds.{Wanting, Used};
 
+// Two for each component, and one for the application.
+const COMPONENT_USES: usize = 128;
+
+const MOST_USES: usize = 129;
+
 // Uses of packages, or builds; one whose package is absent is none.
 pub struct BuildList {
     pub count: usize,
-    pub items: [Use; 129],
+    pub items: [Use; MOST_USES],
 }
 
 // A component's two packages.
@@ -72,7 +78,7 @@ pub fn build_at(u: Use) -> Build
 }
 
 // An array of none.
-fn no_builds() -> [Use; 129]
+fn no_builds() -> [Use; MOST_USES]
     ensures { λ r. ⌜ r ≡ replicate 129 builds.noUse ⌝ }
 {
     let none = no_spot();
@@ -81,7 +87,7 @@ fn no_builds() -> [Use; 129]
         bin: none,
         features: none,
     };
-    [blank; 129]
+    [blank; MOST_USES]
 }
 
 // "Each component's package, then its `pbp_package`", whose bin is the package itself.
@@ -112,23 +118,23 @@ fn each_component(tree: &[u8], store: &[u8], made: usize, place: u16, end: usize
 {
     let mut items = no_builds();
     let mut i: usize = 0;
-    let mut from = 0;
-    while from < end {
-        let found = tree::child(tree, end, place, from);
-        match found {
-            Found::Nothing => break,
-            Found::At(n) => {
-                if 128 <= i {
+    let mut w = tree::items_of(place, end);
+    loop {
+        let step = tree::next_item(tree, w);
+        match step {
+            Item::End => break,
+            Item::At { value, rest } => {
+                if COMPONENT_USES <= i {
                     break;
                 }
-                let w = wanted_at(tree, store, made, n);
-                let own = w.own;
-                let pbp = w.pbp;
+                let used = wanted_at(tree, store, made, value);
+                let own = used.own;
+                let pbp = used.pbp;
                 let next = i + 1;
                 items[i] = own;
                 items[next] = pbp;
                 i += 2;
-                from = n + 1;
+                w = rest;
             }
         }
     }
@@ -143,14 +149,12 @@ fn application_use(tree: &[u8], store: &[u8], made: usize, n: usize) -> Use
     let r = parse::entry::application_at(tree, store, made, n, MOST_FEATURES);
     let a = r.application;
     let features = a.features;
-    let v = tree::get(tree, n);
-    let p = validate::uses::pair_of_application(v.key, v.len, features);
-    let package = p.package;
-    let list = p.features;
+    let k = tree::key_at(tree, n);
+    let package = bytes_spot(k.from, k.len);
     Use {
-        package: package,
+        package,
         bin: package,
-        features: list,
+        features: list_spot(features),
     }
 }
 
@@ -169,7 +173,7 @@ fn with_application(tree: &[u8], store: &[u8], made: usize, n: usize, u: BuildLi
 }
 
 // Those of some uses that no earlier one is of the same package as.
-fn first_uses(store: &[u8], uses: [Use; 129], count: usize) -> BuildList
+fn first_uses(store: &[u8], uses: [Use; MOST_USES], count: usize) -> BuildList
     requires { ⌜ count ≤ 129 ⌝ }
     ensures { λ r. ⌜ Used 129 (builds.firstUses (now (store .entry)) [] (map builds.buildAt (take count uses))) r ⌝ }
 {

@@ -13,7 +13,7 @@ use schema::MOST_FEATURES;
 use schema::Number;
 use schema::Role;
 use schema::Text;
-use tree::Found;
+use tree::Item;
 ghost use mathlib.Core.Path.{_≡_};
 ghost use Rattle.tree.specs.Doors.{Rooms, Stood};
 ghost use Rattle.plan.specs.Choices.{Standing};
@@ -220,24 +220,21 @@ fn ahead(tree: &[u8], store: &[u8], made: usize) -> usize
     ensures { λ r. ⌜ r ≡ plans.ahead (now (tree .entry)) (now (store .entry)) made ⌝ }
 {
     let l = parse::view::component_list(tree, store, made);
-    let place = l.place;
-    let end = l.end;
     let mut i = 0;
-    let mut from = 0;
-    while from < end {
-        let found = tree::child(tree, end, place, from);
-        match found {
-            Found::Nothing => return i,
-            Found::At(n) => {
-                if placed(tree, store, made, n) {
+    let mut w = tree::items_of(l.place, l.end);
+    loop {
+        let step = tree::next_item(tree, w);
+        match step {
+            Item::End => return i,
+            Item::At { value, rest } => {
+                if placed(tree, store, made, value) {
                     return i;
                 }
                 i += 1;
-                from = n + 1;
+                w = rest;
             }
         }
     }
-    i
 }
 
 // Component number i of the preset, planned.
@@ -283,7 +280,7 @@ pub fn count(tree: &[u8], store: &[u8], made: usize, c: Choice) -> usize
     ensures { λ r. ⌜ r ≡ plans.count (now (tree .entry)) (now (store .entry)) made c ⌝ }
 {
     let l = parse::view::component_list(tree, store, made);
-    let n = tree::count(tree, l.end, l.place);
+    let n = tree::count_items(tree, l.end, l.place);
     match c {
         Choice::BootChain => n,
         Choice::Undeclared => 0,

@@ -4,6 +4,7 @@ use crate::choice::Choice;
 use schema::Kind;
 use schema::Text;
 use tree::Found;
+use tree::Item;
 ghost use mathlib.Core.Path.{_≡_};
 ghost use Rattle.tree.specs.Doors.{Rooms, Stood};
 ghost use Rattle.tree.specs.Room.{Finds};
@@ -79,22 +80,19 @@ fn leader(tree: &[u8], store: &[u8], made: usize) -> Found
     ensures { λ r. ⌜ Finds 0 made (stems.leader (now (tree .entry)) (now (store .entry)) made) r ⌝ }
 {
     let l = parse::view::component_list(tree, store, made);
-    let place = l.place;
-    let end = l.end;
-    let mut from = 0;
-    while from < end {
-        let found = tree::child(tree, end, place, from);
-        match found {
-            Found::Nothing => return Found::Nothing,
-            Found::At(n) => {
-                if leads(tree, store, made, n) {
-                    return Found::At(n);
+    let mut w = tree::items_of(l.place, l.end);
+    loop {
+        let step = tree::next_item(tree, w);
+        match step {
+            Item::End => return Found::Nothing,
+            Item::At { value, rest } => {
+                if leads(tree, store, made, value) {
+                    return Found::At(value);
                 }
-                from = n + 1;
+                w = rest;
             }
         }
     }
-    Found::Nothing
 }
 
 // "The package, else `bin`, else file stem" of the first `app` component with a partition, if there is one.
@@ -134,14 +132,14 @@ fn boot_stem(tree: &[u8], store: &[u8], made: usize, name: &[u8]) -> Text
 }
 
 // The key of the application that value number n is.
-fn key_of(tree: &[u8], n: usize) -> Text
+pub fn key_of(tree: &[u8], n: usize) -> Text
     requires { ⌜ Stood (now tree) n ⌝ }
     ensures { λ r. ⌜ r ≡ stems.keyOf (now (tree .entry)) n ⌝ }
 {
-    let v = tree::get(tree, n);
+    let k = tree::key_at(tree, n);
     Text::Stored {
-        from: v.key as usize,
-        len: v.len as usize,
+        from: k.from,
+        len: k.len,
     }
 }
 

@@ -5,8 +5,8 @@ pub mod planning;
 pub mod reading;
 pub mod validating;
 
-use toml_lite::Read;
 use parse::Refusal;
+use toml_lite::Read;
 ghost use mathlib.Core.Path.{_≡_};
 ghost use Rattle.tree.specs.Doors.{Rooms};
 ghost use Rattle.parse.specs.Verdict.{Told};
@@ -68,9 +68,9 @@ fn judge(way: Way, tree: &[u8], store: &[u8], made: usize, name: &[u8], key: &[u
     ensures { λ r. ⌜ Told (judgeOf way (now (name .entry)) (now (key .entry)) (now (tree .entry)) (now (store .entry)) made) r ⌝ }
 {
     match way {
-        Way::Read => parse::judge(tree, store, made, name),
-        Way::Validate => validate::judge(tree, store, made, name),
-        Way::Plan(app) => plan::judge(tree, store, made, name, app, key),
+        Way::Read => parse::judge_records(tree, store, made, name),
+        Way::Validate => validate::judge_rules(tree, store, made, name),
+        Way::Plan(app) => plan::judge_selection(tree, store, made, name, app, key),
     }
 }
 

@@ -16,12 +16,9 @@ use Rattle.schema.specs.declared.Kind.the-variants as kinds
 use Rattle.schema.specs.declared.Partition.{Partition}
 use Rattle.schema.specs.Words.{word, chipMeant, mediaMeant, kindMeant, chipWord, mediaWord, kindWord}
 use Rattle.schema.specs.Texts.{clip, spelled}
-use Rattle.parse.specs.declared.entry.List.{List as Places}
-use Rattle.parse.specs.declared.view.Lists.{Lists}
 use Rattle.parse.specs.declared.view.Counts.{Counts}
 use Rattle.parse.specs.declared.view.Device.{Device}
-use Rattle.parse.specs.Views.{partitionList, componentList, applicationList, countsOf, deviceOf}
-use Rattle.report.specs.declared.Placed.{Placed}
+use Rattle.parse.specs.Views.{countsOf, deviceOf}
 use Rattle.report.specs.declared.brief.ComponentBrief.{ComponentBrief}
 use Rattle.report.specs.declared.brief.ApplicationBrief.{ApplicationBrief}
 use Rattle.page.specs.Page.{Wrote}
@@ -107,14 +104,3 @@ module _ (room store : List ℕ) (made : ℕ) (o o1 o2 : List ℕ) (n n1 n2 : �
       → Wrote (shown.ok room store made) o n o2 n2
   unfolding shown.ok
   ok-line d x y e = wrote-then (rw e at x) y
-
--- ---- a preset in the rooms
-module _ (room store : List ℕ) (p : Placed) (h : shown.Stands room store p) where
-  pub stands-partitions : (l : Places) → l ≡ p .lists .partitions → l ≡ partitionList room store (p .made)
-  stands-partitions l e = rw e (ap (λ (x : Lists). x .partitions) (h .lists))
-
-  pub stands-components : (l : Places) → l ≡ p .lists .components → l ≡ componentList room store (p .made)
-  stands-components l e = rw e (ap (λ (x : Lists). x .components) (h .lists))
-
-  pub stands-applications : (l : Places) → l ≡ p .lists .applications → l ≡ applicationList room store (p .made)
-  stands-applications l e = rw e (ap (λ (x : Lists). x .applications) (h .lists))

@@ -7,20 +7,26 @@ use native.Mathlib.Numerals.{add-one}
 use lib.ListN.{length, drop, getD, drop-of-length-le}
 use lib.Seq.{drop-cons}
 use Rattle.meaning.specs.Listing.{each, stemLine}
-use Rattle.tree.specs.declared.Found.{Found}
-use Rattle.tree.specs.declared.Found.the-variants.{At, Nothing}
-use Rattle.tree.specs.Room.{Finds, slotAt, child}
-use Rattle.tree.specs.Order.{next}
-use Rattle.tree.specs.Doors.{Rooms, items}
-use Rattle.tree.specs.Spans.{items-step, items-end}
+use Rattle.tree.specs.declared.Found.the-variants.{Nothing}
+use Rattle.tree.specs.declared.Items.{Items}
+use Rattle.tree.specs.declared.Item.{Item}
+use Rattle.tree.specs.declared.Item.the-variants as given
+use Rattle.tree.specs.declared.Keys.{Keys}
+use Rattle.tree.specs.declared.Key.{Key}
+use Rattle.tree.specs.declared.Key.the-variants as keyed
+use Rattle.tree.specs.Room.{Holds}
+use Rattle.tree.specs.Doors.{Rooms, Stood, items}
+use Rattle.tree.specs.Steps.{itemsFrom, toCome, Gives, item-room, item-ended, item-given, item-stands, Over, Begins, KeyGives, key-given, key-stands}
 use Rattle.schema.specs.declared.Text.{Text}
 use Rattle.schema.specs.Texts.{spelled}
 use Rattle.parse.specs.declared.entry.List.{List}
 use Rattle.parse.specs.declared.entry.PartitionRead.{PartitionRead}
-use Rattle.parse.specs.Entries.{partitionAt, walk}
+use Rattle.parse.specs.declared.view.Lists.{Lists}
+use Rattle.parse.specs.Entries.{partitionAt, componentAt, applicationAt, walk}
 use Rattle.parse.specs.Meant.{featureList}
-use Rattle.parse.specs.Views.{partitionList}
-use Rattle.parse.proofs.Judging.{partitions-among}
+use Rattle.parse.specs.Views.{partitionList, componentList, applicationList, listsOf}
+use Rattle.parse.proofs.Entering.{walk-ended, walk-given}
+use Rattle.parse.proofs.Judging.{partitions-among, components-among, applications-among, applications-hold}
 use Rattle.plan.specs.declared.builds.Use.{Use}
 use Rattle.plan.specs.declared.builds.BuildList.{BuildList}
 use Rattle.plan.specs.declared.choice.Choice.the-variants.{BootChain}
@@ -29,6 +35,9 @@ use Rattle.plan.specs.Builds.{Used, blank, noUse, buildAt, buildsOf}
 use Rattle.plan.specs.Stems.{stem}
 use Rattle.plan.proofs.Building.{used-at}
 use Rattle.page.specs.Page.{Wrote}
+use Rattle.report.specs.declared.Placed.{Placed}
+use Rattle.report.specs.declared.brief.ComponentBrief.{ComponentBrief}
+use Rattle.report.specs.declared.brief.ApplicationBrief.{ApplicationBrief}
 use Rattle.report.specs.Shown as shown
 use Rattle.page.proofs.Pages.{wrote-nil, wrote-then}
 
@@ -59,61 +68,143 @@ module _ {X : Type 0} (f : X → Seq ℕ) (all : Seq X) (out : Seq ℕ) (at : �
 
 -- ---- items one after the other
 
-module _ (f : ℕ → Seq ℕ) (room : Seq ℕ) (l m : List) (d : l ≡ m) (out : Seq ℕ) (at from : ℕ) (out′ : Seq ℕ) (at′ : ℕ)
-    (k : Left f (items room (l .end) (l .place) 0) (items room (l .end) (l .place) from) out at out′ at′) where
-  items-out : items room (l .end) (l .place) from ≡ [] → Wrote (each f (items room (m .end) (m .place) 0)) out at out′ at′
-  items-out e = rw d at (left-end f (items room (l .end) (l .place) 0) out at (items room (l .end) (l .place) from) out′ at′ k e)
+-- the lines of the items met, on a walk that began as v
+pub record Walked (f : ℕ → Seq ℕ) (room : Seq ℕ) (v : Items) (out : Seq ℕ) (at : ℕ) (w : Items) (out′ : Seq ℕ) (at′ : ℕ) : Type 0 where
+  pub left : Left f (toCome room v) (toCome room w) out at out′ at′
+  pub among : w .end ≡ v .end
 
-  pub items-past : l .end ≤ from → Wrote (each f (items room (m .end) (m .place) 0)) out at out′ at′
-  unfolding items
-  items-past h = let z : l .end - from ≡ 0 = omega arith in items-out (rw z)
+pub items-start : (f : ℕ → Seq ℕ) (room : Seq ℕ) (v : Items) (out : Seq ℕ) (at : ℕ) → Walked f room v out at v out at
+items-start f room v out at = record { left = left-start f (toCome room v) out at; among = refl }
 
-  pub items-none : (found : Found) → Finds from (l .end) (child room (l .end) (l .place) from) found → found ≡ Nothing → Wrote (each f (items room (m .end) (m .place) 0)) out at out′ at′
-  items-none found h g = items-out (items-end room (l .end) (l .place) from found h g)
+module _ (f : ℕ → Seq ℕ) (room : Seq ℕ) (v : Items) (out : Seq ℕ) (at : ℕ) (w : Items) (out′ : Seq ℕ) (at′ : ℕ) (k : Walked f room v out at w out′ at′) where
+  pub items-long : length out′ ≡ length out
+  items-long = left-long f (toCome room v) out at (toCome room w) out′ at′ (k .left)
 
-module _ (f : ℕ → Seq ℕ) (room : Seq ℕ) (end place : ℕ) (out : Seq ℕ) (at from : ℕ) (out′ : Seq ℕ) (at′ : ℕ)
-    (k : Left f (items room end place 0) (items room end place from) out at out′ at′) (found : Found) (h : Finds from end (child room end place from) found) (n : ℕ) (g : found ≡ At n) where
-  pub items-on : (out″ : Seq ℕ) (at″ : ℕ) → Wrote (f n) out′ at′ out″ at″ → Left f (items room end place 0) (items room end place (n + 1)) out at out″ at″
-  items-on = left-on f (items room end place 0) out at (items room end place from) out′ at′ k n (items room end place (n + 1)) (items-step room end place from n found h g)
+  module _ (step : Item) (h : Gives room w step) where
+    pub items-none : (l m : List) → l ≡ m → v ≡ itemsFrom (l .place) 0 (l .end) → step ≡ given.End → Wrote (each f (items room (m .end) (m .place) 0)) out at out′ at′
+    items-none l m d e g = rw (e, d) at (left-end f (toCome room v) out at (toCome room w) out′ at′ (k .left) (item-ended room w step h g))
+
+    pub items-on : (n : ℕ) (rest : Items) → step ≡ given.At n rest → (out″ : Seq ℕ) (at″ : ℕ) → Wrote (f n) out′ at′ out″ at″ → Walked f room v out at rest out″ at″
+    items-on n rest g out″ at″ x =
+        let s = item-given room w step h n rest g in
+        record { left = left-on f (toCome room v) out at (toCome room w) out′ at′ (k .left) n (toCome room rest) (s .come) out″ at″ x; among = s .end ∙ k .among }
 
 -- ---- steps by key
 
-module _ (f : ℕ → Seq ℕ) (room store : Seq ℕ) (l m : List) (d : l ≡ m) (out : Seq ℕ) (at : ℕ) (after : Found) (i : ℕ) (out′ : Seq ℕ) (at′ : ℕ)
-    (k : Left f (walk room store (l .end) (l .place) 65 Nothing) (walk room store (l .end) (l .place) (65 - i) after) out at out′ at′) where
-  keys-out : walk room store (l .end) (l .place) (65 - i) after ≡ [] → Wrote (each f (walk room store (m .end) (m .place) 65 Nothing)) out at out′ at′
-  keys-out e = rw d at (left-end f (walk room store (l .end) (l .place) 65 Nothing) out at (walk room store (l .end) (l .place) (65 - i) after) out′ at′ k e)
+-- the lines of the keys met, on a walk that began as v
+pub record Keyed (f : ℕ → Seq ℕ) (room store : Seq ℕ) (v : Keys) (out : Seq ℕ) (at : ℕ) (w : Keys) (i : ℕ) (out′ : Seq ℕ) (at′ : ℕ) : Type 0 where
+  pub over : Over room (v .place) (v .end) w
+  pub left : Left f (walk room store (v .end) (v .place) 65 Nothing) (walk room store (v .end) (v .place) (65 - i) (w .after)) out at out′ at′
 
-  pub keys-past : 65 ≤ i → Wrote (each f (walk room store (m .end) (m .place) 65 Nothing)) out at out′ at′
-  keys-past h = let z : 65 - i ≡ 0 = omega arith in keys-out (rw z)
+pub keys-start : (f : ℕ → Seq ℕ) (room store : Seq ℕ) (place end : ℕ) (v : Keys) (out : Seq ℕ) (at : ℕ) → Begins room place end Nothing v → Keyed f room store v out at v 0 out at
+keys-start f room store place end v out at b =
+    record { over = record { ready = b .over .ready; place = refl; end = refl }; left = rw (b .after) (left-start f (walk room store (v .end) (v .place) 65 Nothing) out at) }
 
-  pub keys-none : i < 65 → (found : Found) → Finds 0 (l .end) (next (slotAt room) store (l .end) (l .place) after) found → found ≡ Nothing
-      → Wrote (each f (walk room store (m .end) (m .place) 65 Nothing)) out at out′ at′
-  keys-none b found h g =
-      let z : 65 - i ≡ suc (64 - i) = omega arith in
-      let e : next (slotAt room) store (l .end) (l .place) after ≡ Nothing = sym (h .is) ∙ g in
-      keys-out (rw (z, e))
+module _ (f : ℕ → Seq ℕ) (room store : Seq ℕ) (v : Keys) (out : Seq ℕ) (at : ℕ) (w : Keys) (i : ℕ) (out′ : Seq ℕ) (at′ : ℕ) (k : Keyed f room store v out at w i out′ at′) where
+  pub keys-long : length out′ ≡ length out
+  keys-long = left-long f (walk room store (v .end) (v .place) 65 Nothing) out at (walk room store (v .end) (v .place) (65 - i) (w .after)) out′ at′ (k .left)
 
-module _ (f : ℕ → Seq ℕ) (room store : Seq ℕ) (end place : ℕ) (out : Seq ℕ) (at : ℕ) (after : Found) (i : ℕ) (out′ : Seq ℕ) (at′ : ℕ)
-    (k : Left f (walk room store end place 65 Nothing) (walk room store end place (65 - i) after) out at out′ at′) (b : i < 65)
-    (found : Found) (h : Finds 0 end (next (slotAt room) store end place after) found) (n : ℕ) (g : found ≡ At n) where
-  pub keys-on : (out″ : Seq ℕ) (at″ : ℕ) → Wrote (f n) out′ at′ out″ at″ → Left f (walk room store end place 65 Nothing) (walk room store end place (65 - (i + 1)) (At n)) out at out″ at″
-  keys-on =
-      let z : 65 - i ≡ suc (65 - (i + 1)) = omega arith in
-      let e : next (slotAt room) store end place after ≡ At n = sym (h .is) ∙ g in
-      left-on f (walk room store end place 65 Nothing) out at (walk room store end place (65 - i) after) out′ at′ k n (walk room store end place (65 - (i + 1)) (At n)) (rw (z, e))
+  module _ (l m : List) (d : l ≡ m) (b : Begins room (l .place) (l .end) Nothing v) where
+    here : Keyed f room store (record { place = m .place; low = v .low; end = m .end; after = v .after }) out at w i out′ at′
+    here = rw (b .over .place, b .over .end, d) at k
 
--- ---- partitions
+    keys-out : walk room store (m .end) (m .place) (65 - i) (w .after) ≡ [] → Wrote (each f (walk room store (m .end) (m .place) 65 Nothing)) out at out′ at′
+    keys-out e = left-end f (walk room store (m .end) (m .place) 65 Nothing) out at (walk room store (m .end) (m .place) (65 - i) (w .after)) out′ at′ (here .left) e
 
-module _ (room store : Seq ℕ) (made : ℕ) (end place : ℕ) (out : Seq ℕ) (at : ℕ) where
-  pub parts-on : (from : ℕ) (out′ : Seq ℕ) (at′ : ℕ) → Left (shown.partAt room store made) (items room end place 0) (items room end place from) out at out′ at′
-      → (found : Found) → Finds from end (child room end place from) found → (n : ℕ) → found ≡ At n
-      → (r : PartitionRead) → r ≡ partitionAt room store made n → (out″ : Seq ℕ) (at″ : ℕ) → Wrote (shown.part store (r .partition)) out′ at′ out″ at″
-      → Left (shown.partAt room store made) (items room end place 0) (items room end place (n + 1)) out at out″ at″
-  parts-on from out′ at′ k found h n g r e out″ at″ w = items-on (shown.partAt room store made) room end place out at from out′ at′ k found h n g out″ at″ (rw e at w)
+    pub keys-past : 65 ≤ i → Wrote (each f (walk room store (m .end) (m .place) 65 Nothing)) out at out′ at′
+    keys-past h = let z : 65 - i ≡ 0 = omega arith in keys-out (rw z)
 
--- the partitions stand among the values made
-pub parts-within : (room store : Seq ℕ) (made : ℕ) (l : List) → Rooms room made → l ≡ partitionList room store made → l .end ≤ made
-parts-within room store made l r e = partitions-among room store made l r e .end
+    pub keys-none : (step : Key) → KeyGives room store w step → step ≡ keyed.End → Wrote (each f (walk room store (m .end) (m .place) 65 Nothing)) out at out′ at′
+    keys-none step h g = keys-out (walk-ended room store (m .place) (m .end) w (here .over) step h (65 - i) g)
+
+  module _ (step : Key) (h : KeyGives room store w step) (n : ℕ) (rest : Keys) (g : step ≡ keyed.At n rest) where
+    pub keys-on : i < 65 → (out″ : Seq ℕ) (at″ : ℕ) → Wrote (f n) out′ at′ out″ at″ → Keyed f room store v out at rest (i + 1) out″ at″
+    keys-on c out″ at″ x =
+        let z : 65 - i ≡ suc (65 - (i + 1)) = omega arith in
+        let s : walk room store (v .end) (v .place) (65 - i) (w .after) ≡ n ∷ walk room store (v .end) (v .place) (65 - (i + 1)) (rest .after)
+        = rw z (walk-given room store (v .place) (v .end) w (k .over) step h (65 - (i + 1)) n rest g) in
+        record {
+          over = key-given room store (v .place) (v .end) w (k .over) step h n rest g .over;
+          left = left-on f (walk room store (v .end) (v .place) 65 Nothing) out at (walk room store (v .end) (v .place) (65 - i) (w .after)) out′ at′ (k .left) n
+              (walk room store (v .end) (v .place) (65 - (i + 1)) (rest .after)) s out″ at″ x;
+        }
+
+    pub keys-stood : (made : ℕ) (l : List) → Begins room (l .place) (l .end) Nothing v → Rooms room made → l .end ≤ made → Stood room n
+    keys-stood made l b r e =
+        let a : v .end ≤ made = omega (arith, b .over .end, e) in
+        key-stands room store (v .place) (v .end) w (k .over) step h n rest g made r a
+
+-- ---- what a line is made of
+
+pub parts-on : (room store : Seq ℕ) (made : ℕ) (v : Items) (out : Seq ℕ) (at : ℕ) (w : Items) (out′ : Seq ℕ) (at′ : ℕ)
+    → Walked (shown.partAt room store made) room v out at w out′ at′ → (step : Item) → Gives room w step → (n : ℕ) (rest : Items) → step ≡ given.At n rest
+    → (r : PartitionRead) → r ≡ partitionAt room store made n → (out″ : Seq ℕ) (at″ : ℕ) → Wrote (shown.part store (r .partition)) out′ at′ out″ at″
+    → Walked (shown.partAt room store made) room v out at rest out″ at″
+parts-on room store made v out at w out′ at′ k step h n rest g r e out″ at″ x = items-on (shown.partAt room store made) room v out at w out′ at′ k step h n rest g out″ at″ (rw e at x)
+
+module _ (room store : Seq ℕ) (made : ℕ) (name : Seq ℕ) where
+  pub comps-on : (v : Items) (out : Seq ℕ) (at : ℕ) (w : Items) (out′ : Seq ℕ) (at′ : ℕ)
+      → Walked (shown.compAt room store made name) room v out at w out′ at′ → (step : Item) → Gives room w step → (n : ℕ) (rest : Items) → step ≡ given.At n rest
+      → (x : ComponentBrief) → x ≡ shown.componentBrief (componentAt room store made n 32 .component) → (out″ : Seq ℕ) (at″ : ℕ) → Wrote (shown.comp store name x) out′ at′ out″ at″
+      → Walked (shown.compAt room store made name) room v out at rest out″ at″
+  comps-on v out at w out′ at′ k step h n rest g x e out″ at″ y = items-on (shown.compAt room store made name) room v out at w out′ at′ k step h n rest g out″ at″ (rw e at y)
+
+  pub apps-on : (v : Keys) (out : Seq ℕ) (at : ℕ) (w : Keys) (i : ℕ) (out′ : Seq ℕ) (at′ : ℕ) → Keyed (shown.appAt room store made name) room store v out at w i out′ at′
+      → (step : Key) → KeyGives room store w step → (n : ℕ) (rest : Keys) → step ≡ keyed.At n rest → i < 65
+      → (x : ApplicationBrief) → x ≡ shown.applicationBrief (applicationAt room store made n 32 .application) → (out″ : Seq ℕ) (at″ : ℕ) → Wrote (shown.app store name x) out′ at′ out″ at″
+      → Keyed (shown.appAt room store made name) room store v out at rest (i + 1) out″ at″
+  apps-on v out at w i out′ at′ k step h n rest g c x e out″ at″ y = keys-on (shown.appAt room store made name) room store v out at w i out′ at′ k step h n rest g c out″ at″ (rw e at y)
+
+-- ---- the lists of a preset in the rooms
+
+pub stands : (room store : Seq ℕ) (made : ℕ) (l : Lists) → Rooms room made → l ≡ listsOf room store made → shown.Stands room store (record { made = made; lists = l })
+stands room store made l r e = record { rooms = r; lists = e }
+
+module _ (room store : Seq ℕ) (p : Placed) (h : shown.Stands room store p) where
+  pub parts-list : p .lists .partitions ≡ partitionList room store (p .made)
+  parts-list = ap (λ (x : Lists). x .partitions) (h .lists)
+
+  pub comps-list : p .lists .components ≡ componentList room store (p .made)
+  comps-list = ap (λ (x : Lists). x .components) (h .lists)
+
+  pub apps-list : p .lists .applications ≡ applicationList room store (p .made)
+  apps-list = ap (λ (x : Lists). x .applications) (h .lists)
+
+  parts-within : p .lists .partitions .end ≤ p .made
+  parts-within = partitions-among room store (p .made) (p .lists .partitions) (h .rooms) parts-list .end
+
+  comps-within : p .lists .components .end ≤ p .made
+  comps-within = components-among room store (p .made) (p .lists .components) (h .rooms) comps-list .end
+
+  pub apps-within : p .lists .applications .end ≤ p .made
+  apps-within = applications-among room store (p .made) (p .lists .applications) (h .rooms) apps-list .end
+
+  pub apps-hold : Holds room (p .lists .applications .end)
+  apps-hold = applications-hold room store (p .made) (p .lists .applications) (h .rooms) apps-list
+
+  module _ (v w : Items) (k : w .end ≡ v .end) where
+    walk-end : (l : List) → v ≡ itemsFrom (l .place) 0 (l .end) → w .end ≡ l .end
+    walk-end l e = k ∙ ap (λ (x : Items). x .end) e
+
+    module _ (ev : v ≡ itemsFrom (p .lists .partitions .place) 0 (p .lists .partitions .end)) where
+      low : w .end ≤ p .made
+      low = let a = walk-end (p .lists .partitions) ev in omega (arith, a, parts-within)
+
+      pub parts-hold : Holds room (w .end)
+      parts-hold = item-room room (p .made) w (h .rooms) low
+
+      pub parts-stood : (step : Item) → Gives room w step → (n : ℕ) (rest : Items) → step ≡ given.At n rest → Stood room n
+      parts-stood step s n rest g = item-stands room w step s n rest g (p .made) (h .rooms) low
+
+    module _ (ev : v ≡ itemsFrom (p .lists .components .place) 0 (p .lists .components .end)) where
+      low′ : w .end ≤ p .made
+      low′ = let a = walk-end (p .lists .components) ev in omega (arith, a, comps-within)
+
+      pub comps-hold : Holds room (w .end)
+      comps-hold = item-room room (p .made) w (h .rooms) low′
+
+      pub comps-stood : (step : Item) → Gives room w step → (n : ℕ) (rest : Items) → step ≡ given.At n rest → Stood room n
+      comps-stood step s n rest g = item-stands room w step s n rest g (p .made) (h .rooms) low′
 
 -- ---- builds
 

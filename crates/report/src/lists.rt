@@ -2,11 +2,15 @@
 
 use crate::Placed;
 use plan::choice::Choice;
-use tree::Found;
+use tree::Item;
+use tree::Key;
 ghost use Rattle.tree.specs.Doors.{Rooms};
 ghost use Rattle.page.specs.Page.{Wrote};
 ghost use Rattle.report.specs.Shown as shown;
 ghost use Rattle.report.specs.Shown.{Stands};
+
+// One more than there may be.
+const APPLICATIONS_ASKED: usize = 65;
 
 // The partitions, in their order.
 pub fn parts(out: &mut [u8], at: usize, tree: &[u8], store: &[u8], p: Placed) -> usize
@@ -16,23 +20,20 @@ pub fn parts(out: &mut [u8], at: usize, tree: &[u8], store: &[u8], p: Placed) ->
     let made = p.made;
     let lists = p.lists;
     let l = lists.partitions;
-    let place = l.place;
-    let end = l.end;
     let mut to = at;
-    let mut from = 0;
-    while from < end {
-        let found = tree::child(tree, end, place, from);
-        match found {
-            Found::Nothing => return to,
-            Found::At(n) => {
-                let r = parse::entry::partition_at(tree, store, made, n);
+    let mut w = tree::items_of(l.place, l.end);
+    loop {
+        let step = tree::next_item(tree, w);
+        match step {
+            Item::End => return to,
+            Item::At { value, rest } => {
+                let r = parse::entry::partition_at(tree, store, made, value);
                 let p = r.partition;
                 to = crate::line::part(out, to, store, p);
-                from = n + 1;
+                w = rest;
             }
         }
     }
-    to
 }
 
 // The components, in their order.
@@ -44,22 +45,19 @@ pub fn comps(out: &mut [u8], at: usize, tree: &[u8], store: &[u8], name: &[u8], 
     let made = p.made;
     let lists = p.lists;
     let l = lists.components;
-    let place = l.place;
-    let end = l.end;
     let mut to = at;
-    let mut from = 0;
-    while from < end {
-        let found = tree::child(tree, end, place, from);
-        match found {
-            Found::Nothing => return to,
-            Found::At(n) => {
-                let x = crate::brief::component(tree, store, made, n);
+    let mut w = tree::items_of(l.place, l.end);
+    loop {
+        let step = tree::next_item(tree, w);
+        match step {
+            Item::End => return to,
+            Item::At { value, rest } => {
+                let x = crate::brief::component(tree, store, made, value);
                 to = crate::line::comp(out, to, store, name, x);
-                from = n + 1;
+                w = rest;
             }
         }
     }
-    to
 }
 
 // The applications, in byte order of key.
@@ -71,19 +69,16 @@ pub fn apps(out: &mut [u8], at: usize, tree: &[u8], store: &[u8], name: &[u8], p
     let made = p.made;
     let lists = p.lists;
     let l = lists.applications;
-    let place = l.place;
-    let end = l.end;
-    let low = tree::skip_up(tree, end, place, 0);
     let mut to = at;
-    let mut after = Found::Nothing;
-    for _i in 0..65usize {
-        let found = tree::next(tree, store, low, end, place, after);
-        match found {
-            Found::Nothing => return to,
-            Found::At(n) => {
-                let x = crate::brief::application(tree, store, made, n);
+    let mut w = tree::keys_of(tree, l.place, l.end);
+    for _i in 0..APPLICATIONS_ASKED {
+        let step = tree::next_key(tree, store, w);
+        match step {
+            Key::End => return to,
+            Key::At { value, rest } => {
+                let x = crate::brief::application(tree, store, made, value);
                 to = crate::line::app(out, to, store, name, x);
-                after = Found::At(n);
+                w = rest;
             }
         }
     }
@@ -112,7 +107,7 @@ pub fn builds(
         let x = plan::builds::build_at(u);
         let package = x.package;
         let list = x.features;
-        let n = features::count(tree, store, made, list);
+        let n = features::count_features(tree, store, made, list);
         to = crate::line::build(out, to, store, name, package, n);
     }
     to

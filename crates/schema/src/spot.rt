@@ -32,8 +32,8 @@ pub fn no_spot() -> Spot
     }
 }
 
-// No text of the store is longer than 65535 bytes, or begins further on.
-fn bytes_spot(from: usize, len: usize) -> Spot
+// Some bytes of the store. No text there is longer than 65535 bytes, or begins further on.
+pub fn bytes_spot(from: usize, len: usize) -> Spot
     ensures { λ r. ⌜ r ≡ spots.bytesSpot from len ⌝ }
 {
     Spot {

@@ -20,7 +20,7 @@ marked tree at a b h =
     ∙ stored-cons (set tree at a) [] (at + 1) b (mark-second tree at a h)
     ∙ stored-cons tree (b ∷ []) at a (omega arith)
 
--- three stores behind each other
+-- three stores one after the other
 three : (tree t₀ t₁ t₂ xs ys zs : List ℕ) (at p q : ℕ) → at ≤ length tree → p ≡ at + length xs → q ≡ at + length (xs ++ ys)
     → t₀ ≡ stored tree at xs → t₁ ≡ stored t₀ p ys → t₂ ≡ stored t₁ q zs → t₂ ≡ stored tree at (xs ++ (ys ++ zs))
 three tree t₀ t₁ t₂ xs ys zs at p q h e f g₀ g₁ g₂ =

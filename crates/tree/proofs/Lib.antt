@@ -3,3 +3,4 @@ pub mod Walks
 pub mod Ranking
 pub mod Opening
 pub mod Skipping
+pub mod Stepping

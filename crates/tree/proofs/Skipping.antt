@@ -115,7 +115,7 @@ module _ (tree : List ℕ) (parent : ℕ) where
       let f : i + suc d ≡ suc (i + d) = omega arith in
       rw (f, h (i + d) (omega arith) (omega arith)) (newest-over i d (λ (j : ℕ). λ (g : i ≤ j). λ (l : j < i + d). h j g (omega arith)))
 
--- child begins behind them
+-- child begins after them
 pub walk-skipped : (tree : List ℕ) (made parent from n : ℕ) → Clear tree parent from n → Walking tree made parent from n
 unfolding child
 walk-skipped tree made parent from n c =
@@ -162,7 +162,7 @@ abbrev orFound : Found → Found → Found
 orFound (At n) d = At n
 orFound Nothing d = d
 
--- nothing behind it
+-- nothing after it
 none-left : (r : Found) → orFound r Nothing ≡ r
 none-left (At n) = refl
 none-left Nothing = refl

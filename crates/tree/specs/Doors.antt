@@ -47,7 +47,7 @@ valueAt room store n = valueOf (slotAt room n) (length store) (n + 2)
 
 -- ---- a table's fields
 
--- one behind the newest of the values made that hangs under the parent; 0 where none does
+-- one past the newest of the values made that hangs under the parent; 0 where none does
 abbrev pub newest : List ℕ → ℕ → ℕ → ℕ
 newest room zero parent = 0
 newest room (suc n) parent = pick (under room n parent) (suc n) (newest room n parent)
@@ -56,7 +56,7 @@ abbrev pub orElse : Found → ℕ → ℕ
 orElse (At n) d = n
 orElse Nothing d = d
 
--- a table's place, its first child and one behind its newest
+-- a table's place, its first child and one past its newest
 unfoldable pub fieldsOf : List ℕ → ℕ → ℕ → Fields
 fieldsOf room made place =
     record {
@@ -79,6 +79,10 @@ pub record Spread (room : List ℕ) (f : Fields) : Type 0 where
 abbrev pub lookIn : List ℕ → List ℕ → ℕ → ℕ → ℕ → List ℕ → Found
 lookIn room store from zero parent key = Nothing
 lookIn room store from (suc k) parent key = pick (mine room store (from + k) parent key) (At (from + k)) (lookIn room store from k parent key)
+
+-- the newest from one number to before another
+abbrev pub sought : List ℕ → List ℕ → ℕ → ℕ → ℕ → List ℕ → Found
+sought room store from to parent key = lookIn room store from (to - from) parent key
 
 unfoldable pub among : List ℕ → List ℕ → Fields → List ℕ → Found
 among room store f key = lookIn room store (f .from) (f .to - f .from) (f .place) key

@@ -135,7 +135,7 @@ found-below r high n b e = rw e at b
 pub found-from : (r : Found) (low n : ℕ) → From low r → r ≡ At n → low ≤ n
 found-from r low n b e = rw e at b
 
--- the next search begins behind what was found, so a walk ends
+-- the next search begins after what was found, so a walk ends
 pub found-less : (r : Found) (low high n : ℕ) → From low r → Below high r → r ≡ At n → high - (n + 1) < high - low
 found-less r low high n a b e = omega (arith, found-from r low n a e, found-below r high n b e)
 

@@ -5,4 +5,5 @@ pub mod Short
 pub mod Laws
 pub mod Order
 pub mod Nearest
+pub mod Steps
 pub mod Examples

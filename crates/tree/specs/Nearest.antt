@@ -168,7 +168,7 @@ module _ (at : ℕ → Slot) (store : List ℕ) where
           go (At m) b = ap At (next-one 0 made m n b h)
           go Nothing b = never (h .here) (b n (h .from) (h .below))
 
-      -- behind what is not made comes nothing
+      -- after what is not made comes nothing
       pub next-unmade : (made : ℕ) → isMade made after ≡ false → next at store made parent after ≡ Nothing
       unfolding next
       next-unmade made e = rw e

@@ -46,13 +46,17 @@ module _ (at : ℕ → Slot) (store : List ℕ) where
     nearest zero best = best
     nearest (suc n) best = nearest n (better best n)
 
+    -- the nearest of n values
+    abbrev pub nearestOf : ℕ → Found
+    nearestOf n = nearest n Nothing
+
 -- the value that a search found before is made
 abbrev pub isMade : ℕ → Found → Bool
 isMade made (At m) = ltb m made
 isMade made Nothing = true
 
 -- the value of the next key: among the values made that hang under the parent with a key above, one with the least key, and of those the newest;
--- behind a value that is not made, or has no key, comes nothing
+-- after a value that is not made, or has no key, comes nothing
 unfoldable pub next : (ℕ → Slot) → List ℕ → ℕ → ℕ → Found → Found
 next at store made parent after = pick (isMade made after) (nearest at store parent after made Nothing) Nothing
 

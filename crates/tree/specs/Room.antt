@@ -6,6 +6,7 @@ use mathlib.Core.Path.{_≡_}
 use lib.Dec.{eqb, leb}
 use lib.ListN.{length, getD}
 use Rattle.meaning.specs.Base.{pick, zeros, same, part}
+use Rattle.laws.specs.Stored.{stored}
 use Rattle.slices.specs.Numbers.{little, number}
 use Rattle.tree.specs.declared.Slot.{Slot}
 use Rattle.tree.specs.declared.Found.{Found}
@@ -40,6 +41,10 @@ slotAt room n =
 -- the same value under a parent with a key
 abbrev pub hung : ℕ → ℕ → ℕ → Slot → Slot
 hung parent key len v = record { kind = v .kind; parent = parent; key = key; len = len; «data» = v .«data» }
+
+-- value number n hung up, in the room
+abbrev pub hungAt : List ℕ → ℕ → ℕ → ℕ → ℕ → List ℕ
+hungAt room n parent key len = stored room (32 * n) (cell (hung parent key len (slotAt room n)))
 
 -- the fields fit their bytes
 pub record Sized (v : Slot) : Type 0 where

@@ -71,7 +71,7 @@ module _ (room : List ℕ) (parent : ℕ) where
       let p : under room i parent ≡ false = h i (omega arith) (omega arith) in
       rw (s, e, p) (first-items d k (i + 1) (λ j l m. h j (omega arith) (omega arith)))
 
-  -- from a child on: the child, and the items behind it
+  -- from a child on: the child, and the items after it
   cons-items : (k i n : ℕ) → first room parent k i ≡ At n → itemsIn room parent k i ≡ n ∷ itemsIn room parent (i + k - (n + 1)) (n + 1)
   cons-items zero i n e = let z : _≡_ {A = ℕ} 0 1 = cc in absurd (omega arith)
   cons-items (suc k) i n e =
@@ -177,7 +177,7 @@ module _ (room : List ℕ) (made parent from : ℕ) where
       let d : made - from ≡ 0 = omega (arith, leb-false from made t) in
       absurd (omega (arith, among-items room parent 0 from i n (rw d at e))))
 
-  -- a walk's step: the child and the items behind it, or none
+  -- a walk's step: the child and the items after it, or none
   pub items-next : (n : ℕ) → child room made parent from ≡ At n → items room made parent from ≡ n ∷ items room made parent (n + 1)
   unfolding child items
   items-next n e =

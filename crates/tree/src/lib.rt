@@ -11,9 +11,22 @@ ghost use Rattle.tree.specs.Doors as doors;
 ghost use Rattle.tree.specs.Doors.{Stood, Spread};
 ghost use Rattle.tree.specs.Order as order;
 ghost use Rattle.tree.specs.Order.{Stands};
+ghost use Rattle.tree.specs.Steps as steps;
+ghost use Rattle.tree.specs.Steps.{Gives, Ready, Begins, KeyGives};
 
-// A value. Its kind: 1 string, 2 integer, 3 boolean, 4 array, 5 table, 6 integer with a minus. Its parent: 0 none yet, 1 the root, n + 2 value number n.
-// Its key is len bytes of the text store. Its data: an integer's magnitude; start + 65536 * length of a string; 0 or 1; else 0.
+// Bytes per value.
+const WIDTH: usize = 32;
+
+// How many values a search tests before it decides to go on.
+const BLOCK: usize = 8;
+
+// A string's data has its start in the low two bytes and its length above.
+const STRING_UNIT: u64 = 65536;
+
+const STRING_MOST: u64 = 4294967295;
+
+// A value. Its kind: 1 string, 2 integer, 3 boolean, 4 array, 5 table, 6 integer with a minus.
+// Its parent: 0 none yet, 1 the root, n + 2 value number n. Its key is len bytes of the text store. Its data: an integer's magnitude; start + 65536 * length of a string; 0 or 1; else 0.
 pub struct Slot {
     pub kind: u8,
     pub parent: u16,
@@ -27,7 +40,7 @@ pub enum Found {
     Nothing,
 }
 
-// What a value is: a string's bytes in the text store, an integer, a boolean, or the place under which an array's items or a table's fields hang.
+// What a value is: a string's bytes in the text store, an integer, a boolean, or the place where an array's items or a table's fields hang.
 pub enum Value {
     Absent,
     Text { from: usize, len: usize },
@@ -44,6 +57,40 @@ pub struct Fields {
     pub to: usize,
 }
 
+// Where a value's key stands in the text store.
+pub struct Span {
+    pub from: usize,
+    pub len: usize,
+}
+
+// A walk over what hangs under a place, in the order of the text: an array's items, a list's entries.
+// It goes on at a number, among so many values made.
+pub struct Items {
+    pub place: u16,
+    pub at: usize,
+    pub end: usize,
+}
+
+// The next of them, and the walk over the rest.
+pub enum Item {
+    End,
+    At { value: usize, rest: Items },
+}
+
+// A walk over a table's keys in byte order, each key once. It goes on after a value; below a low number nothing hangs under the place.
+pub struct Keys {
+    pub place: u16,
+    pub low: usize,
+    pub end: usize,
+    pub after: Found,
+}
+
+// The newest value of the next key, and the walk over the rest.
+pub enum Key {
+    End,
+    At { value: usize, rest: Keys },
+}
+
 // Bytes per value.
 pub fn width() -> u32
     ensures { λ r. ⌜ r ≡ 32 ⌝ }
@@ -55,10 +102,10 @@ pub fn width() -> u32
 pub fn capacity(tree: &[u8]) -> usize
     ensures { λ r. ⌜ r ≡ length (now (tree .entry)) / 32 ⌝ }
 {
-    tree.len() / 32
+    tree.len() / WIDTH
 }
 
-// The kind and the spare byte behind it.
+// The kind and the spare byte after it.
 fn mark(tree: &mut [u8], at: usize, kind: u8)
     requires { ⌜ at + 2 ≤ length (now tree) ⌝ }
     ensures { λ _. ⌜ now (tree .exit) ≡ stored (now (tree .entry)) at (kind ∷ 0 ∷ []) ⌝ }
@@ -77,7 +124,7 @@ fn link(tree: &mut [u8], at: usize, v: Slot)
     slices::put2(tree, at + 4, v.len);
 }
 
-// What a value is, and the spare bytes behind it.
+// What a value is, and the spare bytes after it.
 fn fill(tree: &mut [u8], at: usize, v: Slot)
     requires { ⌜ at + 24 ≤ length (now tree) ⌝ }
     ensures { λ _. ⌜ now (tree .exit) ≡ stored (now (tree .entry)) at (room.body v) ⌝ }
@@ -92,42 +139,71 @@ pub fn put(tree: &mut [u8], n: usize, v: Slot)
     requires { ⌜ Holds (now tree) (n + 1) ⌝ }
     ensures { λ _. ⌜ now (tree .exit) ≡ stored (now (tree .entry)) (32 * n) (cell v) ⌝ }
 {
-    let at = 32 * n;
+    let at = WIDTH * n;
     mark(tree, at, v.kind);
     link(tree, at + 2, v);
     fill(tree, at + 8, v);
 }
 
 // Reads value number n.
-pub fn get(tree: &[u8], n: usize) -> Slot
+fn get(tree: &[u8], n: usize) -> Slot
     requires { ⌜ Holds (now tree) (n + 1) ⌝ }
     ensures { λ r. ⌜ r ≡ slotAt (now (tree .entry)) n ⌝ }
 {
-    let at = 32 * n;
+    let at = WIDTH * n;
     let parent = slices::get2(tree, at + 2);
     let key = slices::get2(tree, at + 4);
     let len = slices::get2(tree, at + 6);
     let data = slices::get8(tree, at + 8);
     Slot {
         kind: tree[at],
-        parent: parent,
-        key: key,
-        len: len,
-        data: data,
+        parent,
+        key,
+        len,
+        data,
+    }
+}
+
+// Value number n as it stands, for whoever looks at a room from outside.
+pub fn show_slot(tree: &[u8], n: usize) -> Slot
+    requires { ⌜ Holds (now tree) (n + 1) ⌝ }
+    ensures { λ r. ⌜ r ≡ slotAt (now (tree .entry)) n ⌝ }
+{
+    get(tree, n)
+}
+
+// The kind of value number n.
+pub fn kind_at(tree: &[u8], n: usize) -> u8
+    requires { ⌜ Holds (now tree) (n + 1) ⌝ }
+    ensures { λ r. ⌜ r ≡ slotAt (now (tree .entry)) n .kind ⌝ }
+{
+    let v = get(tree, n);
+    v.kind
+}
+
+// The key of value number n.
+pub fn key_at(tree: &[u8], n: usize) -> Span
+    requires { ⌜ Holds (now tree) (n + 1) ⌝ }
+    ensures { λ r. ⌜ steps.KeyIs (now (tree .entry)) n r ⌝ }
+{
+    let v = get(tree, n);
+    Span {
+        from: v.key as usize,
+        len: v.len as usize,
     }
 }
 
 // Hangs value number n up under a parent, with a key; an array's item has the key of no bytes.
 pub fn hang(tree: &mut [u8], n: usize, parent: u16, key: u16, len: u16)
     requires { ⌜ Holds (now tree) (n + 1) ⌝ }
-    ensures { λ _. ⌜ now (tree .exit) ≡ stored (now (tree .entry)) (32 * n) (cell (hung parent key len (slotAt (now (tree .entry)) n))) ⌝ }
+    ensures { λ _. ⌜ now (tree .exit) ≡ room.hungAt (now (tree .entry)) n parent key len ⌝ }
 {
     let v = get(tree, n);
     let w = Slot {
         kind: v.kind,
-        parent: parent,
-        key: key,
-        len: len,
+        parent,
+        key,
+        len,
         data: v.data,
     };
     put(tree, n, w);
@@ -138,17 +214,18 @@ fn under(tree: &[u8], n: usize, parent: u16) -> bool
     requires { ⌜ Holds (now tree) (n + 1) ⌝ }
     ensures { λ r. ⌜ r ≡ room.under (now (tree .entry)) n parent ⌝ }
 {
-    let at = 32 * n;
+    let at = WIDTH * n;
     slices::get2(tree, at + 2) == parent
 }
 
-// Whether none of the 8 values from number n on hangs under the parent. Their tests stand one behind the other in the machine's code, which is quicker than a loop over all values.
+// Whether none of a block of values from number n on hangs under the parent. Their tests stand one after the other in the machine's code,
+// which is quicker than a loop over all values.
 fn idle(tree: &[u8], n: usize, parent: u16) -> bool
     requires { ⌜ Holds (now tree) (n + 8) ⌝ }
     ensures { λ r. ⌜ r ≡ room.idle (now (tree .entry)) parent 8 n ⌝ }
 {
     let mut k = 0;
-    while k < 8 {
+    while k < BLOCK {
         if under(tree, n + k, parent) {
             return false;
         }
@@ -157,8 +234,8 @@ fn idle(tree: &[u8], n: usize, parent: u16) -> bool
     true
 }
 
-// Up from a number, 8 values at a time, as long as none of them hangs under the parent.
-pub fn skip_up(tree: &[u8], made: usize, parent: u16, from: usize) -> usize
+// Up from a number, a block at a time, as long as none of its values hangs under the parent.
+fn skip_up(tree: &[u8], made: usize, parent: u16, from: usize) -> usize
     requires { ⌜ Holds (now tree) made ⌝ }
     ensures { λ r. ⌜ Clear (now (tree .entry)) parent from r ⌝ }
 {
@@ -166,9 +243,9 @@ pub fn skip_up(tree: &[u8], made: usize, parent: u16, from: usize) -> usize
         return from;
     }
     let mut n = from;
-    while 8 <= made - n {
+    while BLOCK <= made - n {
         if idle(tree, n, parent) {
-            n += 8;
+            n += BLOCK;
         } else {
             return n;
         }
@@ -176,15 +253,15 @@ pub fn skip_up(tree: &[u8], made: usize, parent: u16, from: usize) -> usize
     n
 }
 
-// Down from the newest of the values made, 8 at a time, as long as none of them hangs under the parent.
+// Down from the newest of the values made, a block at a time, as long as none of its values hangs under the parent.
 fn skip_down(tree: &[u8], made: usize, parent: u16) -> usize
     requires { ⌜ Holds (now tree) made ⌝ }
     ensures { λ r. ⌜ Clear (now (tree .entry)) parent r made ⌝ }
 {
     let mut i = made;
-    while 8 <= i {
-        if idle(tree, i - 8, parent) {
-            i -= 8;
+    while BLOCK <= i {
+        if idle(tree, i - BLOCK, parent) {
+            i -= BLOCK;
         } else {
             return i;
         }
@@ -218,7 +295,7 @@ fn mine(tree: &[u8], store: &[u8], n: usize, parent: u16, key: &[u8]) -> bool
 // The newest of the values from one number to before another that hangs under the parent with the key.
 fn seek(tree: &[u8], store: &[u8], from: usize, to: usize, parent: u16, key: &[u8]) -> Found
     requires { ⌜ (from ≤ to) × Holds (now tree) to ⌝ }
-    ensures { λ r. ⌜ Finds from to (doors.lookIn (now (tree .entry)) (now (store .entry)) from (to - from) parent (now (key .entry))) r ⌝ }
+    ensures { λ r. ⌜ Finds from to (doors.sought (now (tree .entry)) (now (store .entry)) from to parent (now (key .entry))) r ⌝ }
 {
     let mut i = to;
     while from < i {
@@ -230,25 +307,25 @@ fn seek(tree: &[u8], store: &[u8], from: usize, to: usize, parent: u16, key: &[u
     Found::Nothing
 }
 
-// The same of 8 values: where none of them hangs under the parent, no key is looked at.
-fn seek_block(tree: &[u8], store: &[u8], from: usize, parent: u16, key: &[u8]) -> Found
-    requires { ⌜ Holds (now tree) (from + 8) ⌝ }
-    ensures { λ r. ⌜ Finds from (from + 8) (doors.lookIn (now (tree .entry)) (now (store .entry)) from 8 parent (now (key .entry))) r ⌝ }
+// The same of a block: where none of its values hangs under the parent, no key is looked at.
+fn seek_block(tree: &[u8], store: &[u8], n: usize, parent: u16, key: &[u8]) -> Found
+    requires { ⌜ Holds (now tree) (n + 8) ⌝ }
+    ensures { λ r. ⌜ Finds n (n + 8) (doors.lookIn (now (tree .entry)) (now (store .entry)) n 8 parent (now (key .entry))) r ⌝ }
 {
-    if idle(tree, from, parent) {
+    if idle(tree, n, parent) {
         return Found::Nothing;
     }
-    seek(tree, store, from, from + 8, parent, key)
+    seek(tree, store, n, n + BLOCK, parent, key)
 }
 
 // The newest of the values made that hangs under the parent with the key.
-pub fn find(tree: &[u8], store: &[u8], made: usize, parent: u16, key: &[u8]) -> Found
+pub fn find_child(tree: &[u8], store: &[u8], made: usize, parent: u16, key: &[u8]) -> Found
     requires { ⌜ Holds (now tree) made ⌝ }
     ensures { λ r. ⌜ Finds 0 made (room.look (now (tree .entry)) (now (store .entry)) made parent (now (key .entry))) r ⌝ }
 {
     let mut i = made;
-    while 8 <= i {
-        i -= 8;
+    while BLOCK <= i {
+        i -= BLOCK;
         let found = seek_block(tree, store, i, parent, key);
         match found {
             Found::At(n) => return Found::At(n),
@@ -259,7 +336,7 @@ pub fn find(tree: &[u8], store: &[u8], made: usize, parent: u16, key: &[u8]) -> 
 }
 
 // The first of the values made that hangs under the parent, from a number on.
-pub fn child(tree: &[u8], made: usize, parent: u16, from: usize) -> Found
+fn child(tree: &[u8], made: usize, parent: u16, from: usize) -> Found
     requires { ⌜ Holds (now tree) made ⌝ }
     ensures { λ r. ⌜ Finds from made (room.child (now (tree .entry)) made parent from) r ⌝ }
 {
@@ -273,8 +350,41 @@ pub fn child(tree: &[u8], made: usize, parent: u16, from: usize) -> Found
     Found::Nothing
 }
 
+// The walk over all that hangs under a place, among so many values made.
+pub fn items_of(place: u16, end: usize) -> Items
+    ensures { λ r. ⌜ r ≡ steps.itemsFrom place 0 end ⌝ }
+{
+    items_from(place, 0, end)
+}
+
+// The same from a number on.
+pub fn items_from(place: u16, from: usize, end: usize) -> Items
+    ensures { λ r. ⌜ r ≡ steps.itemsFrom place from end ⌝ }
+{
+    Items {
+        place,
+        at: from,
+        end,
+    }
+}
+
+// A step of the walk.
+pub fn next_item(tree: &[u8], w: Items) -> Item
+    requires { ⌜ Holds (now tree) (w .end) ⌝ }
+    ensures { λ r. ⌜ Gives (now (tree .entry)) w r ⌝ }
+{
+    let found = child(tree, w.end, w.place, w.at);
+    match found {
+        Found::At(n) => Item::At {
+            value: n,
+            rest: items_from(w.place, n + 1, w.end),
+        },
+        Found::Nothing => Item::End,
+    }
+}
+
 // How many of the values made hang under the parent.
-pub fn count(tree: &[u8], made: usize, parent: u16) -> usize
+pub fn count_items(tree: &[u8], made: usize, parent: u16) -> usize
     requires { ⌜ Holds (now tree) made ⌝ }
     ensures { λ r. ⌜ Counts (now (tree .entry)) made parent r ⌝ }
 {
@@ -375,7 +485,7 @@ fn better(tree: &[u8], store: &[u8], parent: u16, after: Found, best: Found, m: 
 // One pass from the newest down: of values with one key the first met stays.
 fn nearest(tree: &[u8], store: &[u8], low: usize, made: usize, parent: u16, after: Found) -> Found
     requires { ⌜ Holds (now tree) made × Clear (now tree) parent 0 low × Stands (now tree) after ⌝ }
-    ensures { λ r. ⌜ Finds 0 made (order.nearest (slotAt (now (tree .entry))) (now (store .entry)) parent after made Found.Nothing) r ⌝ }
+    ensures { λ r. ⌜ Finds 0 made (order.nearestOf (slotAt (now (tree .entry))) (now (store .entry)) parent after made) r ⌝ }
 {
     let mut best = Found::Nothing;
     let mut i = made;
@@ -395,9 +505,9 @@ fn is_made(made: usize, after: Found) -> bool
     }
 }
 
-// The next key under the parent behind that of the value found before, from nothing the first: of the keys above it the least, and of its values the newest.
-// Behind a value that is not made, or whose key runs past the store, comes nothing. Below a number that the caller knows of nothing hangs under the parent, so a walk over all keys looks there once.
-pub fn next(tree: &[u8], store: &[u8], low: usize, made: usize, parent: u16, after: Found) -> Found
+// The next key under the parent after that of the value found before, from nothing the first: of the keys above it the least, and of
+// its values the newest. After a value that is not made, or whose key runs past the store, comes nothing.
+fn next(tree: &[u8], store: &[u8], low: usize, made: usize, parent: u16, after: Found) -> Found
     requires { ⌜ Holds (now tree) made × Clear (now tree) parent 0 low ⌝ }
     ensures { λ r. ⌜ Finds 0 made (order.next (slotAt (now (tree .entry))) (now (store .entry)) made parent after) r ⌝ }
 {
@@ -407,22 +517,62 @@ pub fn next(tree: &[u8], store: &[u8], low: usize, made: usize, parent: u16, aft
     Found::Nothing
 }
 
+// The walk over all keys of a table, among so many values made.
+pub fn keys_of(tree: &[u8], place: u16, end: usize) -> Keys
+    requires { ⌜ Holds (now tree) end ⌝ }
+    ensures { λ r. ⌜ Begins (now (tree .entry)) place end Found.Nothing r ⌝ }
+{
+    keys_after(tree, place, end, Found::Nothing)
+}
+
+// The same after the key of a value. Where the table's values begin is looked up here, once for the whole walk.
+pub fn keys_after(tree: &[u8], place: u16, end: usize, after: Found) -> Keys
+    requires { ⌜ Holds (now tree) end ⌝ }
+    ensures { λ r. ⌜ Begins (now (tree .entry)) place end after r ⌝ }
+{
+    let low = skip_up(tree, end, place, 0);
+    Keys {
+        place,
+        low,
+        end,
+        after,
+    }
+}
+
+// A step of the walk.
+pub fn next_key(tree: &[u8], store: &[u8], w: Keys) -> Key
+    requires { ⌜ Ready (now tree) w ⌝ }
+    ensures { λ r. ⌜ KeyGives (now (tree .entry)) (now (store .entry)) w r ⌝ }
+{
+    let after = w.after;
+    let found = next(tree, store, w.low, w.end, w.place, after);
+    match found {
+        Found::At(n) => Key::At {
+            value: n,
+            rest: Keys {
+                place: w.place,
+                low: w.low,
+                end: w.end,
+                after: Found::At(n),
+            },
+        },
+        Found::Nothing => Key::End,
+    }
+}
+
 // A string's bytes by its data, where they lie in a store of so many bytes. No text that is read is longer than 65,535 bytes.
 fn text(bits: u64, size: usize) -> Value
     ensures { λ r. ⌜ r ≡ doors.textOf bits size ⌝ }
 {
-    if 4294967295 < bits {
+    if STRING_MOST < bits {
         return Value::Absent;
     }
-    let from = (bits % 65536) as usize;
-    let len = (bits / 65536) as usize;
+    let from = (bits % STRING_UNIT) as usize;
+    let len = (bits / STRING_UNIT) as usize;
     if size < from + len {
         return Value::Absent;
     }
-    Value::Text {
-        from: from,
-        len: len,
-    }
+    Value::Text { from, len }
 }
 
 fn nonzero(n: u64) -> bool
@@ -466,7 +616,7 @@ pub fn value_at(tree: &[u8], store: &[u8], n: usize) -> Value
     classify(v, store.len(), (n + 2) as u16)
 }
 
-// One behind the newest of the values made that hangs under the parent.
+// One past the newest of the values made that hangs under the parent.
 fn newest(tree: &[u8], made: usize, parent: u16) -> usize
     requires { ⌜ Holds (now tree) made ⌝ }
     ensures { λ r. ⌜ r ≡ doors.newest (now (tree .entry)) made parent ⌝ }
@@ -489,15 +639,11 @@ pub fn fields_at(tree: &[u8], made: usize, place: u16) -> Fields
     let to = newest(tree, made, place);
     let first = child(tree, to, place, 0);
     match first {
-        Found::At(n) => Fields {
-            place: place,
-            from: n,
-            to: to,
-        },
+        Found::At(n) => Fields { place, from: n, to },
         Found::Nothing => Fields {
-            place: place,
+            place,
             from: to,
-            to: to,
+            to,
         },
     }
 }
@@ -523,7 +669,7 @@ pub fn field(tree: &[u8], store: &[u8], f: Fields, key: &[u8]) -> Value
 }
 
 // Number i of the values made that hang under the parent, in the order of their numbers.
-pub fn nth(tree: &[u8], made: usize, parent: u16, i: usize) -> Found
+pub fn nth_item(tree: &[u8], made: usize, parent: u16, i: usize) -> Found
     requires { ⌜ Holds (now tree) made ⌝ }
     ensures { λ r. ⌜ Finds 0 made (doors.nthOf (doors.items (now (tree .entry)) made parent 0) i) r ⌝ }
 {

@@ -83,7 +83,7 @@ fn first_fault(entries: [Mark; MOST_ENTRIES], count: usize, twin: usize, number:
 }
 
 // The entries in turn, each against the names of those before it.
-pub fn judge(bytes: &[u8], entries: [Mark; MOST_ENTRIES], count: usize, number: u32) -> Fault
+pub fn judge_marks(bytes: &[u8], entries: [Mark; MOST_ENTRIES], count: usize, number: u32) -> Fault
     requires { ⌜ Marked count number ⌝ }
     ensures { λ r. ⌜ r ≡ marks.judged number (now (bytes .entry)) (take count entries) ⌝ }
 {

@@ -12,8 +12,10 @@ use lib.Dec.{eqb, ltb}
 use lib.ListN.{length, take}
 use Rattle.meaning.specs.Base.{pick, nil?}
 use Rattle.meaning.specs.Rules as meant
-use Rattle.tree.specs.declared.Slot.{Slot}
-use Rattle.tree.specs.Room.{slotAt}
+use Rattle.tree.specs.declared.Span.{Span}
+use Rattle.tree.specs.Steps.{KeyIs}
+use Rattle.schema.specs.declared.spot.Spot.{Spot}
+use Rattle.schema.specs.Spots.{bytesSpot}
 use Rattle.schema.proofs.Text.{the-type}
 use Rattle.schema.specs.declared.Text.{Text}
 use Rattle.schema.specs.declared.Text.the-variants as texts
@@ -24,7 +26,7 @@ use Rattle.schema.specs.declared.Component.{Component}
 use Rattle.schema.specs.declared.Application.{Application}
 use Rattle.schema.specs.declared.Partition.{Partition}
 use Rattle.schema.specs.Texts.{clip, isGiven, startOf, lengthOf, amount}
-use Rattle.parse.specs.Fields.{first}
+use Rattle.parse.specs.Fields.{firstFault}
 use Rattle.parse.specs.Entries as parsed
 use Rattle.parse.specs.declared.component.ComponentRead.{ComponentRead}
 use Rattle.parse.specs.declared.application.ApplicationRead.{ApplicationRead}
@@ -34,6 +36,7 @@ use Rattle.validate.specs.declared.Entry.{Entry}
 use Rattle.validate.specs.declared.uses.Pair.{Pair}
 use Rattle.validate.specs.Clashes.{pairOfComponent, pairOfApplication}
 use Rattle.validate.specs.Entries as entries
+use Rattle.validate.proofs.Pairing.{key-spot}
 use Rattle.validate.specs.Entries.{counted, kept, referred, isEmpty, componentEntry, applicationEntry}
 
 nil-long : (s : List ℕ) → eqb (length s) 0 ≡ nil? s
@@ -72,7 +75,7 @@ module _ (b : Boot) (pbp : Bool) (e : pbp ≡ isGiven (b .pbp)) where
     boot-late h = rw (← e, h, l, g) (late-boot (b .updater) (counted (b .ram)))
 
 pub late-done : (store : List ℕ) (known : Bool) (c : Component) (r name z source y boot x target reserve : ℕ) (pack file : Bool) (s : List ℕ) (a n : ℕ)
-    → r ≡ first name z → z ≡ first source y → y ≡ first boot x → x ≡ first target reserve
+    → r ≡ firstFault name z → z ≡ firstFault source y → y ≡ firstFault boot x → x ≡ firstFault target reserve
     → name ≡ entries.nameFault store (c .head .name) → source ≡ meant.sourceFault pack file → pack ≡ isGiven (c .head .«package») → file ≡ isGiven (c .head .file)
     → boot ≡ entries.bootFault (c .boot) → target ≡ entries.targetFault (eqb (length s) 0) (c .boot .updater) known → reserve ≡ meant.reserveFault (c .load .«ext_reserve»)
     → s ≡ clip a n store → a ≡ startOf (c .role .partition) → n ≡ lengthOf (c .role .partition)
@@ -176,7 +179,7 @@ pub application-done : (store : List ℕ) (fault : ℕ) (pair : Pair) (a : Appli
 unfolding applicationEntry
 application-done store fault pair a items count l m at from len early late g h k j o = rw (h, k, j, o, g, parts-long store items count (omega arith))
 
-pub application-read : (room store : List ℕ) (made n : ℕ) (parts : List (List ℕ)) (r : ApplicationRead) (v : Slot) (pair : Pair) (x : Entry) → r ≡ parsed.applicationAt room store made n 32
-    → v ≡ slotAt room n → pair ≡ pairOfApplication (v .key) (v .len) (r .application .features) → x ≡ applicationEntry store parts (r .fault) pair (r .application)
-    → x ≡ entries.applicationAt room store made parts n
-application-read room store made n parts r v pair x e f g h = rw (h, g, f, e)
+pub application-read : (room store : List ℕ) (made n : ℕ) (parts : List (List ℕ)) (r : ApplicationRead) (k : Span) (key : Spot) (pair : Pair) (x : Entry)
+    → r ≡ parsed.applicationAt room store made n 32 → KeyIs room n k → key ≡ bytesSpot (k .from) (k .len) → pair ≡ pairOfApplication key (r .application .features)
+    → x ≡ applicationEntry store parts (r .fault) pair (r .application) → x ≡ entries.applicationAt room store made parts n
+application-read room store made n parts r k key pair x e f d g h = rw (h, g, key-spot room n k key f d, e)

@@ -27,7 +27,7 @@ use Rattle.parse.specs.declared.entry.Partitions.{Partitions}
 use Rattle.parse.specs.declared.front.Front.{Front}
 use Rattle.parse.specs.Refusals.{inSection, earlier}
 use Rattle.parse.specs.Entries as entries
-use Rattle.parse.specs.Entries.{told, refusalOf, blank, Partitioned, partitions, partitionAt}
+use Rattle.parse.specs.Entries.{refusalAt, refusalOf, blank, Partitioned, partitions, partitionAt}
 use Rattle.parse.specs.Answers.{earlier-two, earlier-clear}
 use Rattle.parse.specs.Whole as whole
 use Rattle.parse.specs.Whole.{reader, listed-few, listed-clear}
@@ -71,22 +71,22 @@ use Rattle.validate.proofs.Placing.{rules-low}
 -- ---- one group
 
 module _ (section : ℕ) (f : Fault) (r : Refusal) where
-  pub in-none : f .number ≡ 0 → r ≡ told 0 0 0 → r ≡ inEntry section f
+  pub in-none : f .number ≡ 0 → r ≡ refusalAt 0 0 0 → r ≡ inEntry section f
   unfolding inEntry
   in-none z e = rw (eq-eqb (f .number) 0 z) e
 
-  pub in-some : (f .number ≡ 0 → ⊥) → r ≡ told section (f .number) (f .place) → r ≡ inEntry section f
+  pub in-some : (f .number ≡ 0 → ⊥) → r ≡ refusalAt section (f .number) (f .place) → r ≡ inEntry section f
   unfolding inEntry
   in-some z e = rw (ne-eqb (f .number) 0 z) e
 
-pub first-there : (first : Bool) (r : Refusal) → first ≡ true → r ≡ told 0 0 0 → r ≡ bootFault first
+pub first-there : (first : Bool) (r : Refusal) → first ≡ true → r ≡ refusalAt 0 0 0 → r ≡ bootFault first
 first-there first r t e = rw t e
 
-pub first-not : (first : Bool) (r : Refusal) → first ≡ false → r ≡ told 4 70 0 → r ≡ bootFault first
+pub first-not : (first : Bool) (r : Refusal) → first ≡ false → r ≡ refusalAt 4 70 0 → r ≡ bootFault first
 first-not first r t e = rw t e
 
 module _ (own : Fault) (count : ℕ) (r : Refusal) where
-  pub components-none : count ≡ 0 → r ≡ told 4 50 0 → r ≡ countedFault own count
+  pub components-none : count ≡ 0 → r ≡ refusalAt 4 50 0 → r ≡ countedFault own count
   unfolding countedFault
   components-none z e = rw (eq-eqb count 0 z) e
 
@@ -100,15 +100,15 @@ counted-is store [] mark = refl
 counted-is store (n ∷ ns) mark = rw (ne-eqb (length (n ∷ ns)) 0 (λ z. omega (arith, z)))
 
 module _ (cs apps at : ℕ) (r : Refusal) where
-  pub clash-component : at < cs → r ≡ told 4 60 at → r ≡ clashFault cs (cs + apps) at
+  pub clash-component : at < cs → r ≡ refusalAt 4 60 at → r ≡ clashFault cs (cs + apps) at
   unfolding clashFault
   clash-component h q = rw (lt-ltb at cs h) q
 
-  pub clash-application : cs ≤ at → at < cs + apps → r ≡ told 5 60 (at - cs) → r ≡ clashFault cs (cs + apps) at
+  pub clash-application : cs ≤ at → at < cs + apps → r ≡ refusalAt 5 60 (at - cs) → r ≡ clashFault cs (cs + apps) at
   unfolding clashFault
   clash-application h k q = rw (le-ltb at cs h, lt-ltb at (cs + apps) k) q
 
-  pub clash-none : cs ≤ at → cs + apps ≤ at → r ≡ told 0 0 0 → r ≡ clashFault cs (cs + apps) at
+  pub clash-none : cs ≤ at → cs + apps ≤ at → r ≡ refusalAt 0 0 0 → r ≡ clashFault cs (cs + apps) at
   unfolding clashFault
   clash-none h k q = rw (le-ltb at cs h, le-ltb at (cs + apps) k) q
 
@@ -162,11 +162,11 @@ module _ (room store : Seq ℕ) (made : ℕ) (l : List) (el : l ≡ applicationL
 -- ---- the components
 
 module _ (section n : ℕ) (r : Refusal) where
-  pub length-many : 64 < n → r ≡ told section 25 64 → r ≡ lengthFault section n
+  pub length-many : 64 < n → r ≡ refusalAt section 25 64 → r ≡ lengthFault section n
   unfolding lengthFault
   length-many h e = rw (lt-ltb 64 n h) e
 
-  pub length-few : n ≤ 64 → r ≡ told 0 0 0 → r ≡ lengthFault section n
+  pub length-few : n ≤ 64 → r ≡ refusalAt 0 0 0 → r ≡ lengthFault section n
   unfolding lengthFault
   length-few h e = rw (le-ltb 64 n h) e
 
@@ -178,9 +178,9 @@ module _ (room store : Seq ℕ) (made : ℕ) (l : List) (el : l ≡ componentLis
       on (ltb 64 n)
       (λ f. components-judged room store made of01 l m s a el (comps-many room store made n l hn 64 32 m (ltb-true 64 n f) (em ∙ rw f)) es ea)
       (λ f.
-      let w : m ≡ told 0 0 0 = em ∙ rw f in
+      let w : m ≡ refusalAt 0 0 0 = em ∙ rw f in
       on (eqb (s .number) 0)
-      (λ e. let y : a ≡ told 0 0 0 = ea ∙ rw e w in absurd (z (ap (λ (x : Refusal). x .number) y)))
+      (λ e. let y : a ≡ refusalAt 0 0 0 = ea ∙ rw e w in absurd (z (ap (λ (x : Refusal). x .number) y)))
       (λ e. components-judged room store made of01 l (entries.components room store made l 64 32) s a el refl es (ea ∙ rw e)))
 
   pub list-refused : (parts : Seq (Seq ℕ)) (rules : Refusal) → (a .number ≡ 0 → ⊥) → a ≡ componentsJudged room store made parts rules

@@ -1,14 +1,17 @@
 -- The packages that an entry uses: one law for each way out.
-use Prim.Native.Nat.{ℕ}
+use Prim.Native.Nat.{ℕ, _%_}
 use mathlib.Core.Bool.{Bool, true, false}
 use mathlib.Core.List.{List}
-use mathlib.Core.Path.{_≡_}
+use mathlib.Core.Path.{_≡_, _∙_}
+use native.Mathlib.Omega.{arith}
 use Rattle.meaning.specs.Rules.{twice}
+use Rattle.tree.specs.declared.Span.{Span}
+use Rattle.tree.specs.Steps.{KeyIs}
 use Rattle.schema.specs.declared.Features.{Features}
 use Rattle.schema.specs.declared.Component.{Component}
 use Rattle.schema.specs.declared.spot.Spot.{Spot}
-use Rattle.schema.specs.Spots.{noSpot, textSpot, listSpot, spotted}
-use Rattle.validate.specs.Clashes.{pairOfComponent, pairOfApplication}
+use Rattle.schema.specs.Spots.{noSpot, bytesSpot, textSpot, listSpot, spotted}
+use Rattle.validate.specs.Clashes.{keySpot, pairOfComponent, pairOfApplication}
 
 -- ---- pair_of_component
 
@@ -25,6 +28,13 @@ module _ (store : List ℕ) (c : Component) (p q g : Spot) (ep : p ≡ textSpot 
 
 -- ---- pair_of_application
 
-pub pair-made : (key len : ℕ) (f : Features) (x y z : Spot) → x ≡ listSpot f → y ≡ noSpot → z ≡ noSpot
-    → record { «package» = record { kind = 1; from = key; len = len }; features = x; «pbp_package» = y; «pbp_features» = z } ≡ pairOfApplication key len f
-pair-made key len f x y z a b c = rw (a, b, c)
+pub pair-made : (key : Spot) (f : Features) (x y z : Spot) → x ≡ listSpot f → y ≡ noSpot → z ≡ noSpot
+    → record { «package» = key; features = x; «pbp_package» = y; «pbp_features» = z } ≡ pairOfApplication key f
+pair-made key f x y z a b c = rw (a, b, c)
+
+-- a key is short, so that nothing of its place is lost
+pub key-spot : (room : List ℕ) (n : ℕ) (k : Span) (s : Spot) → KeyIs room n k → s ≡ bytesSpot (k .from) (k .len) → s ≡ keySpot room n
+key-spot room n k s h e =
+    let a : k .from % 65536 ≡ k .from = omega (arith, h .near) in
+    let b : k .len % 65536 ≡ k .len = omega (arith, h .short) in
+    e ∙ rw (a, b, h .is)

@@ -34,7 +34,7 @@ use Rattle.parse.specs.Component as component
 use Rattle.parse.specs.Component.{sources, headRead, roleRead, bootRead, componentRead}
 use Rattle.parse.specs.Application.{loading, applicationRead}
 use Rattle.parse.specs.Entries as parsed
-use Rattle.parse.specs.Entries.{told}
+use Rattle.parse.specs.Entries.{refusalAt}
 use Rattle.parse.specs.Answers.{Says, says-after, says-by}
 use Rattle.parse.specs.Whole.{componentOf, applicationOf}
 use Rattle.turns.specs.Marks.{anyOf, firstHit}
@@ -130,7 +130,7 @@ one-clashes (some p) (some q) f g =
 
 -- 60 at the first hit where at of n entries stand before it, the first of them at place i; none where all do
 abbrev hitFault : ℕ → ℕ → ℕ → ℕ → Refusal
-hitFault section i n at = pick (ltb at n) (told section 60 (i + at)) (told 0 0 0)
+hitFault section i n at = pick (ltb at n) (refusalAt section 60 (i + at)) (refusalAt 0 0 0)
 
 module _ {X : Type 0} (uses : X → List Use) where
   abbrev gathered : List X → List Use
@@ -154,7 +154,7 @@ module _ {X : Type 0} (uses : X → List Use) where
       turn-says i es (n ∷ ns) =
           let a : clashes (gathered es) (used (entry n)) ≡ anyOf (hit (pair n)) es = rw (is n) (sym (any-clashes (pair n) es)) in
           on (anyOf (hit (pair n)) es)
-          (λ e. rw (a, e, lt-ltb 0 (suc (length ns)) (omega arith)) (record { told-by = (ap (told section 60) (omega arith), omega arith) }))
+          (λ e. rw (a, e, lt-ltb 0 (suc (length ns)) (omega arith)) (record { told-by = (ap (refusalAt section 60) (omega arith), omega arith) }))
           (λ e.
           let k : ℕ = firstHit hit (behind es (pair n)) (map pair ns) in
           let b : i + suc k ≡ i + 1 + k = omega arith in
@@ -166,13 +166,13 @@ hit-faults : (cs apps k l : ℕ) → earlier (hitFault 4 0 cs k) (hitFault 5 0 a
 unfolding clashFault
 hit-faults cs apps k l =
     on (ltb k cs)
-    (λ e. rw (e, e) (ap (told 4 60) (omega arith)))
+    (λ e. rw (e, e) (ap (refusalAt 4 60) (omega arith)))
     (λ e.
     let a : ltb (cs + l) cs ≡ false = le-ltb (cs + l) cs (omega arith) in
     let d : cs + l - cs ≡ l = omega arith in
     rw (e, a, d)
     (on (ltb l apps)
-    (λ f. let b : ltb (cs + l) (cs + apps) ≡ true = lt-ltb (cs + l) (cs + apps) (omega (arith, ltb-true l apps f)) in rw (f, b) (ap (told 5 60) (omega arith)))
+    (λ f. let b : ltb (cs + l) (cs + apps) ≡ true = lt-ltb (cs + l) (cs + apps) (omega (arith, ltb-true l apps f)) in rw (f, b) (ap (refusalAt 5 60) (omega arith)))
     (λ f. let b : ltb (cs + l) (cs + apps) ≡ false = le-ltb (cs + l) (cs + apps) (omega (arith, ltb-false l apps f)) in rw (f, b))))
 
 -- ---- an entry's packages

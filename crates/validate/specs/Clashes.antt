@@ -4,6 +4,7 @@ use mathlib.Core.Bool.{Bool, true, false}
 use mathlib.Core.List.{List}
 use Rattle.meaning.specs.Base.{pick}
 use Rattle.meaning.specs.Rules.{twice, sameAll}
+use Rattle.tree.specs.Room.{slotAt}
 use Rattle.schema.specs.declared.Features.{Features}
 use Rattle.schema.specs.declared.Component.{Component}
 use Rattle.parse.specs.Meant.{featureList}
@@ -63,6 +64,10 @@ pairOfComponent store c =
       «pbp_features» = listSpot (c .role .«pbp_features»);
     }
 
--- an application's package is its key, which is where its slot says
-abbrev pub pairOfApplication : ℕ → ℕ → Features → Pair
-pairOfApplication key len f = record { «package» = record { kind = 1; from = key; len = len }; features = listSpot f; «pbp_package» = noSpot; «pbp_features» = noSpot }
+-- where the key of value number n is
+abbrev pub keySpot : List ℕ → ℕ → Spot
+keySpot room n = record { kind = 1; from = slotAt room n .key; len = slotAt room n .len }
+
+-- an application's package is its key
+abbrev pub pairOfApplication : Spot → Features → Pair
+pairOfApplication key f = record { «package» = key; features = listSpot f; «pbp_package» = noSpot; «pbp_features» = noSpot }

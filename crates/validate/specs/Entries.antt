@@ -7,7 +7,6 @@ use lib.ListN.{length, take}
 use Rattle.meaning.specs.Base.{pick, nil?}
 use Rattle.meaning.specs.Verdict.{orElse, long}
 use Rattle.meaning.specs.Rules as meant
-use Rattle.tree.specs.Room.{slotAt}
 use Rattle.schema.specs.declared.Text.{Text}
 use Rattle.schema.specs.declared.Text.the-variants as texts
 use Rattle.schema.specs.declared.Number.{Number}
@@ -21,7 +20,7 @@ use Rattle.parse.specs.Entries as parsed
 use Rattle.layout.specs.Parts.{partName, rank, aim}
 use Rattle.validate.specs.declared.Entry.{Entry}
 use Rattle.validate.specs.declared.uses.Pair.{Pair}
-use Rattle.validate.specs.Clashes.{pairOfComponent, pairOfApplication}
+use Rattle.validate.specs.Clashes.{keySpot, pairOfComponent, pairOfApplication}
 
 -- the names of the first of some partitions
 abbrev pub partNames : List ℕ → ℕ → List Partition → List (List ℕ)
@@ -111,4 +110,4 @@ module _ (room store : List ℕ) (made : ℕ) (parts : List (List ℕ)) where
   abbrev pub applicationAt : ℕ → Entry
   applicationAt n =
       let a = parsed.applicationAt room store made n 32 in
-      applicationEntry store parts (a .fault) (pairOfApplication (slotAt room n .key) (slotAt room n .len) (a .application .features)) (a .application)
+      applicationEntry store parts (a .fault) (pairOfApplication (keySpot room n) (a .application .features)) (a .application)

@@ -3,7 +3,7 @@ use Prim.Native.Nat.{ℕ, _+_, _-_}
 use mathlib.Core.Bool.{Bool}
 use mathlib.Core.List.{List as Seq, [], map, _++_}
 use lib.Dec.{eqb, ltb}
-use lib.ListN.{length}
+use lib.ListN.{length, take}
 use Rattle.meaning.specs.Base.{pick, nil?}
 use Rattle.meaning.specs.Limits.{of01}
 use Rattle.meaning.specs.Layout as meant
@@ -11,8 +11,9 @@ use Rattle.tree.specs.Doors.{fieldsOf}
 use Rattle.schema.specs.declared.Chip.{Chip}
 use Rattle.schema.specs.Words.{chipMeant}
 use Rattle.parse.specs.declared.Refusal.{Refusal}
+use Rattle.parse.specs.declared.entry.Partitions.{Partitions}
 use Rattle.parse.specs.Refusals.{earlier}
-use Rattle.parse.specs.Entries.{told, partitionAt}
+use Rattle.parse.specs.Entries.{refusalAt, partitionAt}
 use Rattle.parse.specs.Front.{frontRead}
 use Rattle.parse.specs.Refused.{lentText, partitionNumbers}
 use Rattle.parse.specs.Verdict as verdicts
@@ -21,9 +22,10 @@ use Rattle.turns.specs.declared.Mark.{Mark}
 use Rattle.turns.specs.Marks.{anyOf, firstHit, faultOf, judged}
 use Rattle.layout.specs.Parts.{partName, partMeant}
 use Rattle.validate.specs.declared.uses.Pair.{Pair}
+use Rattle.validate.specs.declared.gather.Gathered.{Gathered}
 use Rattle.validate.specs.declared.gather.Applied.{Applied}
 use Rattle.validate.specs.Clashes.{clash}
-use Rattle.validate.specs.Entries.{componentAt, applicationAt}
+use Rattle.validate.specs.Entries.{partNames, componentAt, applicationAt}
 use Rattle.validate.specs.Fronts as fronts
 use Rattle.validate.specs.Gathered.{faultAt, components, applications}
 
@@ -35,15 +37,15 @@ inEntry section f = faultAt section (f .number) (f .place)
 
 -- 25, of a list that may have 64 entries
 unfoldable pub lengthFault : ℕ → ℕ → Refusal
-lengthFault section n = pick (ltb 64 n) (told section 25 64) (told 0 0 0)
+lengthFault section n = pick (ltb 64 n) (refusalAt section 25 64) (refusalAt 0 0 0)
 
 -- 50 to 59
 unfoldable pub componentsFault : Seq ℕ → Seq Mark → Refusal
-componentsFault store ms = pick (nil? ms) (told 4 50 0) (inEntry 4 (judged 51 store ms))
+componentsFault store ms = pick (nil? ms) (refusalAt 4 50 0) (inEntry 4 (judged 51 store ms))
 
 -- 50 to 59, of as many as were gathered and the first fault of their marks
 unfoldable pub countedFault : Fault → ℕ → Refusal
-countedFault own n = pick (eqb n 0) (told 4 50 0) (inEntry 4 own)
+countedFault own n = pick (eqb n 0) (refusalAt 4 50 0) (inEntry 4 own)
 
 -- 61 to 66
 abbrev pub applicationsFault : Seq ℕ → Seq Mark → Refusal
@@ -51,11 +53,11 @@ applicationsFault store ms = inEntry 5 (judged 65 store ms)
 
 -- 70
 abbrev pub bootFault : Bool → Refusal
-bootFault first = pick first (told 0 0 0) (told 4 70 0)
+bootFault first = pick first (refusalAt 0 0 0) (refusalAt 4 70 0)
 
 -- 60: entry number at of all, of which the first are components
 unfoldable pub clashFault : ℕ → ℕ → ℕ → Refusal
-clashFault cs all at = pick (ltb at cs) (told 4 60 at) (pick (ltb at all) (told 5 60 (at - cs)) (told 0 0 0))
+clashFault cs all at = pick (ltb at cs) (refusalAt 4 60 at) (pick (ltb at all) (refusalAt 5 60 (at - cs)) (refusalAt 0 0 0))
 
 -- 60 to 70, of applications that were gathered behind components
 unfoldable pub gatheredFault : ℕ → Bool → Applied → Refusal
@@ -97,6 +99,14 @@ module _ (room store : Seq ℕ) (made : ℕ) where
     unfoldable pub componentsJudged : Refusal → Refusal
     componentsJudged rules =
         earlier (verdicts.componentFault room store made of01) (earlier (verdicts.applicationFault room store made of01) (earlier rules listsFault))
+
+  -- ---- with the partitions that were read
+
+  abbrev pub componentsAfter : Partitions → Refusal → Refusal
+  componentsAfter p rules = componentsJudged (partNames store (p .count) (p .items)) rules
+
+  abbrev pub applicationsAfter : Partitions → Refusal → Gathered → Refusal
+  applicationsAfter p rules c = applicationsJudged (partNames store (p .count) (p .items)) rules (c .count) (take (c .count) (c .pairs)) (c .first)
 
   -- ---- of a preset
 

@@ -12,7 +12,7 @@ use Rattle.tree.specs.declared.Found.the-variants.{Nothing}
 use Rattle.tree.specs.Doors.{Rooms, fieldsOf, items}
 use Rattle.schema.specs.Spots.{noSpot}
 use Rattle.parse.specs.declared.Refusal.{Refusal}
-use Rattle.parse.specs.Entries.{walk, told, refusalOf, eachComponent, applicationR}
+use Rattle.parse.specs.Entries.{walk, refusalAt, refusalOf, eachComponent, applicationR}
 use Rattle.parse.specs.Refused.{componentNumbers, applicationNumbers}
 use Rattle.turns.specs.declared.Fault.{Fault}
 use Rattle.turns.specs.Marks.{anyOf, firstHit, judged}
@@ -31,7 +31,7 @@ either a b = pick a true b
 
 -- a fault at a place of a section, 0 for none
 abbrev pub faultAt : ℕ → ℕ → ℕ → Refusal
-faultAt section number place = pick (eqb number 0) (told 0 0 0) (told section number place)
+faultAt section number place = pick (eqb number 0) (refusalAt 0 0 0) (refusalAt section number place)
 
 -- ---- entries that numbers stand for
 

@@ -9,6 +9,7 @@ use schema::MOST_PARTITIONS;
 use schema::Number;
 use schema::Partition;
 use schema::Text;
+use schema::spot::bytes_spot;
 use turns::Mark;
 ghost use mathlib.Core.Path.{_≡_};
 ghost use Prim.Native.Nat.{_≤_};
@@ -105,12 +106,13 @@ pub fn entry(
     count: usize,
 ) -> Entry
     requires { ⌜ Rooms (now tree) made × Stood (now tree) n × (count ≤ 32) ⌝ }
-    ensures { λ r. ⌜ r ≡ entries.applicationAt (now (tree .entry)) (now (store .entry)) made (partNames (now (store .entry)) count items) n ⌝ }
+    ensures { λ r. ⌜ r ≡ entries.applicationAt (now (tree .entry)) (now (store .entry)) made
+        (partNames (now (store .entry)) count items) n ⌝ }
 {
     let r = parse::entry::application_at(tree, store, made, n, MOST_FEATURES);
     let a = r.application;
     let features = a.features;
-    let v = tree::get(tree, n);
-    let pair = crate::uses::pair_of_application(v.key, v.len, features);
+    let k = tree::key_at(tree, n);
+    let pair = crate::uses::pair_of_application(bytes_spot(k.from, k.len), features);
     entry_of(store, r.fault, pair, a, items, count)
 }

@@ -1,7 +1,7 @@
 // 52 to 59: what a component's own rules say, and the entry it makes.
 
 use crate::Entry;
-use parse::field::first;
+use parse::field::first_fault;
 use schema::Boot;
 use schema::Component;
 use schema::LONGEST_NAME;
@@ -129,13 +129,13 @@ fn late_fault(store: &[u8], c: Component, known: bool) -> u32
     let partition = role.partition;
     let reference = schema::stored(store, partition.start(), partition.length());
     let target = target_fault(reference.len() == 0, boot.updater, known);
-    let late = first(
+    let late = first_fault(
         boot_fault(boot),
-        first(target, reserve_fault(load.ext_reserve)),
+        first_fault(target, reserve_fault(load.ext_reserve)),
     );
-    first(
+    first_fault(
         name_fault(store, name),
-        first(source_fault(package.is_given(), file.is_given()), late),
+        first_fault(source_fault(package.is_given(), file.is_given()), late),
     )
 }
 
@@ -195,7 +195,8 @@ pub fn entry(
     count: usize,
 ) -> Entry
     requires { ⌜ Rooms (now tree) made × Stood (now tree) n × (count ≤ 32) ⌝ }
-    ensures { λ r. ⌜ r ≡ entries.componentAt (now (tree .entry)) (now (store .entry)) made (partNames (now (store .entry)) count items) n ⌝ }
+    ensures { λ r. ⌜ r ≡ entries.componentAt (now (tree .entry)) (now (store .entry)) made
+        (partNames (now (store .entry)) count items) n ⌝ }
 {
     let r = parse::entry::component_at(tree, store, made, n, MOST_FEATURES);
     let c = r.component;

@@ -166,27 +166,27 @@ fn device_fault(store: &[u8], name: &[u8], chip: Chip, i: Image) -> u32
 }
 
 // 30 to 35, in their order: 30, 31 and 33 of the image, 32, 34 and 35 of the board.
-pub fn check(store: &[u8], name: &[u8], b: Board, i: Image) -> Refusal
+pub fn check_front(store: &[u8], name: &[u8], b: Board, i: Image) -> Refusal
     requires { ⌜ Fronted b i ⌝ }
     ensures { λ r. ⌜ r ≡ fronts.ruled (now (store .entry)) (now (name .entry)) b i ⌝ }
 {
     let chip = b.chip;
     let device = device_fault(store, name, chip, i);
     if device != 0 {
-        return parse::told(2, device, 0);
+        return parse::refusal_at(2, device, 0);
     }
     let profile = b.profile;
     if size(store, name, profile) == 0 {
-        return parse::told(1, 32, 0);
+        return parse::refusal_at(1, 32, 0);
     }
     let app = i.app;
     if 32 < size(store, name, app) {
-        return parse::told(2, 33, 0);
+        return parse::refusal_at(2, 33, 0);
     }
     let target = b.target;
     let width = target_fault(store, name, chip, target);
     if width != 0 {
-        return parse::told(1, width, 0);
+        return parse::refusal_at(1, width, 0);
     }
-    parse::told(0, 0, 0)
+    parse::refusal_at(0, 0, 0)
 }

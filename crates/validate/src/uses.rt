@@ -12,10 +12,12 @@ ghost use mathlib.Core.List.{[]};
 ghost use mathlib.Core.Path.{_≡_};
 ghost use Prim.Native.Nat.{_≤_};
 ghost use lib.ListN.{take};
-ghost use Rattle.meaning.specs.Rules as meant;
 ghost use Rattle.tree.specs.Doors.{Rooms};
 ghost use Rattle.turns.specs.Marks.{firstHit};
 ghost use Rattle.validate.specs.Clashes as clashes;
+
+// As many components as there may be, and as many applications.
+pub const MOST_PAIRS: usize = 128;
 
 // An entry's packages with the features that they are to have.
 pub struct Pair {
@@ -141,7 +143,7 @@ pub fn first_clash(
     tree: &[u8],
     store: &[u8],
     made: usize,
-    pairs: [Pair; 128],
+    pairs: [Pair; MOST_PAIRS],
     count: usize,
 ) -> usize
     requires { ⌜ Rooms (now tree) made × (count ≤ 128) ⌝ }
@@ -197,15 +199,11 @@ pub fn pair_of_component(store: &[u8], c: Component) -> Pair
 }
 
 // An application's package is its key.
-pub fn pair_of_application(key: u16, len: u16, features: Features) -> Pair
-    ensures { λ r. ⌜ r ≡ clashes.pairOfApplication key len features ⌝ }
+pub fn pair_of_application(key: Spot, features: Features) -> Pair
+    ensures { λ r. ⌜ r ≡ clashes.pairOfApplication key features ⌝ }
 {
     Pair {
-        package: Spot {
-            kind: Spot::BYTES,
-            from: key,
-            len,
-        },
+        package: key,
         features: list_spot(features),
         pbp_package: no_spot(),
         pbp_features: no_spot(),

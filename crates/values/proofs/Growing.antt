@@ -59,9 +59,9 @@ module _ (limit : ℕ) (tree : List ℕ) (made : ℕ) (v : Slot) (h : Makes limi
 pub holds-numbered : (tree : List ℕ) (made n : ℕ) → Numbered tree made n → Holds tree (n + 1)
 holds-numbered tree made n h = record { fits = omega (arith, h .carried .fits, length-slots tree made, h .below) }
 
-pub kind-is : (tree : List ℕ) (made n : ℕ) (v : Slot) → Numbered tree made n → v ≡ slotAt tree n → v .kind ≡ getD (slotsOf tree made) n void .kind
-kind-is tree made n v h e =
-    ap (λ (w : Slot). w .kind) (e ∙ slot-carried tree (slotsOf tree made) (h .carried) n (omega (arith, length-slots tree made, h .below)))
+pub kind-is : (tree : List ℕ) (made n kind : ℕ) → Numbered tree made n → kind ≡ slotAt tree n .kind → kind ≡ getD (slotsOf tree made) n void .kind
+kind-is tree made n kind h e =
+    e ∙ ap (λ (w : Slot). w .kind) (slot-carried tree (slotsOf tree made) (h .carried) n (omega (arith, length-slots tree made, h .below)))
 
 -- ---- seek
 pub seek-is : (tree store : List ℕ) (made p at end : ℕ) (r : Found) → Seeks tree store made at end

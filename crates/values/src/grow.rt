@@ -60,8 +60,7 @@ fn kind_at(tree: &[u8], made: usize, n: usize) -> u8
     requires { ⌜ Numbered (now tree) made n ⌝ }
     ensures { λ r. ⌜ r ≡ getD (slotsOf (now (tree .entry)) made) n void .kind ⌝ }
 {
-    let v = tree::get(tree, n);
-    v.kind
+    tree::kind_at(tree, n)
 }
 
 // The newest value under the place whose key is a segment of the store.
@@ -69,7 +68,7 @@ fn seek(tree: &[u8], store: &[u8], made: usize, p: u16, at: usize, end: usize) -
     requires { ⌜ Seeks (now tree) (now store) made at end ⌝ }
     ensures { λ r. ⌜ Sought made (lookS (now (store .entry)) 0 (slotsOf (now (tree .entry)) made) p (spelt (now (store .entry)) (segOf at end)) Nothing) r ⌝ }
 {
-    tree::find(tree, store, made, p, &store[at..end])
+    tree::find_child(tree, store, made, p, &store[at..end])
 }
 
 // Walks into the table of that name under the place, or makes one in the place of anything else.

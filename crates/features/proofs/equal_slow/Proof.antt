@@ -6,7 +6,7 @@ use Rattle.features.proofs.equal_slow.Statement.{statement}
 use Rattle.features.proofs.equal_slow.Tie as tie
 use Rattle.features.proofs.equal_slow.Reads as reads
 use Rattle.features.proofs.equal_slow.Lts as lts
-use Rattle.features.proofs.next.Reads as next-reads
+use Rattle.features.proofs.next_feature.Reads as next-feature-reads
 use Rattle.features.proofs.same_feature.Reads as same-feature-reads
 
 abbrev Inv-loop : tie.InvT-loop
@@ -18,11 +18,11 @@ abbrev μ-loop : tie.MeasureT-loop
 loop-holds : tie.Need-loop-holds Inv-loop μ-loop
 loop-holds c = search (needs, compare-start)
 
-next-requires : tie.Need-next-requires Inv-loop μ-loop
-next-requires c κs = search needs
+next-feature-requires : tie.Need-next-feature-requires Inv-loop μ-loop
+next-feature-requires c κs = search needs
 
-next-requires-2 : tie.Need-next-requires-2 Inv-loop μ-loop
-next-requires-2 c κs = search needs
+next-feature-requires-2 : tie.Need-next-feature-requires-2 Inv-loop μ-loop
+next-feature-requires-2 c κs = search needs
 
 same-feature-requires : tie.Need-same-feature-requires Inv-loop μ-loop
 same-feature-requires c κs = search needs
@@ -43,13 +43,13 @@ loop-less : tie.Need-loop-less Inv-loop μ-loop
 loop-less c =
     let s = c .before .before in
     let n = s .before .before .before in
-    compare-less _ _ _ _ _ (n .before .loop .inv) _ _ (n .next .ensures) (s .before .before .next2 .ensures) _ (s .before .same-feature .ensures) (not-false _ (s .if1 .left)) _ (c .enum-told2 .given .1)
+    compare-less _ _ _ _ _ (n .before .loop .inv) _ _ (n .next-feature .ensures) (s .before .before .next-feature2 .ensures) _ (s .before .same-feature .ensures) (not-false _ (s .if1 .left)) _ (c .enum-told2 .given .1)
 
 loop-again : tie.Need-loop-again Inv-loop μ-loop
 loop-again c =
     let s = c .before .before in
     let n = s .before .before .before in
-    compare-on _ _ _ _ _ (n .before .loop .inv) _ _ (n .next .ensures) (s .before .before .next2 .ensures) _ (s .before .same-feature .ensures) (not-false _ (s .if1 .left)) _ (c .enum-told2 .given .1)
+    compare-on _ _ _ _ _ (n .before .loop .inv) _ _ (n .next-feature .ensures) (s .before .before .next-feature2 .ensures) _ (s .before .same-feature .ensures) (not-false _ (s .if1 .left)) _ (c .enum-told2 .given .1)
 
 pub equal-slow-spec : {M : Type 1} → statement M
 equal-slow-spec =
@@ -58,8 +58,8 @@ equal-slow-spec =
     Inv-loop
     μ-loop
     loop-holds
-    next-requires
-    next-requires-2
+    next-feature-requires
+    next-feature-requires-2
     same-feature-requires
     returns
     enum-told

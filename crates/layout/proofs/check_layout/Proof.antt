@@ -4,7 +4,7 @@ use Rattle.layout.proofs.check_layout.Statement.{statement}
 use Rattle.layout.proofs.check_layout.Tie as tie
 use Rattle.layout.proofs.check_layout.Reads as reads
 use Rattle.layout.proofs.check_layout.Lts as lts
-use Rattle.turns.proofs.judge.Reads as judge-reads
+use Rattle.turns.proofs.judge_marks.Reads as judge-marks-reads
 use Rattle.layout.proofs.marks_of.Reads as marks-of-reads
 use Rattle.schema.proofs.Chip.erase_size.Reads as erase-size-reads
 
@@ -23,8 +23,8 @@ erase-size-requires c κs = search needs
 marks-of-requires : tie.Need-marks-of-requires
 marks-of-requires c κs = search (needs, on-blocks)
 
-judge-requires : tie.Need-judge-requires
-judge-requires c κs = search needs
+judge-marks-requires : tie.Need-judge-marks-requires
+judge-marks-requires c κs = search needs
 
 returns-3 : tie.Need-returns-3
 returns-3 c = search (needs, check-judged)
@@ -38,5 +38,5 @@ check-layout-spec =
     returns-2
     erase-size-requires
     marks-of-requires
-    judge-requires
+    judge-marks-requires
     returns-3)

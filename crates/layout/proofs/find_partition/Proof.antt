@@ -1,3 +1,4 @@
+-- No partition before number i bears the name, so the first that is met is the first of all.
 use borrow.Author.Needs.{needs}
 use Prim.Native.Nat.{_-_}
 use Rattle.layout.proofs.Finding.{Seeking, find-start, find-on, find-hit, find-end}

@@ -1,3 +1,4 @@
+-- The marks made so far are those of the first i partitions, and the last of these ends where the next is measured from.
 use borrow.Author.Needs.{needs}
 use Prim.Native.Nat.{_-_}
 use Rattle.layout.proofs.Marking.{Made, marks-start, marks-on, marks-end}

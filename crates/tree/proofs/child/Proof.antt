@@ -1,3 +1,4 @@
+-- Below n no value from the start on hangs under the parent, so the first met from there is the first of all.
 use Rattle.tree.proofs.Walks.{Walking, holds-next, walk-on, walk-hit, walk-end}
 use Rattle.tree.proofs.Skipping.{walk-skipped}
 use Prim.Native.Nat.{_-_}

@@ -1,3 +1,4 @@
+-- None of the first k values of the block hangs under the parent.
 use Rattle.tree.proofs.Skipping.{Idling, idle-start, idle-room, idle-on, idle-hit, idle-end}
 use Prim.Native.Nat.{_-_}
 use borrow.Author.Needs.{needs}

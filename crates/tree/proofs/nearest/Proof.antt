@@ -1,3 +1,4 @@
+-- The best of the values from i on stays the best of all once the values below it are seen; below low none counts.
 use Rattle.tree.proofs.Ranking.{Nearing, near-start, near-room, near-best, near-on, near-end}
 use borrow.Author.Needs.{needs}
 use Rattle.tree.proofs.nearest.Statement.{statement}

@@ -1,3 +1,4 @@
+-- From i on no value hangs under the parent, so the newest below i is the newest of all.
 use Rattle.tree.proofs.Opening.{Sinking, sink-room, sink-on, sink-hit, sink-end}
 use Rattle.tree.proofs.Skipping.{sink-skipped}
 use borrow.Author.Needs.{needs}

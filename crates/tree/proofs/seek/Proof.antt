@@ -1,3 +1,4 @@
+-- From i on no value has the parent and the key, so the newest below i is the newest of all.
 use Rattle.tree.proofs.Opening.{Seeking, seek-start, seek-room, seek-on, seek-hit, seek-end}
 use Prim.Native.Nat.{_-_}
 use borrow.Author.Needs.{needs}

@@ -1,3 +1,4 @@
+-- From i on no value hangs under the parent.
 use Rattle.tree.specs.Room.{Clear}
 use Rattle.tree.proofs.Skipping.{fall-start, fall-room, fall-on}
 use borrow.Author.Needs.{needs}

@@ -1,3 +1,4 @@
+-- From the start to before n no value hangs under the parent.
 use Rattle.tree.proofs.Skipping.{Rising, rise-not, rise-start, rise-room, rise-on}
 use Prim.Native.Nat.{_-_}
 use borrow.Author.Needs.{needs}

@@ -1,3 +1,4 @@
+-- No entry before number i has a fault, so the first fault that is met is the first of all.
 use borrow.Author.Needs.{needs}
 use Prim.Native.Nat.{_-_}
 use Rattle.turns.proofs.Judging.{Faulting, first-start, first-on, first-here, first-end}

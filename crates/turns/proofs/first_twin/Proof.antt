@@ -1,3 +1,4 @@
+-- No entry before number i has an earlier twin, and entry number i has none before number j: so the first pair that is met has the first twin.
 use borrow.Author.Needs.{needs}
 use Prim.Native.Nat.{_-_}
 use lib.ListN.{getD}

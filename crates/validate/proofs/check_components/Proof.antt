@@ -4,11 +4,11 @@ use Rattle.validate.proofs.check_components.Statement.{statement}
 use Rattle.validate.proofs.check_components.Tie as tie
 use Rattle.validate.proofs.check_components.Reads as reads
 use Rattle.validate.proofs.check_components.Lts as lts
-use Rattle.parse.proofs.told.Reads as told-reads
+use Rattle.parse.proofs.refusal_at.Reads as refusal-at-reads
 use Rattle.validate.proofs.in_entry.Reads as in-entry-reads
 
-told-requires : tie.Need-told-requires
-told-requires c κs = search needs
+refusal-at-requires : tie.Need-refusal-at-requires
+refusal-at-requires c κs = search needs
 
 returns : tie.Need-returns
 returns c = search (needs, components-none)
@@ -20,4 +20,4 @@ returns-2 : tie.Need-returns-2
 returns-2 c = search (needs, components-some)
 
 pub check-components-spec : {M : Type 1} → statement M
-check-components-spec = tie.close (tie.spec told-requires returns in-entry-requires returns-2)
+check-components-spec = tie.close (tie.spec refusal-at-requires returns in-entry-requires returns-2)

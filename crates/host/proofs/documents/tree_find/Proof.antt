@@ -6,7 +6,7 @@ use Rattle.host.proofs.documents.tree_find.Reads as reads
 use Rattle.host.proofs.documents.tree_find.Lts as lts
 use Rattle.host.proofs.documents.told.Reads as told-reads
 use Rattle.tree.proofs.capacity.Reads as capacity-reads
-use Rattle.tree.proofs.find.Reads as find-reads
+use Rattle.tree.proofs.find_child.Reads as find-child-reads
 
 capacity-requires : tie.Need-capacity-requires
 capacity-requires c κs = search needs
@@ -17,8 +17,8 @@ told-requires c κs = search needs
 returns : tie.Need-returns
 returns c = search (needs, none-there)
 
-find-requires : tie.Need-find-requires
-find-requires c κs = search needs
+find-child-requires : tie.Need-find-child-requires
+find-child-requires c κs = search needs
 
 told-requires-2 : tie.Need-told-requires-2
 told-requires-2 c κs = search needs
@@ -29,4 +29,4 @@ returns-2 c = search (needs, found-there)
 pub tree-find-spec : {M : Type 1} → statement M
 tree-find-spec =
     tie.close
-    (tie.spec capacity-requires told-requires returns find-requires told-requires-2 returns-2)
+    (tie.spec capacity-requires told-requires returns find-child-requires told-requires-2 returns-2)

@@ -6,12 +6,12 @@ use Rattle.host.proofs.plans.plan_build.Tie as tie
 use Rattle.host.proofs.plans.plan_build.Reads as reads
 use Rattle.host.proofs.plans.plan_build.Lts as lts
 use Rattle.host.proofs.plans.build_of.Reads as build-of-reads
-use Rattle.parse.proofs.view.sound.Reads as sound-reads
+use Rattle.parse.proofs.view.holds_values.Reads as holds-values-reads
 use Rattle.plan.proofs.builds.build.Reads as build-reads
 use Rattle.plan.proofs.choice.choose.Reads as choose-reads
 
-sound-requires : tie.Need-sound-requires
-sound-requires c κs = search needs
+holds-values-requires : tie.Need-holds-values-requires
+holds-values-requires c κs = search needs
 
 choose-requires : tie.Need-choose-requires
 choose-requires c κs = search (needs, sound-rooms)
@@ -35,7 +35,7 @@ pub plan-build-spec : {M : Type 1} → statement M
 plan-build-spec =
     tie.close
     (tie.spec
-    sound-requires
+    holds-values-requires
     choose-requires
     build-requires
     build-of-requires

@@ -5,13 +5,13 @@ use Rattle.host.proofs.plans.plan_counts.Statement.{statement}
 use Rattle.host.proofs.plans.plan_counts.Tie as tie
 use Rattle.host.proofs.plans.plan_counts.Reads as reads
 use Rattle.host.proofs.plans.plan_counts.Lts as lts
-use Rattle.parse.proofs.view.sound.Reads as sound-reads
+use Rattle.parse.proofs.view.holds_values.Reads as holds-values-reads
 use Rattle.plan.proofs.builds.builds.Reads as builds-reads
 use Rattle.plan.proofs.choice.choose.Reads as choose-reads
 use Rattle.plan.proofs.component.count.Reads as count-reads
 
-sound-requires : tie.Need-sound-requires
-sound-requires c κs = search needs
+holds-values-requires : tie.Need-holds-values-requires
+holds-values-requires c κs = search needs
 
 choose-requires : tie.Need-choose-requires
 choose-requires c κs = search (needs, sound-rooms)
@@ -31,4 +31,4 @@ returns-2 c = search (needs, no-counts)
 pub plan-counts-spec : {M : Type 1} → statement M
 plan-counts-spec =
     tie.close
-    (tie.spec sound-requires choose-requires builds-requires count-requires returns returns-2)
+    (tie.spec holds-values-requires choose-requires builds-requires count-requires returns returns-2)

@@ -8,13 +8,13 @@ use Rattle.host.proofs.plans.plan_partition.Lts as lts
 use Rattle.host.proofs.plans.planned_at.Reads as planned-at-reads
 use Rattle.host.proofs.plans.target_of.Reads as target-of-reads
 use Rattle.host.proofs.records.partition_of.Reads as partition-of-reads
-use Rattle.parse.proofs.view.sound.Reads as sound-reads
+use Rattle.parse.proofs.view.holds_values.Reads as holds-values-reads
 
 planned-at-requires : tie.Need-planned-at-requires
 planned-at-requires c κs = search needs
 
-sound-requires : tie.Need-sound-requires
-sound-requires c κs = search needs
+holds-values-requires : tie.Need-holds-values-requires
+holds-values-requires c κs = search needs
 
 target-of-requires : tie.Need-target-of-requires
 target-of-requires c κs = search (needs, sound-rooms)
@@ -36,7 +36,7 @@ plan-partition-spec =
     tie.close
     (tie.spec
     planned-at-requires
-    sound-requires
+    holds-values-requires
     target-of-requires
     partition-of-requires
     returns

@@ -5,12 +5,12 @@ use Rattle.host.proofs.plans.planned_at.Statement.{statement}
 use Rattle.host.proofs.plans.planned_at.Tie as tie
 use Rattle.host.proofs.plans.planned_at.Reads as reads
 use Rattle.host.proofs.plans.planned_at.Lts as lts
-use Rattle.parse.proofs.view.sound.Reads as sound-reads
+use Rattle.parse.proofs.view.holds_values.Reads as holds-values-reads
 use Rattle.plan.proofs.choice.choose.Reads as choose-reads
 use Rattle.plan.proofs.component.component.Reads as component-reads
 
-sound-requires : tie.Need-sound-requires
-sound-requires c κs = search needs
+holds-values-requires : tie.Need-holds-values-requires
+holds-values-requires c κs = search needs
 
 choose-requires : tie.Need-choose-requires
 choose-requires c κs = search (needs, sound-rooms)
@@ -26,4 +26,4 @@ returns-2 c = search (needs, no-component)
 
 pub planned-at-spec : {M : Type 1} → statement M
 planned-at-spec =
-    tie.close (tie.spec sound-requires choose-requires component-requires returns returns-2)
+    tie.close (tie.spec holds-values-requires choose-requires component-requires returns returns-2)

@@ -6,10 +6,10 @@ use Rattle.host.proofs.records.component.Tie as tie
 use Rattle.host.proofs.records.component.Reads as reads
 use Rattle.host.proofs.records.component.Lts as lts
 use Rattle.parse.proofs.view.component.Reads as component-reads
-use Rattle.parse.proofs.view.sound.Reads as sound-reads
+use Rattle.parse.proofs.view.holds_values.Reads as holds-values-reads
 
-sound-requires : tie.Need-sound-requires
-sound-requires c κs = search needs
+holds-values-requires : tie.Need-holds-values-requires
+holds-values-requires c κs = search needs
 
 component-requires : tie.Need-component-requires
 component-requires c κs = search (needs, sound-rooms)
@@ -21,4 +21,4 @@ returns-2 : tie.Need-returns-2
 returns-2 c = search calls
 
 pub component-spec : {M : Type 1} → statement M
-component-spec = tie.close (tie.spec sound-requires component-requires returns returns-2)
+component-spec = tie.close (tie.spec holds-values-requires component-requires returns returns-2)

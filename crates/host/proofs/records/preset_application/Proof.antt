@@ -9,10 +9,10 @@ use Rattle.host.proofs.records.preset_application.Lts as lts
 use Rattle.host.proofs.records.application_of.Reads as application-of-reads
 use Rattle.host.proofs.records.no_application.Reads as no-application-reads
 use Rattle.parse.proofs.view.application.Reads as application-reads
-use Rattle.parse.proofs.view.sound.Reads as sound-reads
+use Rattle.parse.proofs.view.holds_values.Reads as holds-values-reads
 
-sound-requires : tie.Need-sound-requires
-sound-requires c κs = search needs
+holds-values-requires : tie.Need-holds-values-requires
+holds-values-requires c κs = search needs
 
 application-requires : tie.Need-application-requires
 application-requires c κs = search (needs, sound-rooms)
@@ -33,7 +33,7 @@ pub preset-application-spec : {M : Type 1} → statement M
 preset-application-spec =
     tie.close
     (tie.spec
-    sound-requires
+    holds-values-requires
     application-requires
     application-of-requires
     returns

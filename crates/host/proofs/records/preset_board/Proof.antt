@@ -7,10 +7,10 @@ use Rattle.host.proofs.records.preset_board.Reads as reads
 use Rattle.host.proofs.records.preset_board.Lts as lts
 use Rattle.host.proofs.records.board_view.Reads as board-view-reads
 use Rattle.host.proofs.records.no_board.Reads as no-board-reads
-use Rattle.parse.proofs.view.sound.Reads as sound-reads
+use Rattle.parse.proofs.view.holds_values.Reads as holds-values-reads
 
-sound-requires : tie.Need-sound-requires
-sound-requires c κs = search needs
+holds-values-requires : tie.Need-holds-values-requires
+holds-values-requires c κs = search needs
 
 board-view-requires : tie.Need-board-view-requires
 board-view-requires c κs = search (needs, sound-rooms)
@@ -26,4 +26,4 @@ returns-2 c = search calls
 
 pub preset-board-spec : {M : Type 1} → statement M
 preset-board-spec =
-    tie.close (tie.spec sound-requires board-view-requires returns no-board-requires returns-2)
+    tie.close (tie.spec holds-values-requires board-view-requires returns no-board-requires returns-2)

@@ -6,14 +6,14 @@ use Rattle.host.proofs.records.preset_feature.Statement.{statement}
 use Rattle.host.proofs.records.preset_feature.Tie as tie
 use Rattle.host.proofs.records.preset_feature.Reads as reads
 use Rattle.host.proofs.records.preset_feature.Lts as lts
-use Rattle.features.proofs.next.Reads as next-reads
+use Rattle.features.proofs.next_feature.Reads as next-feature-reads
 use Rattle.host.proofs.records.behind_item.Reads as behind-item-reads
 use Rattle.host.proofs.records.feature_of.Reads as feature-of-reads
 use Rattle.host.proofs.records.features_by.Reads as features-by-reads
-use Rattle.parse.proofs.view.sound.Reads as sound-reads
+use Rattle.parse.proofs.view.holds_values.Reads as holds-values-reads
 
-sound-requires : tie.Need-sound-requires
-sound-requires c κs = search needs
+holds-values-requires : tie.Need-holds-values-requires
+holds-values-requires c κs = search needs
 
 features-by-requires : tie.Need-features-by-requires
 features-by-requires c κs = search needs
@@ -21,8 +21,8 @@ features-by-requires c κs = search needs
 behind-item-requires : tie.Need-behind-item-requires
 behind-item-requires c κs = search needs
 
-next-requires : tie.Need-next-requires
-next-requires c κs = search (needs, sound-rooms)
+next-feature-requires : tie.Need-next-feature-requires
+next-feature-requires c κs = search (needs, sound-rooms)
 
 feature-of-requires : tie.Need-feature-of-requires
 feature-of-requires c κs = search needs
@@ -40,10 +40,10 @@ pub preset-feature-spec : {M : Type 1} → statement M
 preset-feature-spec =
     tie.close
     (tie.spec
-    sound-requires
+    holds-values-requires
     features-by-requires
     behind-item-requires
-    next-requires
+    next-feature-requires
     feature-of-requires
     returns
     feature-of-requires-2

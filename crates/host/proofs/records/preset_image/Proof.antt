@@ -7,10 +7,10 @@ use Rattle.host.proofs.records.preset_image.Reads as reads
 use Rattle.host.proofs.records.preset_image.Lts as lts
 use Rattle.host.proofs.records.image_view.Reads as image-view-reads
 use Rattle.host.proofs.records.no_image.Reads as no-image-reads
-use Rattle.parse.proofs.view.sound.Reads as sound-reads
+use Rattle.parse.proofs.view.holds_values.Reads as holds-values-reads
 
-sound-requires : tie.Need-sound-requires
-sound-requires c κs = search needs
+holds-values-requires : tie.Need-holds-values-requires
+holds-values-requires c κs = search needs
 
 image-view-requires : tie.Need-image-view-requires
 image-view-requires c κs = search (needs, sound-rooms)
@@ -26,4 +26,4 @@ returns-2 c = search calls
 
 pub preset-image-spec : {M : Type 1} → statement M
 preset-image-spec =
-    tie.close (tie.spec sound-requires image-view-requires returns no-image-requires returns-2)
+    tie.close (tie.spec holds-values-requires image-view-requires returns no-image-requires returns-2)

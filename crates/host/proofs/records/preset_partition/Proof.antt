@@ -9,10 +9,10 @@ use Rattle.host.proofs.records.preset_partition.Lts as lts
 use Rattle.host.proofs.records.no_partition.Reads as no-partition-reads
 use Rattle.host.proofs.records.partition_of.Reads as partition-of-reads
 use Rattle.parse.proofs.view.partition.Reads as partition-reads
-use Rattle.parse.proofs.view.sound.Reads as sound-reads
+use Rattle.parse.proofs.view.holds_values.Reads as holds-values-reads
 
-sound-requires : tie.Need-sound-requires
-sound-requires c κs = search needs
+holds-values-requires : tie.Need-holds-values-requires
+holds-values-requires c κs = search needs
 
 partition-requires : tie.Need-partition-requires
 partition-requires c κs = search (needs, sound-rooms)
@@ -33,7 +33,7 @@ pub preset-partition-spec : {M : Type 1} → statement M
 preset-partition-spec =
     tie.close
     (tie.spec
-    sound-requires
+    holds-values-requires
     partition-requires
     partition-of-requires
     returns

@@ -6,7 +6,7 @@ use Rattle.parse.proofs.application.read_application.Reads as reads
 use Rattle.parse.proofs.application.read_application.Lts as lts
 use Rattle.parse.proofs.application.read_loading.Reads as read-loading-reads
 use Rattle.parse.proofs.application.read_names.Reads as read-names-reads
-use Rattle.parse.proofs.field.first.Reads as first-reads
+use Rattle.parse.proofs.field.first_fault.Reads as first-fault-reads
 
 read-names-requires : tie.Need-read-names-requires
 read-names-requires c κs = search needs
@@ -14,12 +14,12 @@ read-names-requires c κs = search needs
 read-loading-requires : tie.Need-read-loading-requires
 read-loading-requires c κs = search needs
 
-first-requires : tie.Need-first-requires
-first-requires c κs = search needs
+first-fault-requires : tie.Need-first-fault-requires
+first-fault-requires c κs = search needs
 
 returns : tie.Need-returns
 returns c = search (needs, application-is)
 
 pub read-application-spec : {M : Type 1} → statement M
 read-application-spec =
-    tie.close (tie.spec read-names-requires read-loading-requires first-requires returns)
+    tie.close (tie.spec read-names-requires read-loading-requires first-fault-requires returns)

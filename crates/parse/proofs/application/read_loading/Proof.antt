@@ -5,7 +5,7 @@ use Rattle.parse.proofs.application.read_loading.Tie as tie
 use Rattle.parse.proofs.application.read_loading.Reads as reads
 use Rattle.parse.proofs.application.read_loading.Lts as lts
 use Rattle.features.proofs.read.Reads as read-reads
-use Rattle.parse.proofs.field.first.Reads as first-reads
+use Rattle.parse.proofs.field.first_fault.Reads as first-fault-reads
 use Rattle.parse.proofs.field.number.Reads as number-reads
 use Rattle.tree.proofs.field.Reads as field-reads
 
@@ -30,11 +30,11 @@ slice-aggregate-number-2 c = search needs
 number-requires-2 : tie.Need-number-requires-2
 number-requires-2 c κs = search needs
 
-first-requires : tie.Need-first-requires
-first-requires c κs = search needs
+first-fault-requires : tie.Need-first-fault-requires
+first-fault-requires c κs = search needs
 
-first-requires-2 : tie.Need-first-requires-2
-first-requires-2 c κs = search needs
+first-fault-requires-2 : tie.Need-first-fault-requires-2
+first-fault-requires-2 c κs = search needs
 
 returns : tie.Need-returns
 returns c = search (needs, loading-is)
@@ -50,6 +50,6 @@ read-loading-spec =
     number-requires
     slice-aggregate-number-2
     number-requires-2
-    first-requires
-    first-requires-2
+    first-fault-requires
+    first-fault-requires-2
     returns)

@@ -4,7 +4,7 @@ use Rattle.parse.proofs.application.read_names.Statement.{statement}
 use Rattle.parse.proofs.application.read_names.Tie as tie
 use Rattle.parse.proofs.application.read_names.Reads as reads
 use Rattle.parse.proofs.application.read_names.Lts as lts
-use Rattle.parse.proofs.field.first.Reads as first-reads
+use Rattle.parse.proofs.field.first_fault.Reads as first-fault-reads
 use Rattle.parse.proofs.field.text.Reads as text-reads
 use Rattle.schema.proofs.Text.aic.Reads as aic-reads
 use Rattle.schema.proofs.Text.or.Reads as or-reads
@@ -36,14 +36,14 @@ text-requires-4 c κs = search needs
 or-requires : tie.Need-or-requires
 or-requires c κs = search needs
 
-first-requires : tie.Need-first-requires
-first-requires c κs = search needs
+first-fault-requires : tie.Need-first-fault-requires
+first-fault-requires c κs = search needs
 
-first-requires-2 : tie.Need-first-requires-2
-first-requires-2 c κs = search needs
+first-fault-requires-2 : tie.Need-first-fault-requires-2
+first-fault-requires-2 c κs = search needs
 
-first-requires-3 : tie.Need-first-requires-3
-first-requires-3 c κs = search needs
+first-fault-requires-3 : tie.Need-first-fault-requires-3
+first-fault-requires-3 c κs = search needs
 
 or-requires-2 : tie.Need-or-requires-2
 or-requires-2 c κs = search needs
@@ -58,7 +58,7 @@ or-requires-4 : tie.Need-or-requires-4
 or-requires-4 c κs = search needs
 
 returns : tie.Need-returns
-returns c = search (names-are, c .before .before .before .before .before .before .before .before .before .before .before .before .before .before .text .ensures, c .before .before .before .before .before .before .before .before .before .before .before .before .text2 .ensures, c .before .before .before .before .before .before .before .before .before .before .text3 .ensures, c .before .before .before .before .before .before .before .before .text4 .ensures, c .before .before .before .before .before .before .before .or .ensures, c .before .before .before .before .before .before .first .ensures, c .before .before .before .before .before .first2 .ensures, c .before .before .before .before .first3 .ensures, c .before .before .before .or2 .ensures, c .before .before .aic .ensures, c .before .or3 .ensures, c .or4 .ensures)
+returns c = search (names-are, c .before .before .before .before .before .before .before .before .before .before .before .before .before .before .text .ensures, c .before .before .before .before .before .before .before .before .before .before .before .before .text2 .ensures, c .before .before .before .before .before .before .before .before .before .before .text3 .ensures, c .before .before .before .before .before .before .before .before .text4 .ensures, c .before .before .before .before .before .before .before .or .ensures, c .before .before .before .before .before .before .first-fault .ensures, c .before .before .before .before .before .first-fault2 .ensures, c .before .before .before .before .first-fault3 .ensures, c .before .before .before .or2 .ensures, c .before .before .aic .ensures, c .before .or3 .ensures, c .or4 .ensures)
 
 pub read-names-spec : {M : Type 1} → statement M
 read-names-spec =
@@ -73,9 +73,9 @@ read-names-spec =
     slice-aggregate-text-4
     text-requires-4
     or-requires
-    first-requires
-    first-requires-2
-    first-requires-3
+    first-fault-requires
+    first-fault-requires-2
+    first-fault-requires-3
     or-requires-2
     aic-requires
     or-requires-3

@@ -8,7 +8,7 @@ use Rattle.parse.proofs.component.read_boot.Reads as read-boot-reads
 use Rattle.parse.proofs.component.read_head.Reads as read-head-reads
 use Rattle.parse.proofs.component.read_load.Reads as read-load-reads
 use Rattle.parse.proofs.component.read_role.Reads as read-role-reads
-use Rattle.parse.proofs.field.first.Reads as first-reads
+use Rattle.parse.proofs.field.first_fault.Reads as first-fault-reads
 
 read-head-requires : tie.Need-read-head-requires
 read-head-requires c κs = search needs
@@ -22,14 +22,14 @@ read-boot-requires c κs = search needs
 read-load-requires : tie.Need-read-load-requires
 read-load-requires c κs = search needs
 
-first-requires : tie.Need-first-requires
-first-requires c κs = search needs
+first-fault-requires : tie.Need-first-fault-requires
+first-fault-requires c κs = search needs
 
-first-requires-2 : tie.Need-first-requires-2
-first-requires-2 c κs = search needs
+first-fault-requires-2 : tie.Need-first-fault-requires-2
+first-fault-requires-2 c κs = search needs
 
-first-requires-3 : tie.Need-first-requires-3
-first-requires-3 c κs = search needs
+first-fault-requires-3 : tie.Need-first-fault-requires-3
+first-fault-requires-3 c κs = search needs
 
 returns : tie.Need-returns
 returns c = search (needs, component-is)
@@ -42,7 +42,7 @@ read-component-spec =
     read-role-requires
     read-boot-requires
     read-load-requires
-    first-requires
-    first-requires-2
-    first-requires-3
+    first-fault-requires
+    first-fault-requires-2
+    first-fault-requires-3
     returns)

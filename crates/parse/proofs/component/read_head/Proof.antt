@@ -6,7 +6,7 @@ use Rattle.parse.proofs.component.read_head.Reads as reads
 use Rattle.parse.proofs.component.read_head.Lts as lts
 use Rattle.parse.proofs.component.filename_for.Reads as filename-for-reads
 use Rattle.parse.proofs.component.read_sources.Reads as read-sources-reads
-use Rattle.parse.proofs.field.first.Reads as first-reads
+use Rattle.parse.proofs.field.first_fault.Reads as first-fault-reads
 use Rattle.parse.proofs.field.kind.Reads as kind-reads
 use Rattle.parse.proofs.field.text.Reads as text-reads
 use Rattle.parse.proofs.field.text_needed.Reads as text-needed-reads
@@ -30,14 +30,14 @@ slice-aggregate-text c = search needs
 text-requires : tie.Need-text-requires
 text-requires c κs = search needs
 
-first-requires : tie.Need-first-requires
-first-requires c κs = search needs
+first-fault-requires : tie.Need-first-fault-requires
+first-fault-requires c κs = search needs
 
-first-requires-2 : tie.Need-first-requires-2
-first-requires-2 c κs = search needs
+first-fault-requires-2 : tie.Need-first-fault-requires-2
+first-fault-requires-2 c κs = search needs
 
-first-requires-3 : tie.Need-first-requires-3
-first-requires-3 c κs = search needs
+first-fault-requires-3 : tie.Need-first-fault-requires-3
+first-fault-requires-3 c κs = search needs
 
 filename-for-requires : tie.Need-filename-for-requires
 filename-for-requires c κs = search needs
@@ -58,9 +58,9 @@ read-head-spec =
     read-sources-requires
     slice-aggregate-text
     text-requires
-    first-requires
-    first-requires-2
-    first-requires-3
+    first-fault-requires
+    first-fault-requires-2
+    first-fault-requires-3
     filename-for-requires
     or-requires
     returns)

@@ -6,7 +6,7 @@ use Rattle.parse.proofs.component.read_lists.Reads as reads
 use Rattle.parse.proofs.component.read_lists.Lts as lts
 use Rattle.features.proofs.is_empty.Reads as is-empty-reads
 use Rattle.features.proofs.read.Reads as read-reads
-use Rattle.parse.proofs.field.first.Reads as first-reads
+use Rattle.parse.proofs.field.first_fault.Reads as first-fault-reads
 use Rattle.tree.proofs.field.Reads as field-reads
 
 slice-aggregate-field : tie.Need-slice-aggregate-field
@@ -27,8 +27,8 @@ field-requires-2 c κs = search needs
 read-requires-2 : tie.Need-read-requires-2
 read-requires-2 c κs = search needs
 
-first-requires : tie.Need-first-requires
-first-requires c κs = search needs
+first-fault-requires : tie.Need-first-fault-requires
+first-fault-requires c κs = search needs
 
 is-empty-requires : tie.Need-is-empty-requires
 is-empty-requires c κs = search needs
@@ -49,7 +49,7 @@ read-lists-spec =
     slice-aggregate-field-2
     field-requires-2
     read-requires-2
-    first-requires
+    first-fault-requires
     is-empty-requires
     returns
     returns-2)

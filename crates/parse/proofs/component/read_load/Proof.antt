@@ -4,7 +4,7 @@ use Rattle.parse.proofs.component.read_load.Statement.{statement}
 use Rattle.parse.proofs.component.read_load.Tie as tie
 use Rattle.parse.proofs.component.read_load.Reads as reads
 use Rattle.parse.proofs.component.read_load.Lts as lts
-use Rattle.parse.proofs.field.first.Reads as first-reads
+use Rattle.parse.proofs.field.first_fault.Reads as first-fault-reads
 use Rattle.parse.proofs.field.flag.Reads as flag-reads
 use Rattle.parse.proofs.field.number.Reads as number-reads
 use Rattle.schema.proofs.Number.or.Reads as or-reads
@@ -45,20 +45,20 @@ slice-aggregate-number-5 c = search needs
 number-requires-5 : tie.Need-number-requires-5
 number-requires-5 c κs = search needs
 
-first-requires : tie.Need-first-requires
-first-requires c κs = search needs
+first-fault-requires : tie.Need-first-fault-requires
+first-fault-requires c κs = search needs
 
-first-requires-2 : tie.Need-first-requires-2
-first-requires-2 c κs = search needs
+first-fault-requires-2 : tie.Need-first-fault-requires-2
+first-fault-requires-2 c κs = search needs
 
-first-requires-3 : tie.Need-first-requires-3
-first-requires-3 c κs = search needs
+first-fault-requires-3 : tie.Need-first-fault-requires-3
+first-fault-requires-3 c κs = search needs
 
-first-requires-4 : tie.Need-first-requires-4
-first-requires-4 c κs = search needs
+first-fault-requires-4 : tie.Need-first-fault-requires-4
+first-fault-requires-4 c κs = search needs
 
-first-requires-5 : tie.Need-first-requires-5
-first-requires-5 c κs = search needs
+first-fault-requires-5 : tie.Need-first-fault-requires-5
+first-fault-requires-5 c κs = search needs
 
 or-requires : tie.Need-or-requires
 or-requires c κs = search needs
@@ -82,10 +82,10 @@ read-load-spec =
     flag-requires
     slice-aggregate-number-5
     number-requires-5
-    first-requires
-    first-requires-2
-    first-requires-3
-    first-requires-4
-    first-requires-5
+    first-fault-requires
+    first-fault-requires-2
+    first-fault-requires-3
+    first-fault-requires-4
+    first-fault-requires-5
     or-requires
     returns)

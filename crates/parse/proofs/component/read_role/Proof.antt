@@ -5,7 +5,7 @@ use Rattle.parse.proofs.component.read_role.Tie as tie
 use Rattle.parse.proofs.component.read_role.Reads as reads
 use Rattle.parse.proofs.component.read_role.Lts as lts
 use Rattle.parse.proofs.component.read_lists.Reads as read-lists-reads
-use Rattle.parse.proofs.field.first.Reads as first-reads
+use Rattle.parse.proofs.field.first_fault.Reads as first-fault-reads
 use Rattle.parse.proofs.field.text.Reads as text-reads
 use Rattle.schema.proofs.Text.or.Reads as or-reads
 
@@ -36,17 +36,17 @@ slice-aggregate-text-4 c = search needs
 text-requires-4 : tie.Need-text-requires-4
 text-requires-4 c κs = search needs
 
-first-requires : tie.Need-first-requires
-first-requires c κs = search needs
+first-fault-requires : tie.Need-first-fault-requires
+first-fault-requires c κs = search needs
 
-first-requires-2 : tie.Need-first-requires-2
-first-requires-2 c κs = search needs
+first-fault-requires-2 : tie.Need-first-fault-requires-2
+first-fault-requires-2 c κs = search needs
 
-first-requires-3 : tie.Need-first-requires-3
-first-requires-3 c κs = search needs
+first-fault-requires-3 : tie.Need-first-fault-requires-3
+first-fault-requires-3 c κs = search needs
 
-first-requires-4 : tie.Need-first-requires-4
-first-requires-4 c κs = search needs
+first-fault-requires-4 : tie.Need-first-fault-requires-4
+first-fault-requires-4 c κs = search needs
 
 or-requires : tie.Need-or-requires
 or-requires c κs = search needs
@@ -70,10 +70,10 @@ read-role-spec =
     text-requires-3
     slice-aggregate-text-4
     text-requires-4
-    first-requires
-    first-requires-2
-    first-requires-3
-    first-requires-4
+    first-fault-requires
+    first-fault-requires-2
+    first-fault-requires-3
+    first-fault-requires-4
     or-requires
     or-requires-2
     returns)

@@ -6,8 +6,8 @@ use Rattle.parse.proofs.entry.application_at.Reads as reads
 use Rattle.parse.proofs.entry.application_at.Lts as lts
 use Rattle.parse.proofs.application.read_application.Reads as read-application-reads
 use Rattle.parse.proofs.entry.entry_table.Reads as entry-table-reads
-use Rattle.parse.proofs.field.first.Reads as first-reads
-use Rattle.tree.proofs.get.Reads as get-reads
+use Rattle.parse.proofs.field.first_fault.Reads as first-fault-reads
+use Rattle.tree.proofs.key_at.Reads as key-at-reads
 use Rattle.tree.proofs.value_at.Reads as value-at-reads
 
 value-at-requires : tie.Need-value-at-requires
@@ -16,20 +16,14 @@ value-at-requires c κs = search needs
 entry-table-requires : tie.Need-entry-table-requires
 entry-table-requires c κs = search needs
 
-get-requires : tie.Need-get-requires
-get-requires c κs = search needs
-
-cast-t13 : tie.Need-cast-t13
-cast-t13 c = search needs
-
-cast-t14 : tie.Need-cast-t14
-cast-t14 c = search needs
+key-at-requires : tie.Need-key-at-requires
+key-at-requires c κs = search needs
 
 read-application-requires : tie.Need-read-application-requires
 read-application-requires c κs = search (needs, table-spread)
 
-first-requires : tie.Need-first-requires
-first-requires c κs = search needs
+first-fault-requires : tie.Need-first-fault-requires
+first-fault-requires c κs = search needs
 
 returns : tie.Need-returns
 returns c = search (needs, application-at)
@@ -40,9 +34,7 @@ application-at-spec =
     (tie.spec
     value-at-requires
     entry-table-requires
-    get-requires
-    cast-t13
-    cast-t14
+    key-at-requires
     read-application-requires
-    first-requires
+    first-fault-requires
     returns)

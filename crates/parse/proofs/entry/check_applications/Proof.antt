@@ -1,32 +1,33 @@
+-- The first refusal among the applications met, and else among those not yet met, is the first of all.
 use borrow.Author.Needs.{needs}
-use Rattle.parse.proofs.Entering.{Walking, apps-many, apps-none, apps-on, apps-start, holds-end, key-stood}
 use Prim.Native.Nat.{_+_, _-_}
+use Rattle.parse.proofs.Entering.{Walking, holds-end, apps-start, apps-stood, apps-none, apps-on, apps-many}
 use Rattle.parse.proofs.entry.check_applications.Statement.{statement}
 use Rattle.parse.proofs.entry.check_applications.Tie as tie
 use Rattle.parse.proofs.entry.check_applications.Reads as reads
 use Rattle.parse.proofs.entry.check_applications.Lts as lts
 use Rattle.parse.proofs.entry.earlier_application.Reads as earlier-application-reads
-use Rattle.parse.proofs.told.Reads as told-reads
-use Rattle.tree.proofs.next.Reads as next-reads
-use Rattle.tree.proofs.skip_up.Reads as skip-up-reads
+use Rattle.parse.proofs.refusal_at.Reads as refusal-at-reads
+use Rattle.tree.proofs.keys_of.Reads as keys-of-reads
+use Rattle.tree.proofs.next_key.Reads as next-key-reads
 
 abbrev Inv-loop : tie.InvT-loop
-Inv-loop tree store made most limit place end low after₀ fault₀ i₀ after fault i = Walking tree store made most limit end place after fault i
+Inv-loop tree store made most limit w₀ fault₀ i₀ w fault i = Walking tree store made most limit (w₀ .place) (w₀ .end) w fault i
 
 abbrev μ-loop : tie.MeasureT-loop
-μ-loop tree store made most limit place end low after₀ fault₀ i₀ after fault i = most + 1 - i
+μ-loop tree store made most limit w₀ fault₀ i₀ w fault i = most + 1 - i
 
-skip-up-requires : tie.Need-skip-up-requires Inv-loop μ-loop
-skip-up-requires c κs = search (needs, holds-end)
+keys-of-requires : tie.Need-keys-of-requires Inv-loop μ-loop
+keys-of-requires c κs = search (needs, holds-end)
 
-told-requires : tie.Need-told-requires Inv-loop μ-loop
-told-requires c κs = search needs
+refusal-at-requires : tie.Need-refusal-at-requires Inv-loop μ-loop
+refusal-at-requires c κs = search needs
 
 loop-holds : tie.Need-loop-holds Inv-loop μ-loop
 loop-holds c = search (needs, apps-start)
 
-next-requires : tie.Need-next-requires Inv-loop μ-loop
-next-requires c κs = search (needs, holds-end)
+next-key-requires : tie.Need-next-key-requires Inv-loop μ-loop
+next-key-requires c κs = search needs
 
 enum-told : tie.Need-enum-told Inv-loop μ-loop
 enum-told c = search needs
@@ -34,11 +35,11 @@ enum-told c = search needs
 returns : tie.Need-returns Inv-loop μ-loop
 returns c = search (needs, apps-none)
 
-enum-known-found : tie.Need-enum-known-found Inv-loop μ-loop
-enum-known-found c = search needs
+enum-known-step : tie.Need-enum-known-step Inv-loop μ-loop
+enum-known-step c = search needs
 
 earlier-application-requires : tie.Need-earlier-application-requires Inv-loop μ-loop
-earlier-application-requires c κs = search (needs, key-stood)
+earlier-application-requires c κs = search (needs, apps-stood)
 
 add-i : tie.Need-add-i Inv-loop μ-loop
 add-i c = search needs
@@ -49,8 +50,8 @@ loop-less c = search needs
 loop-again : tie.Need-loop-again Inv-loop μ-loop
 loop-again c = search (needs, apps-on)
 
-told-requires-2 : tie.Need-told-requires-2 Inv-loop μ-loop
-told-requires-2 c κs = search needs
+refusal-at-requires-2 : tie.Need-refusal-at-requires-2 Inv-loop μ-loop
+refusal-at-requires-2 c κs = search needs
 
 returns-2 : tie.Need-returns-2 Inv-loop μ-loop
 returns-2 c = search (needs, apps-many)
@@ -61,16 +62,16 @@ check-applications-spec =
     (tie.spec
     Inv-loop
     μ-loop
-    skip-up-requires
-    told-requires
+    keys-of-requires
+    refusal-at-requires
     loop-holds
-    next-requires
+    next-key-requires
     enum-told
     returns
-    enum-known-found
+    enum-known-step
     earlier-application-requires
     add-i
     loop-less
     loop-again
-    told-requires-2
+    refusal-at-requires-2
     returns-2)

@@ -5,14 +5,14 @@ use Rattle.parse.proofs.entry.check_components.Tie as tie
 use Rattle.parse.proofs.entry.check_components.Reads as reads
 use Rattle.parse.proofs.entry.check_components.Lts as lts
 use Rattle.parse.proofs.entry.each_component.Reads as each-component-reads
-use Rattle.parse.proofs.told.Reads as told-reads
-use Rattle.tree.proofs.count.Reads as count-reads
+use Rattle.parse.proofs.refusal_at.Reads as refusal-at-reads
+use Rattle.tree.proofs.count_items.Reads as count-items-reads
 
-count-requires : tie.Need-count-requires
-count-requires c κs = search needs
+count-items-requires : tie.Need-count-items-requires
+count-items-requires c κs = search needs
 
-told-requires : tie.Need-told-requires
-told-requires c κs = search needs
+refusal-at-requires : tie.Need-refusal-at-requires
+refusal-at-requires c κs = search needs
 
 returns : tie.Need-returns
 returns c = search (needs, comps-many)
@@ -25,4 +25,4 @@ returns-2 c = search (needs, comps-few)
 
 pub check-components-spec : {M : Type 1} → statement M
 check-components-spec =
-    tie.close (tie.spec count-requires told-requires returns each-component-requires returns-2)
+    tie.close (tie.spec count-items-requires refusal-at-requires returns each-component-requires returns-2)

@@ -1,27 +1,28 @@
+-- The keys met and those not yet met are all of them, as far as the limit and one more.
 use borrow.Author.Needs.{needs}
-use Rattle.parse.proofs.Entering.{Counted, count-full, count-none, count-on, count-start}
 use Prim.Native.Nat.{_+_, _-_}
+use Rattle.parse.proofs.Entering.{Counted, count-start, count-none, count-on, count-full}
 use Rattle.parse.proofs.entry.count_keys.Statement.{statement}
 use Rattle.parse.proofs.entry.count_keys.Tie as tie
 use Rattle.parse.proofs.entry.count_keys.Reads as reads
 use Rattle.parse.proofs.entry.count_keys.Lts as lts
-use Rattle.tree.proofs.next.Reads as next-reads
-use Rattle.tree.proofs.skip_up.Reads as skip-up-reads
+use Rattle.tree.proofs.keys_of.Reads as keys-of-reads
+use Rattle.tree.proofs.next_key.Reads as next-key-reads
 
 abbrev Inv-loop : tie.InvT-loop
-Inv-loop tree store most place end low after₀ n₀ after n = Counted tree store end place most after n
+Inv-loop tree store most w₀ n₀ w n = Counted tree store (w₀ .place) (w₀ .end) most w n
 
 abbrev μ-loop : tie.MeasureT-loop
-μ-loop tree store most place end low after₀ n₀ after n = most + 1 - n
+μ-loop tree store most w₀ n₀ w n = most + 1 - n
 
-skip-up-requires : tie.Need-skip-up-requires Inv-loop μ-loop
-skip-up-requires c κs = search needs
+keys-of-requires : tie.Need-keys-of-requires Inv-loop μ-loop
+keys-of-requires c κs = search needs
 
 loop-holds : tie.Need-loop-holds Inv-loop μ-loop
 loop-holds c = search (needs, count-start)
 
-next-requires : tie.Need-next-requires Inv-loop μ-loop
-next-requires c κs = search needs
+next-key-requires : tie.Need-next-key-requires Inv-loop μ-loop
+next-key-requires c κs = search needs
 
 enum-told : tie.Need-enum-told Inv-loop μ-loop
 enum-told c = search needs
@@ -29,8 +30,8 @@ enum-told c = search needs
 returns : tie.Need-returns Inv-loop μ-loop
 returns c = search (needs, count-none)
 
-enum-known-found : tie.Need-enum-known-found Inv-loop μ-loop
-enum-known-found c = search needs
+enum-known-step : tie.Need-enum-known-step Inv-loop μ-loop
+enum-known-step c = search needs
 
 add-n : tie.Need-add-n Inv-loop μ-loop
 add-n c = search needs
@@ -50,12 +51,12 @@ count-keys-spec =
     (tie.spec
     Inv-loop
     μ-loop
-    skip-up-requires
+    keys-of-requires
     loop-holds
-    next-requires
+    next-key-requires
     enum-told
     returns
-    enum-known-found
+    enum-known-step
     add-n
     loop-less
     loop-again

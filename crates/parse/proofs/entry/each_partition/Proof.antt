@@ -1,41 +1,47 @@
+-- The partitions met stand in the array, and with those not yet met they are all of them.
 use borrow.Author.Needs.{needs}
-use Rattle.parse.proofs.Entering.{Filled, holds-end, item-fits, item-less, item-stood, parts-end, parts-none, parts-not, parts-on, parts-room, parts-start}
-use Prim.Native.Nat.{_-_}
+use lib.ListN.{length}
+use Rattle.tree.specs.Steps.{toCome, item-room, item-stands, item-fewer}
+use Rattle.parse.proofs.Entering.{Filled, parts-start, parts-end, parts-room, parts-not, parts-on}
 use Rattle.parse.proofs.entry.each_partition.Statement.{statement}
 use Rattle.parse.proofs.entry.each_partition.Tie as tie
 use Rattle.parse.proofs.entry.each_partition.Reads as reads
 use Rattle.parse.proofs.entry.each_partition.Lts as lts
 use Rattle.parse.proofs.entry.no_partitions.Reads as no-partitions-reads
 use Rattle.parse.proofs.entry.partition_at.Reads as partition-at-reads
-use Rattle.parse.proofs.told.Reads as told-reads
-use Rattle.tree.proofs.child.Reads as child-reads
+use Rattle.parse.proofs.refusal_at.Reads as refusal-at-reads
+use Rattle.tree.proofs.items_of.Reads as items-of-reads
+use Rattle.tree.proofs.next_item.Reads as next-item-reads
 
 abbrev Inv-loop : tie.InvT-loop
-Inv-loop tree store made place end items₀ i₀ from₀ items i from = Filled tree store made place end items i from
+Inv-loop tree store made place end items₀ i₀ w₀ items i w = Filled tree store made place end items i w
 
 abbrev μ-loop : tie.MeasureT-loop
-μ-loop tree store made place end items₀ i₀ from₀ items i from = end - from
+μ-loop tree store made place end items₀ i₀ w₀ items i w = length (toCome tree w)
+
+items-of-requires : tie.Need-items-of-requires Inv-loop μ-loop
+items-of-requires c κs = search needs
 
 loop-holds : tie.Need-loop-holds Inv-loop μ-loop
 loop-holds c = search (needs, parts-start)
 
-child-requires : tie.Need-child-requires Inv-loop μ-loop
-child-requires c κs = search (needs, holds-end)
+next-item-requires : tie.Need-next-item-requires Inv-loop μ-loop
+next-item-requires c κs = search (needs, item-room)
 
 enum-told : tie.Need-enum-told Inv-loop μ-loop
 enum-told c = search needs
 
-told-requires : tie.Need-told-requires Inv-loop μ-loop
-told-requires c κs = search needs
+refusal-at-requires : tie.Need-refusal-at-requires Inv-loop μ-loop
+refusal-at-requires c κs = search needs
 
 returns : tie.Need-returns Inv-loop μ-loop
-returns c = search (needs, parts-none)
+returns c = search (needs, parts-end)
 
-enum-known-found : tie.Need-enum-known-found Inv-loop μ-loop
-enum-known-found c = search needs
+enum-known-step : tie.Need-enum-known-step Inv-loop μ-loop
+enum-known-step c = search needs
 
 partition-at-requires : tie.Need-partition-at-requires Inv-loop μ-loop
-partition-at-requires c κs = search (needs, item-stood)
+partition-at-requires c κs = search (needs, item-stands)
 
 no-partitions-requires : tie.Need-no-partitions-requires Inv-loop μ-loop
 no-partitions-requires c κs = search needs
@@ -52,20 +58,11 @@ array-set-from-items c = search (needs, parts-room)
 add-i : tie.Need-add-i Inv-loop μ-loop
 add-i c = search (needs, parts-room)
 
-add-from : tie.Need-add-from Inv-loop μ-loop
-add-from c = search (needs, item-fits)
-
 loop-less : tie.Need-loop-less Inv-loop μ-loop
-loop-less c = search (needs, item-less)
+loop-less c = search (needs, item-fewer)
 
 loop-again : tie.Need-loop-again Inv-loop μ-loop
 loop-again c = search (needs, parts-on)
-
-told-requires-2 : tie.Need-told-requires-2 Inv-loop μ-loop
-told-requires-2 c κs = search needs
-
-returns-3 : tie.Need-returns-3 Inv-loop μ-loop
-returns-3 c = search (needs, parts-end)
 
 pub each-partition-spec : {M : Type 1} → statement M
 each-partition-spec =
@@ -73,20 +70,18 @@ each-partition-spec =
     (tie.spec
     Inv-loop
     μ-loop
+    items-of-requires
     loop-holds
-    child-requires
+    next-item-requires
     enum-told
-    told-requires
+    refusal-at-requires
     returns
-    enum-known-found
+    enum-known-step
     partition-at-requires
     no-partitions-requires
     returns-2
     mul-items
     array-set-from-items
     add-i
-    add-from
     loop-less
-    loop-again
-    told-requires-2
-    returns-3)
+    loop-again)

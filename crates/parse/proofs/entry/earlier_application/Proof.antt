@@ -5,7 +5,7 @@ use Rattle.parse.proofs.entry.earlier_application.Tie as tie
 use Rattle.parse.proofs.entry.earlier_application.Reads as reads
 use Rattle.parse.proofs.entry.earlier_application.Lts as lts
 use Rattle.parse.proofs.entry.application_at.Reads as application-at-reads
-use Rattle.parse.proofs.told.Reads as told-reads
+use Rattle.parse.proofs.refusal_at.Reads as refusal-at-reads
 
 returns : tie.Need-returns
 returns c = search (needs, fault-so-far)
@@ -13,14 +13,14 @@ returns c = search (needs, fault-so-far)
 application-at-requires : tie.Need-application-at-requires
 application-at-requires c κs = search needs
 
-told-requires : tie.Need-told-requires
-told-requires c κs = search needs
+refusal-at-requires : tie.Need-refusal-at-requires
+refusal-at-requires c κs = search needs
 
 returns-2 : tie.Need-returns-2
 returns-2 c = search (needs, fault-here)
 
-told-requires-2 : tie.Need-told-requires-2
-told-requires-2 c κs = search needs
+refusal-at-requires-2 : tie.Need-refusal-at-requires-2
+refusal-at-requires-2 c κs = search needs
 
 returns-3 : tie.Need-returns-3
 returns-3 c = search (needs, fault-none)
@@ -28,4 +28,4 @@ returns-3 c = search (needs, fault-none)
 pub earlier-application-spec : {M : Type 1} → statement M
 earlier-application-spec =
     tie.close
-    (tie.spec returns application-at-requires told-requires returns-2 told-requires-2 returns-3)
+    (tie.spec returns application-at-requires refusal-at-requires returns-2 refusal-at-requires-2 returns-3)

@@ -1,26 +1,27 @@
+-- Of the keys not yet met the one with the number left is the one sought.
 use borrow.Author.Needs.{needs}
-use Rattle.parse.proofs.Entering.{Nearing, nth-hit, nth-none, nth-on, nth-start}
+use Rattle.parse.proofs.Entering.{Nearing, nth-start, nth-none, nth-hit, nth-on}
 use Rattle.parse.proofs.entry.nth_key.Statement.{statement}
 use Rattle.parse.proofs.entry.nth_key.Tie as tie
 use Rattle.parse.proofs.entry.nth_key.Reads as reads
 use Rattle.parse.proofs.entry.nth_key.Lts as lts
-use Rattle.tree.proofs.next.Reads as next-reads
-use Rattle.tree.proofs.skip_up.Reads as skip-up-reads
+use Rattle.tree.proofs.keys_of.Reads as keys-of-reads
+use Rattle.tree.proofs.next_key.Reads as next-key-reads
 
 abbrev Inv-loop : tie.InvT-loop
-Inv-loop tree store i place end low after₀ left₀ after left = Nearing tree store end place i after left
+Inv-loop tree store i w₀ left₀ w left = Nearing tree store (w₀ .place) (w₀ .end) i w left
 
 abbrev μ-loop : tie.MeasureT-loop
-μ-loop tree store i place end low after₀ left₀ after left = left
+μ-loop tree store i w₀ left₀ w left = left
 
-skip-up-requires : tie.Need-skip-up-requires Inv-loop μ-loop
-skip-up-requires c κs = search needs
+keys-of-requires : tie.Need-keys-of-requires Inv-loop μ-loop
+keys-of-requires c κs = search needs
 
 loop-holds : tie.Need-loop-holds Inv-loop μ-loop
 loop-holds c = search (needs, nth-start)
 
-next-requires : tie.Need-next-requires Inv-loop μ-loop
-next-requires c κs = search needs
+next-key-requires : tie.Need-next-key-requires Inv-loop μ-loop
+next-key-requires c κs = search needs
 
 enum-told : tie.Need-enum-told Inv-loop μ-loop
 enum-told c = search needs
@@ -28,8 +29,8 @@ enum-told c = search needs
 returns : tie.Need-returns Inv-loop μ-loop
 returns c = search (needs, nth-none)
 
-enum-known-found : tie.Need-enum-known-found Inv-loop μ-loop
-enum-known-found c = search needs
+enum-known-step : tie.Need-enum-known-step Inv-loop μ-loop
+enum-known-step c = search needs
 
 returns-2 : tie.Need-returns-2 Inv-loop μ-loop
 returns-2 c = search (needs, nth-hit)
@@ -49,12 +50,12 @@ nth-key-spec =
     (tie.spec
     Inv-loop
     μ-loop
-    skip-up-requires
+    keys-of-requires
     loop-holds
-    next-requires
+    next-key-requires
     enum-told
     returns
-    enum-known-found
+    enum-known-step
     returns-2
     sub-left
     loop-less

@@ -6,7 +6,7 @@ use Rattle.parse.proofs.entry.partition_at.Reads as reads
 use Rattle.parse.proofs.entry.partition_at.Lts as lts
 use Rattle.parse.proofs.entry.entry_table.Reads as entry-table-reads
 use Rattle.parse.proofs.entry.read_partition.Reads as read-partition-reads
-use Rattle.parse.proofs.field.first.Reads as first-reads
+use Rattle.parse.proofs.field.first_fault.Reads as first-fault-reads
 use Rattle.tree.proofs.value_at.Reads as value-at-reads
 
 value-at-requires : tie.Need-value-at-requires
@@ -18,8 +18,8 @@ entry-table-requires c κs = search needs
 read-partition-requires : tie.Need-read-partition-requires
 read-partition-requires c κs = search (needs, table-spread)
 
-first-requires : tie.Need-first-requires
-first-requires c κs = search needs
+first-fault-requires : tie.Need-first-fault-requires
+first-fault-requires c κs = search needs
 
 returns : tie.Need-returns
 returns c = search (needs, partition-at)
@@ -31,5 +31,5 @@ partition-at-spec =
     value-at-requires
     entry-table-requires
     read-partition-requires
-    first-requires
+    first-fault-requires
     returns)

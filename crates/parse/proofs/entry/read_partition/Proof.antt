@@ -4,7 +4,7 @@ use Rattle.parse.proofs.entry.read_partition.Statement.{statement}
 use Rattle.parse.proofs.entry.read_partition.Tie as tie
 use Rattle.parse.proofs.entry.read_partition.Reads as reads
 use Rattle.parse.proofs.entry.read_partition.Lts as lts
-use Rattle.parse.proofs.field.first.Reads as first-reads
+use Rattle.parse.proofs.field.first_fault.Reads as first-fault-reads
 use Rattle.parse.proofs.field.number_needed.Reads as number-needed-reads
 use Rattle.parse.proofs.field.text_needed.Reads as text-needed-reads
 use Rattle.schema.proofs.Number.or.Reads as or-reads
@@ -29,11 +29,11 @@ slice-aggregate-number-needed-2 c = search needs
 number-needed-requires-2 : tie.Need-number-needed-requires-2
 number-needed-requires-2 c κs = search needs
 
-first-requires : tie.Need-first-requires
-first-requires c κs = search needs
+first-fault-requires : tie.Need-first-fault-requires
+first-fault-requires c κs = search needs
 
-first-requires-2 : tie.Need-first-requires-2
-first-requires-2 c κs = search needs
+first-fault-requires-2 : tie.Need-first-fault-requires-2
+first-fault-requires-2 c κs = search needs
 
 start-requires : tie.Need-start-requires
 start-requires c κs = search needs
@@ -60,8 +60,8 @@ read-partition-spec =
     number-needed-requires
     slice-aggregate-number-needed-2
     number-needed-requires-2
-    first-requires
-    first-requires-2
+    first-fault-requires
+    first-fault-requires-2
     start-requires
     length-requires
     or-requires

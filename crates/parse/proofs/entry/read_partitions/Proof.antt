@@ -6,10 +6,10 @@ use Rattle.parse.proofs.entry.read_partitions.Reads as reads
 use Rattle.parse.proofs.entry.read_partitions.Lts as lts
 use Rattle.parse.proofs.entry.each_partition.Reads as each-partition-reads
 use Rattle.parse.proofs.entry.no_partitions.Reads as no-partitions-reads
-use Rattle.tree.proofs.count.Reads as count-reads
+use Rattle.tree.proofs.count_items.Reads as count-items-reads
 
-count-requires : tie.Need-count-requires
-count-requires c κs = search needs
+count-items-requires : tie.Need-count-items-requires
+count-items-requires c κs = search needs
 
 no-partitions-requires : tie.Need-no-partitions-requires
 no-partitions-requires c κs = search needs
@@ -26,4 +26,4 @@ returns-2 c = search (needs, parts-each)
 pub read-partitions-spec : {M : Type 1} → statement M
 read-partitions-spec =
     tie.close
-    (tie.spec count-requires no-partitions-requires returns each-partition-requires returns-2)
+    (tie.spec count-items-requires no-partitions-requires returns each-partition-requires returns-2)

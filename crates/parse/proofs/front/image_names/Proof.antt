@@ -5,7 +5,7 @@ use Rattle.parse.proofs.front.image_names.Tie as tie
 use Rattle.parse.proofs.front.image_names.Reads as reads
 use Rattle.parse.proofs.front.image_names.Lts as lts
 use Rattle.parse.proofs.field.TextRead.or.Reads as or-reads
-use Rattle.parse.proofs.field.first.Reads as first-reads
+use Rattle.parse.proofs.field.first_fault.Reads as first-fault-reads
 use Rattle.parse.proofs.field.text.Reads as text-reads
 use Rattle.schema.proofs.Chip.name.Reads as name-reads
 
@@ -27,11 +27,11 @@ slice-aggregate-text-3 c = search needs
 text-requires-3 : tie.Need-text-requires-3
 text-requires-3 c κs = search needs
 
-first-requires : tie.Need-first-requires
-first-requires c κs = search needs
+first-fault-requires : tie.Need-first-fault-requires
+first-fault-requires c κs = search needs
 
-first-requires-2 : tie.Need-first-requires-2
-first-requires-2 c κs = search needs
+first-fault-requires-2 : tie.Need-first-fault-requires-2
+first-fault-requires-2 c κs = search needs
 
 name-requires : tie.Need-name-requires
 name-requires c κs = search needs
@@ -58,8 +58,8 @@ image-names-spec =
     text-requires-2
     slice-aggregate-text-3
     text-requires-3
-    first-requires
-    first-requires-2
+    first-fault-requires
+    first-fault-requires-2
     name-requires
     or-requires
     or-requires-2

@@ -6,7 +6,7 @@ use Rattle.parse.proofs.front.image_rest.Reads as reads
 use Rattle.parse.proofs.front.image_rest.Lts as lts
 use Rattle.parse.proofs.field.NumberRead.or.Reads as field-NumberRead-or-reads
 use Rattle.parse.proofs.field.TextRead.or.Reads as field-TextRead-or-reads
-use Rattle.parse.proofs.field.first.Reads as first-reads
+use Rattle.parse.proofs.field.first_fault.Reads as first-fault-reads
 use Rattle.parse.proofs.field.number.Reads as number-reads
 use Rattle.parse.proofs.field.text.Reads as text-reads
 
@@ -28,11 +28,11 @@ slice-aggregate-text-2 c = search needs
 text-requires-2 : tie.Need-text-requires-2
 text-requires-2 c κs = search needs
 
-first-requires : tie.Need-first-requires
-first-requires c κs = search needs
+first-fault-requires : tie.Need-first-fault-requires
+first-fault-requires c κs = search needs
 
-first-requires-2 : tie.Need-first-requires-2
-first-requires-2 c κs = search needs
+first-fault-requires-2 : tie.Need-first-fault-requires-2
+first-fault-requires-2 c κs = search needs
 
 or-requires : tie.Need-or-requires
 or-requires c κs = search needs
@@ -56,8 +56,8 @@ image-rest-spec =
     text-requires
     slice-aggregate-text-2
     text-requires-2
-    first-requires
-    first-requires-2
+    first-fault-requires
+    first-fault-requires-2
     or-requires
     or-requires-2
     or-requires-3

@@ -4,7 +4,7 @@ use Rattle.parse.proofs.front.read_image.Statement.{statement}
 use Rattle.parse.proofs.front.read_image.Tie as tie
 use Rattle.parse.proofs.front.read_image.Reads as reads
 use Rattle.parse.proofs.front.read_image.Lts as lts
-use Rattle.parse.proofs.field.first.Reads as first-reads
+use Rattle.parse.proofs.field.first_fault.Reads as first-fault-reads
 use Rattle.parse.proofs.field.media.Reads as media-reads
 use Rattle.parse.proofs.front.image_names.Reads as image-names-reads
 use Rattle.parse.proofs.front.image_rest.Reads as image-rest-reads
@@ -22,11 +22,11 @@ media-requires c κs = search needs
 image-rest-requires : tie.Need-image-rest-requires
 image-rest-requires c κs = search needs
 
-first-requires : tie.Need-first-requires
-first-requires c κs = search needs
+first-fault-requires : tie.Need-first-fault-requires
+first-fault-requires c κs = search needs
 
-first-requires-2 : tie.Need-first-requires-2
-first-requires-2 c κs = search needs
+first-fault-requires-2 : tie.Need-first-fault-requires-2
+first-fault-requires-2 c κs = search needs
 
 returns : tie.Need-returns
 returns c = search (needs, image-is)
@@ -39,6 +39,6 @@ read-image-spec =
     default-media-requires
     media-requires
     image-rest-requires
-    first-requires
-    first-requires-2
+    first-fault-requires
+    first-fault-requires-2
     returns)

@@ -6,13 +6,13 @@ use Rattle.parse.proofs.view.component.Reads as reads
 use Rattle.parse.proofs.view.component.Lts as lts
 use Rattle.parse.proofs.view.component_list.Reads as component-list-reads
 use Rattle.parse.proofs.view.good_component.Reads as good-component-reads
-use Rattle.tree.proofs.nth.Reads as nth-reads
+use Rattle.tree.proofs.nth_item.Reads as nth-item-reads
 
 component-list-requires : tie.Need-component-list-requires
 component-list-requires c κs = search needs
 
-nth-requires : tie.Need-nth-requires
-nth-requires c κs = search (needs, components-hold)
+nth-item-requires : tie.Need-nth-item-requires
+nth-item-requires c κs = search (needs, components-hold)
 
 enum-known-found : tie.Need-enum-known-found
 enum-known-found c = search needs
@@ -34,7 +34,7 @@ component-spec =
     tie.close
     (tie.spec
     component-list-requires
-    nth-requires
+    nth-item-requires
     enum-known-found
     good-component-requires
     enum-told

@@ -6,10 +6,10 @@ use Rattle.parse.proofs.view.counts_at.Tie as tie
 use Rattle.parse.proofs.view.counts_at.Reads as reads
 use Rattle.parse.proofs.view.counts_at.Lts as lts
 use Rattle.parse.proofs.view.counts_of.Reads as counts-of-reads
-use Rattle.parse.proofs.view.sound.Reads as sound-reads
+use Rattle.parse.proofs.view.holds_values.Reads as holds-values-reads
 
-sound-requires : tie.Need-sound-requires
-sound-requires c κs = search needs
+holds-values-requires : tie.Need-holds-values-requires
+holds-values-requires c κs = search needs
 
 counts-of-requires : tie.Need-counts-of-requires
 counts-of-requires c κs = search (needs, sound-rooms)
@@ -21,4 +21,4 @@ returns-2 : tie.Need-returns-2
 returns-2 c = search calls
 
 pub counts-at-spec : {M : Type 1} → statement M
-counts-at-spec = tie.close (tie.spec sound-requires counts-of-requires returns returns-2)
+counts-at-spec = tie.close (tie.spec holds-values-requires counts-of-requires returns returns-2)

@@ -6,13 +6,13 @@ use Rattle.parse.proofs.view.partition.Reads as reads
 use Rattle.parse.proofs.view.partition.Lts as lts
 use Rattle.parse.proofs.view.good_partition.Reads as good-partition-reads
 use Rattle.parse.proofs.view.partition_list.Reads as partition-list-reads
-use Rattle.tree.proofs.nth.Reads as nth-reads
+use Rattle.tree.proofs.nth_item.Reads as nth-item-reads
 
 partition-list-requires : tie.Need-partition-list-requires
 partition-list-requires c κs = search needs
 
-nth-requires : tie.Need-nth-requires
-nth-requires c κs = search (needs, partitions-hold)
+nth-item-requires : tie.Need-nth-item-requires
+nth-item-requires c κs = search (needs, partitions-hold)
 
 enum-known-found : tie.Need-enum-known-found
 enum-known-found c = search needs
@@ -34,7 +34,7 @@ partition-spec =
     tie.close
     (tie.spec
     partition-list-requires
-    nth-requires
+    nth-item-requires
     enum-known-found
     good-partition-requires
     enum-told

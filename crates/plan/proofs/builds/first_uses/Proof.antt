@@ -1,3 +1,4 @@
+-- The first uses among those before number i stand in the array, and use number i is of no package that one before number j is of.
 use borrow.Author.Needs.{needs}
 use Prim.Native.Nat.{_-_}
 use lib.ListN.{getD}

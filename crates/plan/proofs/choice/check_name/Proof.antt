@@ -5,7 +5,7 @@ use Rattle.plan.proofs.choice.check_name.Tie as tie
 use Rattle.plan.proofs.choice.check_name.Reads as reads
 use Rattle.plan.proofs.choice.check_name.Lts as lts
 use Rattle.parse.proofs.entry.application_at.Reads as application-at-reads
-use Rattle.parse.proofs.told.Reads as told-reads
+use Rattle.parse.proofs.refusal_at.Reads as refusal-at-reads
 use Rattle.plan.proofs.choice.taken.Reads as taken-reads
 use Rattle.schema.proofs.Text.length.Reads as length-reads
 use Rattle.schema.proofs.Text.start.Reads as start-reads
@@ -26,14 +26,14 @@ stored-requires c κs = search needs
 taken-requires : tie.Need-taken-requires
 taken-requires c κs = search needs
 
-told-requires : tie.Need-told-requires
-told-requires c κs = search needs
+refusal-at-requires : tie.Need-refusal-at-requires
+refusal-at-requires c κs = search needs
 
 returns : tie.Need-returns
 returns c = search (needs, name-taken)
 
-told-requires-2 : tie.Need-told-requires-2
-told-requires-2 c κs = search needs
+refusal-at-requires-2 : tie.Need-refusal-at-requires-2
+refusal-at-requires-2 c κs = search needs
 
 returns-2 : tie.Need-returns-2
 returns-2 c = search (needs, name-free)
@@ -47,7 +47,7 @@ check-name-spec =
     length-requires
     stored-requires
     taken-requires
-    told-requires
+    refusal-at-requires
     returns
-    told-requires-2
+    refusal-at-requires-2
     returns-2)

@@ -6,13 +6,13 @@ use Rattle.plan.proofs.component.count.Tie as tie
 use Rattle.plan.proofs.component.count.Reads as reads
 use Rattle.plan.proofs.component.count.Lts as lts
 use Rattle.parse.proofs.view.component_list.Reads as component-list-reads
-use Rattle.tree.proofs.count.Reads as count-reads
+use Rattle.tree.proofs.count_items.Reads as count-items-reads
 
 component-list-requires : tie.Need-component-list-requires
 component-list-requires c κs = search needs
 
-count-requires : tie.Need-count-requires
-count-requires c κs = search (needs, components-hold)
+count-items-requires : tie.Need-count-items-requires
+count-items-requires c κs = search (needs, components-hold)
 
 enum-told : tie.Need-enum-told
 enum-told c = search needs
@@ -40,7 +40,7 @@ count-spec =
     tie.close
     (tie.spec
     component-list-requires
-    count-requires
+    count-items-requires
     enum-told
     enum-told-2
     enum-told-3

@@ -1,3 +1,4 @@
+-- Each part of the entry is what a call said of it; the paths are too long for the search.
 use borrow.Author.Needs.{needs}
 use Rattle.validate.proofs.Entering.{component-done}
 use Rattle.validate.proofs.component.entry_of.Statement.{statement}

@@ -4,7 +4,7 @@ use Rattle.validate.proofs.component.late_fault.Statement.{statement}
 use Rattle.validate.proofs.component.late_fault.Tie as tie
 use Rattle.validate.proofs.component.late_fault.Reads as reads
 use Rattle.validate.proofs.component.late_fault.Lts as lts
-use Rattle.parse.proofs.field.first.Reads as first-reads
+use Rattle.parse.proofs.field.first_fault.Reads as first-fault-reads
 use Rattle.schema.proofs.Text.length.Reads as length-reads
 use Rattle.schema.proofs.Text.start.Reads as start-reads
 use Rattle.schema.proofs.stored.Reads as stored-reads
@@ -33,11 +33,11 @@ boot-fault-requires c κs = search needs
 reserve-fault-requires : tie.Need-reserve-fault-requires
 reserve-fault-requires c κs = search needs
 
-first-requires : tie.Need-first-requires
-first-requires c κs = search needs
+first-fault-requires : tie.Need-first-fault-requires
+first-fault-requires c κs = search needs
 
-first-requires-2 : tie.Need-first-requires-2
-first-requires-2 c κs = search needs
+first-fault-requires-2 : tie.Need-first-fault-requires-2
+first-fault-requires-2 c κs = search needs
 
 name-fault-requires : tie.Need-name-fault-requires
 name-fault-requires c κs = search needs
@@ -51,11 +51,11 @@ is-given-requires-2 c κs = search needs
 source-fault-requires : tie.Need-source-fault-requires
 source-fault-requires c κs = search needs
 
-first-requires-3 : tie.Need-first-requires-3
-first-requires-3 c κs = search needs
+first-fault-requires-3 : tie.Need-first-fault-requires-3
+first-fault-requires-3 c κs = search needs
 
-first-requires-4 : tie.Need-first-requires-4
-first-requires-4 c κs = search needs
+first-fault-requires-4 : tie.Need-first-fault-requires-4
+first-fault-requires-4 c κs = search needs
 
 returns : tie.Need-returns
 returns c = search (needs, late-done)
@@ -70,12 +70,12 @@ late-fault-spec =
     target-fault-requires
     boot-fault-requires
     reserve-fault-requires
-    first-requires
-    first-requires-2
+    first-fault-requires
+    first-fault-requires-2
     name-fault-requires
     is-given-requires
     is-given-requires-2
     source-fault-requires
-    first-requires-3
-    first-requires-4
+    first-fault-requires-3
+    first-fault-requires-4
     returns)

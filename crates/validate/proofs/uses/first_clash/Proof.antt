@@ -1,3 +1,4 @@
+-- The entries before number i agree with each other, so what is left of an entry after one of them clashes with another where the entry itself does.
 use borrow.Author.Needs.{needs}
 use Prim.Native.Nat.{_-_}
 use lib.ListN.{getD}
