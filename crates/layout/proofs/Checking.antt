@@ -8,19 +8,19 @@ use lib.Seq.{slice, slice-cons}
 use Rattle.meaning.specs.Schema as schemas
 use Rattle.meaning.specs.Layout as meant
 use Rattle.schema.specs.declared.Partition.{Partition}
-use Rattle.layout.specs.declared.Mark.{Mark}
-use Rattle.layout.specs.declared.Fault.{Fault}
-use Rattle.layout.specs.Marks.{judged, faultOf}
-use Rattle.layout.specs.Parts.{partMeant, marksFrom, Marking}
-use Rattle.layout.specs.Turns.{layout-none, layout-off, layout-judged}
+use Rattle.turns.specs.declared.Mark.{Mark}
+use Rattle.turns.specs.declared.Fault.{Fault}
+use Rattle.turns.specs.Marks.{judged, faultOf}
+use Rattle.layout.specs.Parts.{partMeant, marksFrom, OnBlocks}
+use Rattle.layout.specs.Layouts.{layout-none, layout-off, layout-judged}
 
 block-some : (chip : schemas.Chip) → 1 ≤ schemas.eraseFor chip
 unfolding schemas.eraseFor schemas.mediaFor schemas.erase
 block-some schemas.d13x = omega arith
 block-some schemas.d21x = omega arith
 
-pub marking : (chip : schemas.Chip) (block n : ℕ) → n ≤ 32 → block ≡ schemas.eraseFor chip → Marking n block
-marking chip block n h e = record { fits = h; some = rw e (block-some chip) }
+pub on-blocks : (chip : schemas.Chip) (block n : ℕ) → n ≤ 32 → block ≡ schemas.eraseFor chip → OnBlocks n block
+on-blocks chip block n h e = record { fits = h; some = rw e (block-some chip) }
 
 -- what stands past the end of a list of partitions
 abbrev pub noPart : Partition

@@ -9,7 +9,7 @@ use lib.ListN.{length, getD, take}
 use lib.Seq.{slice, slice-cons, slice-empty}
 use Rattle.meaning.specs.Base.{pick, same}
 use Rattle.schema.specs.declared.Partition.{Partition}
-use Rattle.layout.specs.Marks.{rank}
+use Rattle.layout.specs.Parts.{rank}
 use Rattle.layout.specs.Parts.{partName}
 
 -- no partition before number i bears the name

@@ -1,5 +1,5 @@
-pub mod Judging
 pub mod Marking
+pub mod Naming
 pub mod Finding
 pub mod Checking
 pub mod Walking

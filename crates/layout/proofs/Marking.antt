@@ -10,8 +10,9 @@ use lib.ListN.{length, getD, take, set, length-set}
 use lib.Seq.{slice, slice-cons, slice-empty, take-suc-set}
 use Rattle.meaning.specs.Base.{nil?}
 use Rattle.schema.specs.declared.Partition.{Partition}
-use Rattle.layout.specs.declared.Mark.{Mark}
-use Rattle.layout.specs.Parts.{partName, endOf, lateFault, markOf, marksFrom, noMarks}
+use Rattle.turns.specs.declared.Mark.{Mark}
+use Rattle.layout.specs.Parts.{partName, endOf, lateFault, markOf, marksFrom}
+use Rattle.turns.specs.Marks.{noMarks}
 
 -- ---- 48
 

@@ -1,4 +1,4 @@
-// A partition by its name among lent partitions: what `crate::find` says of an array by value.
+// A partition by its name among lent partitions: what `crate::find_partition` says of an array by value.
 
 use crate::bears;
 use schema::Partition;
@@ -6,8 +6,7 @@ ghost use mathlib.Core.Path.{_≡_};
 ghost use mathlib.Core.List.{map};
 ghost use Prim.Native.Nat.{_≤_};
 ghost use lib.ListN.{length, take};
-ghost use Rattle.layout.specs.Marks.{rank};
-ghost use Rattle.layout.specs.Parts.{partName};
+ghost use Rattle.layout.specs.Parts.{partName, rank};
 
 // The first of so many that bears a name; as many as there are where none does.
 pub fn scan(bytes: &[u8], items: &[Partition], count: usize, name: &[u8]) -> usize

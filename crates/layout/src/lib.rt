@@ -1,103 +1,29 @@
-// Partitions on the flash: 40 to 48 over an array of partitions and a chip, and lookup by name; and the first fault among entries whose names must differ.
+// Partitions on the flash: 40 to 48 over an array of partitions and a chip, and lookup by name.
 
 pub mod lent;
 
 use schema::Chip;
+use schema::MOST_ENTRIES;
+use schema::MOST_PARTITIONS;
 use schema::Partition;
+use schema::Text;
+use schema::Word;
+use turns::Fault;
+use turns::Mark;
 ghost use mathlib.Core.Path.{_≡_};
 ghost use mathlib.Core.List.{map};
 ghost use Prim.Native.Nat.{_≤_};
 ghost use lib.ListN.{take};
 ghost use Rattle.meaning.specs.Base.{same};
 ghost use Rattle.meaning.specs.Layout as meant;
+ghost use Rattle.meaning.specs.Rules as rules;
 ghost use Rattle.schema.specs.Words.{chipMeant};
-ghost use Rattle.layout.specs.Marks as marks;
-ghost use Rattle.layout.specs.Marks.{named, rank, Marked};
+ghost use Rattle.turns.specs.Marks.{faultOf};
 ghost use Rattle.layout.specs.Parts as parts;
-ghost use Rattle.layout.specs.Parts.{partMeant, Marking};
+ghost use Rattle.layout.specs.Parts.{partMeant, partName, nameIn, aim, rank, OnBlocks};
 
-// What one entry's rules say: before the question whether an earlier entry has its name, which is len bytes from a place on, and after it.
-pub struct Mark {
-    pub from: usize,
-    pub len: usize,
-    pub early: u32,
-    pub late: u32,
-}
-
-// A refusal's number, 0 for none, and the entry.
-pub struct Fault {
-    pub number: u32,
-    pub place: usize,
-}
-
-fn same_name(bytes: &[u8], a: Mark, b: Mark) -> bool
-    ensures { λ r. ⌜ r ≡ same (named (now (bytes .entry)) a) (named (now (bytes .entry)) b) ⌝ }
-{
-    let x = schema::stored(bytes, a.from, a.len);
-    let y = schema::stored(bytes, b.from, b.len);
-    slices::same(x, y)
-}
-
-// The first entry that has the name of an earlier one; as many as there are where there is none.
-pub fn first_twin(bytes: &[u8], entries: [Mark; 64], count: usize) -> usize
-    requires { ⌜ count ≤ 64 ⌝ }
-    ensures { λ r. ⌜ r ≡ marks.twin (now (bytes .entry)) (take count entries) ⌝ }
-{
-    let mut found = count;
-    'later: for i in 0..count {
-        for j in 0..i {
-            if same_name(bytes, entries[i], entries[j]) {
-                found = i;
-                break 'later;
-            }
-        }
-    }
-    found
-}
-
-// An entry's number: its early rules, its name, its late rules.
-fn entry_fault(m: Mark, twin: bool, number: u32) -> u32
-    ensures { λ r. ⌜ r ≡ marks.entryFault number twin m ⌝ }
-{
-    if m.early != 0 {
-        return m.early;
-    }
-    if twin {
-        if number != 0 {
-            return number;
-        }
-    }
-    m.late
-}
-
-// The first entry with a fault; one has the name of an earlier entry.
-fn first_fault(entries: [Mark; 64], count: usize, twin: usize, number: u32) -> Fault
-    requires { ⌜ count ≤ 64 ⌝ }
-    ensures { λ r. ⌜ r ≡ marks.firstFault number twin 0 (take count entries) ⌝ }
-{
-    for i in 0..count {
-        let n = entry_fault(entries[i], i == twin, number);
-        if n != 0 {
-            return Fault {
-                number: n,
-                place: i,
-            };
-        }
-    }
-    Fault {
-        number: 0,
-        place: 0,
-    }
-}
-
-// The entries in turn, each against the names of those before it.
-pub fn judge(bytes: &[u8], entries: [Mark; 64], count: usize, number: u32) -> Fault
-    requires { ⌜ Marked count number ⌝ }
-    ensures { λ r. ⌜ r ≡ marks.judged number (now (bytes .entry)) (take count entries) ⌝ }
-{
-    let twin = first_twin(bytes, entries, count);
-    first_fault(entries, count, twin, number)
-}
+// No partition ends at or above this.
+const ADDRESSES: u64 = 4294967296;
 
 // 44 to 48: size 0; offset off the erase block; size off it; starts before the previous end; end at or above 2^32.
 fn span_fault(p: Partition, end: u64, block: u32) -> u32
@@ -116,7 +42,7 @@ fn span_fault(p: Partition, end: u64, block: u32) -> u32
     if (p.offset as u64) < end {
         return 47;
     }
-    if 4294967296 <= end_of(p) {
+    if ADDRESSES <= end_of(p) {
         return 48;
     }
     0
@@ -141,28 +67,21 @@ fn mark_of(bytes: &[u8], p: Partition, end: u64, block: u32) -> Mark
     Mark {
         from: p.from,
         len: p.len,
-        early: early,
+        early,
         late: span_fault(p, end, block),
     }
 }
 
-pub fn no_marks() -> [Mark; 64]
-    ensures { λ r. ⌜ r ≡ parts.noMarks ⌝ }
-{
-    let blank = Mark {
-        from: 0,
-        len: 0,
-        early: 0,
-        late: 0,
-    };
-    [blank; 64]
-}
-
-fn marks_of(bytes: &[u8], items: [Partition; 32], count: usize, block: u32) -> [Mark; 64]
-    requires { ⌜ Marking count block ⌝ }
+fn marks_of(
+    bytes: &[u8],
+    items: [Partition; MOST_PARTITIONS],
+    count: usize,
+    block: u32,
+) -> [Mark; MOST_ENTRIES]
+    requires { ⌜ OnBlocks count block ⌝ }
     ensures { λ r. ⌜ take count r ≡ parts.marksFrom (now (bytes .entry)) block 0 (take count items) ⌝ }
 {
-    let mut entries = no_marks();
+    let mut entries = turns::no_marks();
     let mut end: u64 = 0;
     for i in 0..count {
         let p = items[i];
@@ -173,9 +92,14 @@ fn marks_of(bytes: &[u8], items: [Partition; 32], count: usize, block: u32) -> [
 }
 
 // 40 to 48: the layout of these partitions on a chip's flash; their names lie in some bytes.
-pub fn check(bytes: &[u8], items: [Partition; 32], count: usize, chip: Chip) -> Fault
+pub fn check_layout(
+    bytes: &[u8],
+    items: [Partition; MOST_PARTITIONS],
+    count: usize,
+    chip: Chip,
+) -> Fault
     requires { ⌜ count ≤ 32 ⌝ }
-    ensures { λ r. ⌜ r ≡ marks.faultOf (meant.layout (chipMeant chip) (map (partMeant (now (bytes .entry))) (take count items))) ⌝ }
+    ensures { λ r. ⌜ r ≡ faultOf (meant.layout (chipMeant chip) (map (partMeant (now (bytes .entry))) (take count items))) ⌝ }
 {
     if count == 0 {
         return Fault {
@@ -190,7 +114,7 @@ pub fn check(bytes: &[u8], items: [Partition; 32], count: usize, chip: Chip) -> 
             place: 0,
         };
     }
-    judge(
+    turns::judge_marks(
         bytes,
         marks_of(bytes, items, count, chip.erase_size()),
         count,
@@ -206,7 +130,12 @@ fn bears(bytes: &[u8], p: Partition, name: &[u8]) -> bool
 }
 
 // The first partition that bears a name; as many as there are where none does.
-pub fn find(bytes: &[u8], items: [Partition; 32], count: usize, name: &[u8]) -> usize
+pub fn find_partition(
+    bytes: &[u8],
+    items: [Partition; MOST_PARTITIONS],
+    count: usize,
+    name: &[u8],
+) -> usize
     requires { ⌜ count ≤ 32 ⌝ }
     ensures { λ r. ⌜ r ≡ rank (now (name .entry)) (map (parts.partName (now (bytes .entry))) (take count items)) ⌝ }
 {
@@ -216,4 +145,53 @@ pub fn find(bytes: &[u8], items: [Partition; 32], count: usize, name: &[u8]) -> 
         }
     }
     count
+}
+
+// "A component's reference drops everything from the first `;` and is trimmed."
+pub fn partition_name<'a>(s: &'a [u8]) -> &'a [u8]
+    ensures { λ r. ⌜ now r ≡ rules.nameOf (now (s .entry)) ⌝ }
+{
+    let n = slices::find(s, b';');
+    let cut = &s[0..n];
+    let part = chars::trim(cut);
+    let from = part.from;
+    let end = part.end;
+    &cut[from..end]
+}
+
+// The name in a reference; or what was given, as it is.
+fn name_in<'a>(s: &'a [u8], cut: bool) -> &'a [u8]
+    ensures { λ r. ⌜ now r ≡ nameIn cut (now (s .entry)) ⌝ }
+{
+    if cut {
+        return partition_name(s);
+    }
+    s
+}
+
+// The partition that a text names, or refers to where it is to be cut; as many as there are where there is none.
+pub fn find_named(
+    store: &[u8],
+    items: [Partition; MOST_PARTITIONS],
+    count: usize,
+    t: Text,
+    cut: bool,
+) -> usize
+    requires { ⌜ count ≤ 32 ⌝ }
+    ensures { λ r. ⌜ r ≡ aim cut (now (store .entry)) (map (partName (now (store .entry))) (take count items)) t ⌝ }
+{
+    match t {
+        Text::Stored { from, len } => {
+            let name = name_in(schema::stored(store, from, len), cut);
+            lent::find(store, items, count, name)
+        }
+        Text::Fixed(w) => {
+            let all = Word::ALL;
+            let s = w.span();
+            let from = s.from;
+            let to = s.to;
+            lent::find(store, items, count, name_in(&all[from..to], cut))
+        }
+        _ => count,
+    }
 }

@@ -2,22 +2,17 @@
 use Prim.Native.Nat.{ℕ, _≤_, _<_}
 use mathlib.Core.Bool.{Bool, true, false}
 use mathlib.Core.List.{List, [], _∷_}
-use mathlib.Core.Logic.{inl, inr}
 use mathlib.Core.Path.{_≡_, refl, sym, ap, _∙_}
-use native.Mathlib.Omega.{arith}
 use borrow.Author.Tests.{le-leb, lt-leb}
-use denote.Enum.Declared.{tagOf}
-use types.Run.{OneOf}
 use Rattle.tree.specs.declared.Value.{Value}
 use Rattle.tree.specs.declared.Fields.{Fields}
 use Rattle.laws.specs.Cases.{never}
 use Rattle.tree.specs.Doors.{field}
 use Rattle.tree.proofs.Others.{Left, others}
-use Rattle.schema.proofs.Text.{the-type}
+use Rattle.schema.proofs.Wording.{Elsewhere, elsewhere}
 use Rattle.schema.specs.declared.Text.{Text}
 use Rattle.schema.specs.declared.Text.the-variants as texts
 use Rattle.schema.specs.declared.Number.the-variants as numbers
-use Rattle.schema.specs.declared.Word.{Word}
 use Rattle.schema.specs.declared.Kind.the-variants.{Raw}
 use Rattle.schema.specs.declared.KindRead.{KindRead}
 use Rattle.schema.specs.declared.Media.{Media}
@@ -86,25 +81,6 @@ module _ (room store : List ℕ) (f : Fields) (key : List ℕ) (v : Value) (e : 
 
     pub number-needs : (t : NumberRead) → t ≡ numberRead v → n ≡ firstFault (t .fault) m → record { fault = n; number = t .number } ≡ numberNeeded room store f key
     number-needs t et en = rw (en, em, et, e)
-
--- ---- a text that is no string of the store: of a text's variants that is number 1
-abbrev pub Elsewhere : Text → Type 0
-Elsewhere t = OneOf (0 ∷ 2 ∷ 3 ∷ 4 ∷ []) (tagOf the-type t)
-
-other : (n : ℕ) → OneOf (0 ∷ 2 ∷ 3 ∷ 4 ∷ []) n → n ≡ 1 → ⊥
-other n (inl a) e = omega arith
-other n (inr (inl a)) e = omega arith
-other n (inr (inr (inl a))) e = omega arith
-other n (inr (inr (inr a))) e = omega arith
-
--- what gives the same for all of them
-pub elsewhere {ℓ} : {X : Type ℓ} (g : Text → X) (x : X) → x ≡ g texts.Absent → x ≡ g texts.Lent → ((w : Word) → x ≡ g (texts.Fixed w)) → ((f n : ℕ) → x ≡ g (texts.WithAic f n))
-    → (t : Text) → Elsewhere t → x ≡ g t
-elsewhere g x a l f w texts.Absent o = a
-elsewhere g x a l f w (texts.Stored from len) o = absurd (other 1 o refl)
-elsewhere g x a l f w texts.Lent o = l
-elsewhere g x a l f w (texts.Fixed v) o = f v
-elsewhere g x a l f w (texts.WithAic from len) o = w from len
 
 -- ---- a text that is a word of some
 module _ (store : List ℕ) (t u : TextRead) (e : t ≡ u) where

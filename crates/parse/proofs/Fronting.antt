@@ -12,6 +12,7 @@ use Rattle.tree.specs.Doors.{Rooms, Spread, field, fieldsOf, noFields}
 use Rattle.tree.specs.Spans.{spread-fields}
 use Rattle.laws.specs.Cases.{never}
 use Rattle.tree.proofs.Others.{Left, others}
+use Rattle.schema.proofs.Wording.{Elsewhere, elsewhere}
 use Rattle.schema.specs.declared.Text.{Text}
 use Rattle.schema.specs.declared.Text.the-variants as texts
 use Rattle.schema.specs.declared.Word.{Word}
@@ -36,7 +37,6 @@ use Rattle.parse.specs.declared.front.Front.{Front}
 use Rattle.parse.specs.Fields.{firstFault, textAt, numberAt, mediaAt}
 use Rattle.parse.specs.Refusals.{inSection, earlier}
 use Rattle.parse.specs.Front.{tableOf, tableAt, chipWord, chosen, chosenBy, sections, chipOf, boardRead, imageNames, imageRest, imageRead, frontOf, frontRead}
-use Rattle.parse.proofs.Fielding.{Elsewhere, elsewhere}
 
 -- ---- tables of the root
 module _ (room : List ℕ) (made : ℕ) where

@@ -34,6 +34,7 @@ use Rattle.parse.specs.declared.entry.Partitions.{Partitions}
 use Rattle.parse.specs.declared.entry.PartitionRead.{PartitionRead}
 use Rattle.parse.specs.declared.component.ComponentRead.{ComponentRead}
 use Rattle.parse.specs.declared.application.ApplicationRead.{ApplicationRead}
+use Rattle.parse.specs.declared.view.Lists.{Lists}
 use Rattle.parse.specs.declared.view.PartitionFound.{PartitionFound}
 use Rattle.parse.specs.declared.view.PartitionFound.the-variants as parts
 use Rattle.parse.specs.declared.view.ComponentFound.{ComponentFound}
@@ -44,7 +45,7 @@ use Rattle.parse.specs.Refusals.{inSection, earlier}
 use Rattle.parse.specs.Fields.{mediaAt}
 use Rattle.parse.specs.Front.{tableAt, chipOf, boardRead, imageRead, frontOf, frontRead}
 use Rattle.parse.specs.Entries.{listOf, orOther, listAt, keysOf, keysAt, Among, Partitioned, partitions, components, applications, refusalOf, partitionAt, componentAt, applicationAt, Keyed, nthKey}
-use Rattle.parse.specs.Views.{partitionList, componentList, applicationList, goodPartition, goodComponent, goodApplication, partitionOf, componentOf, applicationOf, partition, component, application, countsOf, deviceOf, holdsValues}
+use Rattle.parse.specs.Views.{partitionList, componentList, applicationList, goodPartition, goodComponent, goodApplication, partitionOf, componentOf, applicationOf, partition, component, application, listsOf, countsOf, deviceOf, holdsValues}
 use Rattle.parse.specs.Refused as refused
 use Rattle.parse.specs.Placed.{verdict-place}
 use Rattle.parse.specs.Refused.{lentText}
@@ -241,10 +242,25 @@ sound-rooms room made b e t =
     else : false ≡ true → ⊥
     else f = let z : _≡_ {A = ℕ} 0 1 = ap (λ (x : Bool). pick x 1 0) f in omega arith
 
-pub counts-are : (room store : Seq ℕ) (made : ℕ) (p c a : List) (n m k : ℕ) → p ≡ partitionList room store made → c ≡ componentList room store made → a ≡ applicationList room store made
-    → Counted room (p .end) (p .place) n → Counted room (c .end) (c .place) m → Keyed room store a 64 k → record { partitions = n; components = m; applications = k } ≡ countsOf room store made
-unfolding countsOf
-counts-are room store made p c a n m k ep ec ea hn hm hk = rw (hn .is, hm .is, hk .is, ep, ec, ea)
+pub lists-are : (room store : Seq ℕ) (made : ℕ) (p c a : List) → p ≡ partitionList room store made → c ≡ componentList room store made → a ≡ applicationList room store made
+    → record { partitions = p; components = c; applications = a } ≡ listsOf room store made
+lists-are room store made p c a ep ec ea = rw (ep, ec, ea)
+
+-- the lists stand in the room
+module _ (room store : Seq ℕ) (made : ℕ) (l : Lists) (h : Rooms room made) (e : l ≡ listsOf room store made) where
+  pub lists-partitions : Holds room (l .partitions .end)
+  lists-partitions = partitions-hold room store made (l .partitions) h (ap (λ (x : Lists). x .partitions) e)
+
+  pub lists-components : Holds room (l .components .end)
+  lists-components = components-hold room store made (l .components) h (ap (λ (x : Lists). x .components) e)
+
+  pub lists-applications : Holds room (l .applications .end)
+  lists-applications = applications-hold room store made (l .applications) h (ap (λ (x : Lists). x .applications) e)
+
+  pub counts-are : (n m k : ℕ) → Counted room (l .partitions .end) (l .partitions .place) n → Counted room (l .components .end) (l .components .place) m
+      → Keyed room store (l .applications) 64 k → record { partitions = n; components = m; applications = k } ≡ countsOf room store made
+  unfolding countsOf
+  counts-are n m k hn hm hk = rw (hn .is, hm .is, hk .is, e)
 
 pub device-is : (room store : Seq ℕ) (made : ℕ) (f : Fields) (b i : TableRead) (c : ChipFound) (d : Media) (m : MediaRead)
     → f ≡ fieldsOf room made 1 → b ≡ tableAt room store made f (ascii "board") → i ≡ tableAt room store made f (ascii "image")

@@ -17,6 +17,7 @@ use Rattle.parse.specs.declared.view.ComponentFound.{ComponentFound}
 use Rattle.parse.specs.declared.view.ComponentFound.the-variants as components
 use Rattle.parse.specs.declared.view.ApplicationFound.{ApplicationFound}
 use Rattle.parse.specs.declared.view.ApplicationFound.the-variants as applications
+use Rattle.parse.specs.declared.view.Lists.{Lists}
 use Rattle.parse.specs.declared.view.Counts.{Counts}
 use Rattle.parse.specs.declared.view.Device.{Device}
 use Rattle.parse.specs.Front.{frontRead}
@@ -68,6 +69,9 @@ module _ (room store : Seq ℕ) (made : ℕ) where
   application i limit = applicationOf limit (nthKey room store applicationList i)
 
   -- ---- how many entries there are, and what the preset is for
+
+  abbrev pub listsOf : Lists
+  listsOf = record { partitions = partitionList; components = componentList; applications = applicationList }
 
   unfoldable pub countsOf : Counts
   countsOf =

@@ -150,6 +150,24 @@ pub fn holds_values(tree: &[u8], made: usize) -> bool
     true
 }
 
+// Where all three stand.
+pub struct Lists {
+    pub partitions: List,
+    pub components: List,
+    pub applications: List,
+}
+
+pub fn lists_of(tree: &[u8], store: &[u8], made: usize) -> Lists
+    requires { ⌜ Rooms (now tree) made ⌝ }
+    ensures { λ r. ⌜ r ≡ views.listsOf (now (tree .entry)) (now (store .entry)) made ⌝ }
+{
+    Lists {
+        partitions: partition_list(tree, store, made),
+        components: component_list(tree, store, made),
+        applications: application_list(tree, store, made),
+    }
+}
+
 // How many entries the lists have; of applications no more than one past the limit are counted.
 pub struct Counts {
     pub partitions: usize,
@@ -157,18 +175,27 @@ pub struct Counts {
     pub applications: usize,
 }
 
-pub fn counts_of(tree: &[u8], store: &[u8], made: usize) -> Counts
-    requires { ⌜ Rooms (now tree) made ⌝ }
+// Of lists that are looked up already.
+pub fn counts_in(tree: &[u8], store: &[u8], made: usize, l: Lists) -> Counts
+    requires { ⌜ Rooms (now tree) made × (l ≡ views.listsOf (now tree) (now store) made) ⌝ }
     ensures { λ r. ⌜ r ≡ views.countsOf (now (tree .entry)) (now (store .entry)) made ⌝ }
 {
-    let p = partition_list(tree, store, made);
-    let c = component_list(tree, store, made);
-    let a = application_list(tree, store, made);
+    let p = l.partitions;
+    let c = l.components;
+    let a = l.applications;
     Counts {
         partitions: tree::count_items(tree, p.end, p.place),
         components: tree::count_items(tree, c.end, c.place),
         applications: crate::entry::count_keys(tree, store, a, meaning::APPLICATIONS),
     }
+}
+
+pub fn counts_of(tree: &[u8], store: &[u8], made: usize) -> Counts
+    requires { ⌜ Rooms (now tree) made ⌝ }
+    ensures { λ r. ⌜ r ≡ views.countsOf (now (tree .entry)) (now (store .entry)) made ⌝ }
+{
+    let l = lists_of(tree, store, made);
+    counts_in(tree, store, made, l)
 }
 
 // The same of any rooms: nothing where they do not hold the values.

@@ -13,18 +13,20 @@ use Rattle.meaning.specs.Base.{pick, ascii}
 use Rattle.meaning.specs.Rules.{twice}
 use Rattle.laws.specs.Cases.{on}
 use Rattle.tree.specs.declared.Value.{Value}
-use Rattle.tree.specs.declared.Slot.{Slot}
-use Rattle.tree.specs.declared.Found.{Found}
+use Rattle.tree.specs.declared.Span.{Span}
+use Rattle.tree.specs.declared.Items.{Items}
+use Rattle.tree.specs.declared.Item.{Item}
+use Rattle.tree.specs.declared.Item.the-variants as given
+use Rattle.tree.specs.Steps.{itemsFrom, toCome, Gives, KeyIs, item-room, item-ended, item-given, item-stands}
+use Rattle.validate.proofs.Pairing.{key-spot}
 use Rattle.tree.specs.declared.Found.the-variants.{At, Nothing}
-use Rattle.tree.specs.Room.{Finds, slotAt, child}
+use Rattle.tree.specs.Room.{Holds}
 use Rattle.tree.specs.Doors as doors
 use Rattle.tree.specs.Doors.{Rooms, Stood}
-use Rattle.tree.specs.Spans.{items-step, items-end}
-use Rattle.tree.specs.Laws.{found-below}
 use Rattle.schema.specs.declared.Text.{Text}
 use Rattle.schema.specs.declared.Text.the-variants as texts
 use Rattle.schema.specs.declared.Features.{Features}
-use Rattle.schema.specs.Texts.{orText}
+use Rattle.schema.specs.Texts.{orText, isGiven}
 use Rattle.parse.specs.declared.field.TextRead.{TextRead}
 use Rattle.parse.specs.declared.component.Sources.{Sources}
 use Rattle.parse.specs.declared.component.Lists.{Lists}
@@ -37,13 +39,12 @@ use Rattle.parse.specs.Application.{loading, applicationRead}
 use Rattle.parse.specs.Entries.{entryTable, tableAt, componentAt, applicationAt}
 use Rattle.parse.specs.Views.{componentList}
 use Rattle.parse.proofs.Judging.{components-among}
-use Rattle.layout.specs.Marks.{anyOf}
-use Rattle.validate.specs.Entries.{there}
-use Rattle.validate.specs.declared.uses.Spot.{Spot}
-use Rattle.validate.specs.declared.uses.Pair.{Pair}
-use Rattle.validate.specs.Clashes as spots
-use Rattle.validate.specs.Clashes.{packed, noSpot, textSpot, listSpot, spotted, listAt, single}
-use Rattle.validate.specs.ClashSaid.{Short, ShortList, stored-short, list-short, field-text-short, field-list-short, lists-short}
+use Rattle.turns.specs.Marks.{anyOf}
+use Rattle.schema.specs.declared.spot.Spot.{Spot}
+use Rattle.schema.specs.Spots as spots
+use Rattle.schema.specs.Spots.{packed, noSpot, textSpot, listSpot, spotted, listAt}
+use Rattle.schema.specs.Spots.{Short, ShortList, stored-short, list-short}
+use Rattle.validate.specs.ClashSaid.{field-text-short, field-list-short, lists-short}
 use Rattle.plan.specs.declared.component.Build.{Build}
 use Rattle.plan.specs.declared.builds.Use.{Use}
 use Rattle.plan.specs.declared.builds.BuildList.{BuildList}
@@ -99,12 +100,12 @@ wanted-read room store made n v t s l o own pbp e1 e2 e3 e4 e5 e6 e7 =
     ))
 
 -- an application's package and bin are its key
-pub application-read : (room store : Seq ℕ) (made n : ℕ) (r : ApplicationRead) (v : Slot) (p : Pair) → r ≡ applicationAt room store made n 32 → v ≡ slotAt room n
-    → p ≡ single (v .key) (v .len) (r .application .features) → buildAt (record { «package» = p .«package»; bin = p .«package»; features = p .features }) ≡ applicationUse room store made n
+pub application-read : (room store : Seq ℕ) (made n : ℕ) (r : ApplicationRead) (k : Span) (key list : Spot) → r ≡ applicationAt room store made n 32 → KeyIs room n k
+    → key ≡ spots.bytesSpot (k .from) (k .len) → list ≡ listSpot (r .application .features) → buildAt (record { «package» = key; bin = key; features = list }) ≡ applicationUse room store made n
 unfolding buildAt spots.textAt applicationUse applicationAt applicationRead loading
-application-read room store made n r v p e1 e2 e3 =
-    let list = applicationAt room store made n 32 .application .features in
-    rw (e3, e2, e1, list-short list (field-list-short room store (tableAt room store made n .fields) made 32 (ascii "features")))
+application-read room store made n r k key list e1 e2 e3 e4 =
+    let fs = applicationAt room store made n 32 .application .features in
+    rw (key-spot room n k key e2 e3, e4, e1, list-short fs (field-list-short room store (tableAt room store made n .fields) made 32 (ascii "features")))
 
 -- ---- two more in an array
 
@@ -125,59 +126,62 @@ used-by most i us xs e l m =
 -- ---- components
 
 -- the uses of those that were met stand in the array; m more may come
-pub record Gathering (room store : Seq ℕ) (made place end : ℕ) (xs : Seq Use) (i from : ℕ) : Type 0 where
-  pub high : from ≤ end
+pub record Gathering (room store : Seq ℕ) (made place end : ℕ) (xs : Seq Use) (i : ℕ) (w : Items) : Type 0 where
+  pub among : w .end ≡ end
   pub long : length xs ≡ 129
   pub more : ℕ
   pub few : i + more + more ≡ 128
-  pub left : eachComponent room store made place end ≡ map buildAt (take i xs) ++ usesOf room store made (take more (doors.items room end place from))
+  pub left : eachComponent room store made place end ≡ map buildAt (take i xs) ++ usesOf room store made (take more (toCome room w))
 
 module _ (room store : Seq ℕ) (made place end : ℕ) where
-  pub comps-start : (xs : Seq Use) → xs ≡ replicate 129 noUse → Gathering room store made place end xs 0 0
-  comps-start xs e = record { high = omega arith; long = ap length e; more = 64; few = refl; left = refl }
+  pub comps-start : (xs : Seq Use) (w : Items) → xs ≡ replicate 129 noUse → w ≡ itemsFrom place 0 end → Gathering room store made place end xs 0 w
+  comps-start xs w e d = record { among = ap (λ (x : Items). x .end) d; long = ap length e; more = 64; few = refl; left = rw d }
 
-  module _ (xs : Seq Use) (i from : ℕ) (k : Gathering room store made place end xs i from) where
+  module _ (xs : Seq Use) (i : ℕ) (w : Items) (k : Gathering room store made place end xs i w) where
+    comps-within : Wanting room made end → w .end ≤ made
+    comps-within h = omega (arith, k .among, h .within)
+
+    pub comps-holds : Wanting room made end → Holds room (w .end)
+    comps-holds h = item-room room made w (h .rooms) (comps-within h)
+
     -- no more are asked
-    comps-done : take (k .more) (doors.items room end place from) ≡ [] → Used 128 (eachComponent room store made place end) (record { count = i; items = xs })
+    comps-done : take (k .more) (toCome room w) ≡ [] → Used 128 (eachComponent room store made place end) (record { count = i; items = xs })
     comps-done g = used-by 128 i (eachComponent room store made place end) xs (rw (g, append-nil) at (k .left)) (omega (arith, k .few, k .long)) (omega (arith, k .few))
-
-    comps-empty : doors.items room end place from ≡ [] → Used 128 (eachComponent room store made place end) (record { count = i; items = xs })
-    comps-empty g = comps-done (rw g (take-nil (k .more)))
-
-    pub comps-end : end ≤ from → Used 128 (eachComponent room store made place end) (record { count = i; items = xs })
-    unfolding doors.items
-    comps-end l = let d : end - from ≡ 0 = omega arith in comps-empty (rw d)
 
     pub comps-full : 128 ≤ i → Used 128 (eachComponent room store made place end) (record { count = i; items = xs })
     comps-full l = let d : k .more ≡ 0 = omega (arith, k .few) in comps-done (rw d)
 
-    module _ (found : Found) (h : Finds from end (child room end place from) found) where
-      pub comps-none : found ≡ Nothing → Used 128 (eachComponent room store made place end) (record { count = i; items = xs })
-      comps-none g = comps-empty (items-end room end place from found h g)
+    module _ (step : Item) (h : Gives room w step) where
+      pub comps-none : step ≡ given.End → Used 128 (eachComponent room store made place end) (record { count = i; items = xs })
+      comps-none g = comps-done (rw (item-ended room w step h g) (take-nil (k .more)))
 
-      module _ (n : ℕ) (g : found ≡ At n) (l : i < 128) where
-        pub comps-room : i + 1 < 129
-        comps-room = omega arith
+      module _ (n : ℕ) (rest : Items) (g : step ≡ given.At n rest) where
+        pub comps-stood : Wanting room made end → Stood room n
+        comps-stood q = item-stands room w step h n rest g made (q .rooms) (comps-within q)
 
-        pub comps-on : (w : Wanted) → bothAt w ≡ wantedAt room store made n
-            → Gathering room store made place end (set (set xs i (w .own)) (i + 1) (w .pbp)) (i + 2) (n + 1)
-        comps-on w e = by (k .more) (k .few) (k .left)
-          where
-            by : (m : ℕ) → i + m + m ≡ 128 → eachComponent room store made place end ≡ map buildAt (take i xs) ++ usesOf room store made (take m (doors.items room end place from))
-                → Gathering room store made place end (set (set xs i (w .own)) (i + 1) (w .pbp)) (i + 2) (n + 1)
-            by zero f z = absurd (omega (arith, f))
-            by (suc m) f z =
-                let s : doors.items room end place from ≡ n ∷ doors.items room end place (n + 1) = items-step room end place from n found h g in
-                let y : eachComponent room store made place end ≡ map buildAt (take i xs) ++ (buildAt (w .own) ∷ buildAt (w .pbp) ∷ usesOf room store made (take m (doors.items room end place (n + 1)))) = rw (s, ← e) at z in
-                record {
-                  high = omega (arith, found-below found end n (h .below) g);
-                  long = length-set (set xs i (w .own)) (i + 1) (w .pbp) ∙ length-set xs i (w .own) ∙ k .long;
-                  more = m;
-                  few = omega (arith, f);
-                  left = rw (take-two-set xs i (w .own) (w .pbp) (omega (arith, f, k .long)), map-append buildAt (take i xs) (w .own ∷ w .pbp ∷ []), append-assoc) y;
-                }
+        module _ (l : i < 128) where
+          pub comps-room : i + 1 < 129
+          comps-room = omega arith
 
--- ---- the application's use behind them
+          pub comps-on : (u : Wanted) → bothAt u ≡ wantedAt room store made n
+              → Gathering room store made place end (set (set xs i (u .own)) (i + 1) (u .pbp)) (i + 2) rest
+          comps-on u e = by (k .more) (k .few) (k .left)
+            where
+              by : (m : ℕ) → i + m + m ≡ 128 → eachComponent room store made place end ≡ map buildAt (take i xs) ++ usesOf room store made (take m (toCome room w))
+                  → Gathering room store made place end (set (set xs i (u .own)) (i + 1) (u .pbp)) (i + 2) rest
+              by zero f z = absurd (omega (arith, f))
+              by (suc m) f z =
+                  let s = item-given room w step h n rest g in
+                  let y : eachComponent room store made place end ≡ map buildAt (take i xs) ++ (buildAt (u .own) ∷ buildAt (u .pbp) ∷ usesOf room store made (take m (toCome room rest))) = rw (s .come, ← e) at z in
+                  record {
+                    among = s .end ∙ k .among;
+                    long = length-set (set xs i (u .own)) (i + 1) (u .pbp) ∙ length-set xs i (u .own) ∙ k .long;
+                    more = m;
+                    few = omega (arith, f);
+                    left = rw (take-two-set xs i (u .own) (u .pbp) (omega (arith, f, k .long)), map-append buildAt (take i xs) (u .own ∷ u .pbp ∷ []), append-assoc) y;
+                  }
+
+-- ---- the application's use after them
 
 -- an array in a struct is as long as its elements in the machine
 module _ {X : Type 0} (f : Use → X) (u : BuildList) (h : Room u) (w : length (map f (u .items)) ≡ 129) where
@@ -197,9 +201,9 @@ module _ (store : Seq ℕ) where
   unfolding spots.textAt spotted
   packed-at s = on (eqb (s .kind) 1) (λ e. rw e) (λ e. rw e)
 
-  there-at : (s : Spot) → there (spots.textAt s) ≡ eqb (s .kind) 1
+  given-at : (s : Spot) → isGiven (spots.textAt s) ≡ eqb (s .kind) 1
   unfolding spots.textAt
-  there-at s = on (eqb (s .kind) 1) (λ e. rw e) (λ e. rw e)
+  given-at s = on (eqb (s .kind) 1) (λ e. rw e) (λ e. rw e)
 
   any-at : (u : Use) (es : Seq Use) → anyOf (λ (v : Build). twice (packed store (spots.textAt (u .«package»))) (packed store (v .«package»))) (map buildAt es) ≡ anyOf (same-package store u) es
   unfolding buildAt
@@ -209,7 +213,7 @@ module _ (store : Seq ℕ) where
   -- a use of a package that none of the earlier ones is of, by spots
   fresh-at : (es : Seq Use) (u : Use) → fresh store (map buildAt es) (buildAt u) ≡ pick (eqb (u .«package» .kind) 1) (pick (anyOf (same-package store u) es) false true) false
   unfolding fresh buildAt
-  fresh-at es u = rw (any-at u es, there-at (u .«package»))
+  fresh-at es u = rw (any-at u es, given-at (u .«package»))
 
 -- the first uses among those before number i stand in the array
 pub record Firsts (store : Seq ℕ) (uses : Seq Use) (count : ℕ) (xs : Seq Use) (n i : ℕ) : Type 0 where

@@ -1,19 +1,23 @@
 -- The selection: one law for each way on and out.
 use Prim.Native.Nat.{ℕ, suc, _+_, _-_, _≤_, _<_}
 use mathlib.Core.Bool.{Bool, true, false}
-use mathlib.Core.List.{List as Seq, _∷_}
+use mathlib.Core.List.{List as Seq}
 use mathlib.Core.Path.{_≡_, refl, sym, ap, _∙_}
 use native.Mathlib.Omega.{arith}
 use borrow.Author.Tests.{ne-eqb}
 use Rattle.meaning.specs.Base.{ascii, same}
-use Rattle.tree.specs.declared.Slot.{Slot}
+use Rattle.tree.specs.declared.Span.{Span}
+use Rattle.tree.specs.declared.Items.{Items}
+use Rattle.tree.specs.declared.Item.{Item}
+use Rattle.tree.specs.declared.Item.the-variants as given
+use Rattle.tree.specs.declared.Keys.{Keys}
+use Rattle.tree.specs.declared.Key.{Key}
+use Rattle.tree.specs.declared.Key.the-variants as keys
+use Rattle.tree.specs.Steps.{itemsFrom, toCome, Gives, KeyIs, Over, Begins, KeyGives, key-given, key-stands}
+use Rattle.parse.proofs.Entering.{walk-ended, walk-given}
 use Rattle.tree.specs.declared.Value.{Value}
-use Rattle.tree.specs.declared.Found.{Found}
 use Rattle.tree.specs.declared.Found.the-variants as founds
-use Rattle.tree.specs.Room.{Finds, slotAt, child}
-use Rattle.tree.specs.Order.{next}
-use Rattle.tree.specs.Doors.{Stood, valueAt, items}
-use Rattle.tree.specs.Laws.{found-below}
+use Rattle.tree.specs.Doors.{Stood, valueAt}
 use Rattle.schema.specs.Texts.{clip, startOf, lengthOf}
 use Rattle.parse.specs.declared.Refusal.{Refusal}
 use Rattle.parse.specs.declared.front.TableRead.{TableRead}
@@ -24,59 +28,59 @@ use Rattle.parse.specs.Fields.{textNeeded}
 use Rattle.parse.specs.Component.{componentRead, headRead}
 use Rattle.parse.specs.Entries.{Among, entryTable, refusalAt, walk, componentAt, applicationAt}
 use Rattle.parse.specs.Views.{componentList, applicationList}
-use Rattle.layout.specs.Marks.{anyOf}
+use Rattle.turns.specs.Marks.{anyOf}
 use Rattle.plan.specs.declared.choice.Choice.{Choice}
 use Rattle.plan.specs.declared.choice.Choice.the-variants.{BootChain, Undeclared, At}
 use Rattle.plan.specs.Choices.{Chosen, keyed, declaredIn, declared, choice, named, taken, nameFault, fault}
-use Rattle.plan.proofs.Walking.{Left, left-past, left-none, left-at, left-on}
+use Rattle.plan.proofs.Walking.{Left, left-none, left-at, left-on}
 
 -- ---- the application of a key
 
-pub key-is : (room store key : Seq ℕ) (n : ℕ) (v : Slot) (b : Seq ℕ) (r : Bool) → v ≡ slotAt room n → b ≡ clip (v .key) (v .len) store → r ≡ same key b → r ≡ keyed room store key n
+pub key-is : (room store key : Seq ℕ) (n : ℕ) (v : Span) (b : Seq ℕ) (r : Bool) → KeyIs room n v → b ≡ clip (v .from) (v .len) store → r ≡ same key b → r ≡ keyed room store key n
 unfolding keyed
-key-is room store key n v b r e1 e2 e3 = rw (e3, e2, e1)
+key-is room store key n v b r e1 e2 e3 = rw (e3, e2, e1 .is)
 
--- what is left to look through gives what all of it gives
-pub record Seeking (room store key : Seq ℕ) (end place : ℕ) (after : Found) (i : ℕ) : Type 0 where
+-- of a walk that began as v, what is left to look through gives what all of it gives
+pub record Seeking (room store key : Seq ℕ) (v w : Keys) (i : ℕ) : Type 0 where
   pub high : i ≤ 65
-  pub left : declaredIn room store key 0 (walk room store end place 65 founds.Nothing) ≡ declaredIn room store key i (walk room store end place (65 - i) after)
+  pub over : Over room (v .place) (v .end) w
+  pub left : declaredIn room store key 0 (walk room store (v .end) (v .place) 65 founds.Nothing)
+      ≡ declaredIn room store key i (walk room store (v .end) (v .place) (65 - i) (w .after))
 
-pub seek-start : (room store key : Seq ℕ) (end place : ℕ) → Seeking room store key end place founds.Nothing 0
-seek-start room store key end place = record { high = omega arith; left = refl }
+pub seek-start : (room store key : Seq ℕ) (place end : ℕ) (v : Keys) → Begins room place end founds.Nothing v → Seeking room store key v v 0
+seek-start room store key place end v b = record { high = omega arith; over = record { ready = b .over .ready; place = refl; end = refl }; left = rw (b .after) }
 
-module _ (room store key : Seq ℕ) (end place : ℕ) (after : Found) (i : ℕ) (k : Seeking room store key end place after i) (l : i ≤ 64)
-    (n : ℕ) (found : Found) (h : Finds 0 end (next (slotAt room) store end place after) found) (g : found ≡ founds.At n) where
-  seek-step : walk room store end place (65 - i) after ≡ n ∷ walk room store end place (65 - (i + 1)) (founds.At n)
-  seek-step =
-      let d : 65 - i ≡ suc (65 - (i + 1)) = omega arith in
-      let e : next (slotAt room) store end place after ≡ founds.At n = sym (h .is) ∙ g in
-      rw (d, e)
+pub seek-on : (room store key : Seq ℕ) (v w : Keys) (i : ℕ) → Seeking room store key v w i → i ≤ 64 → (step : Key) → KeyGives room store w step → (n : ℕ) (rest : Keys) → step ≡ keys.At n rest
+    → (b : Bool) → b ≡ keyed room store key n → b ≡ false → Seeking room store key v rest (i + 1)
+seek-on room store key v w i k l step h n rest g b e f =
+    let q : keyed room store key n ≡ false = sym e ∙ f in
+    let d : 65 - i ≡ suc (65 - (i + 1)) = omega arith in
+    let s = walk-given room store (v .place) (v .end) w (k .over) step h (65 - (i + 1)) n rest g in
+    record { high = omega arith; over = key-given room store (v .place) (v .end) w (k .over) step h n rest g .over; left = rw (d, s, q) at (k .left) }
 
-  pub seek-on : (b : Bool) → b ≡ keyed room store key n → b ≡ false → Seeking room store key end place (founds.At n) (i + 1)
-  seek-on b e f = let q : keyed room store key n ≡ false = sym e ∙ f in record { high = omega arith; left = rw (seek-step, q) at (k .left) }
+module _ (room store key : Seq ℕ) (list : List) (v : Keys) (b : Begins room (list .place) (list .end) founds.Nothing v) (w : Keys) (i : ℕ) (c : Seeking room store key v w i) where
+  seeking : Seeking room store key (record { place = list .place; low = v .low; end = list .end; after = v .after }) w i
+  seeking = rw (b .over .place, b .over .end) at c
 
-  seek-found : keyed room store key n ≡ true → declaredIn room store key 0 (walk room store end place 65 founds.Nothing) ≡ At i n
-  seek-found q = rw (seek-step, q) at (k .left)
-
-module _ (room store key : Seq ℕ) (list : List) (after : Found) (i : ℕ) (k : Seeking room store key (list .end) (list .place) after i) where
   pub seek-end : 64 < i → Chosen room (declared room store key list) Undeclared
-  seek-end l = let d : 65 - i ≡ 0 = omega (arith, k .high) in record { is = sym (rw d at (k .left)); stands = tt }
+  seek-end l = let d : 65 - i ≡ 0 = omega (arith, c .high) in record { is = sym (rw d at (seeking .left)); stands = tt }
 
-  module _ (l : i ≤ 64) (found : Found) (h : Finds 0 (list .end) (next (slotAt room) store (list .end) (list .place) after) found) where
-    pub seek-none : found ≡ founds.Nothing → Chosen room (declared room store key list) Undeclared
+  module _ (l : i ≤ 64) (step : Key) (h : KeyGives room store w step) where
+    pub seek-none : step ≡ keys.End → Chosen room (declared room store key list) Undeclared
     seek-none g =
-        let d : 65 - i ≡ suc (64 - i) = omega arith in
-        let e : next (slotAt room) store (list .end) (list .place) after ≡ founds.Nothing = sym (h .is) ∙ g in
-        record { is = sym (rw (d, e) at (k .left)); stands = tt }
+        let s = walk-ended room store (list .place) (list .end) w (seeking .over) step h (65 - i) g in
+        record { is = sym (rw s at (seeking .left)); stands = tt }
 
-    module _ (made n : ℕ) (g : found ≡ founds.At n) (a : Among room made list) where
+    module _ (n : ℕ) (rest : Keys) (g : step ≡ keys.At n rest) (made : ℕ) (a : Among room made list) where
       pub seek-stood : Stood room n
-      seek-stood =
-          let b : n < list .end = found-below found (list .end) n (h .below) g in
-          record { fits = record { fits = omega (arith, a .rooms .fits .fits, a .end) }; low = omega (arith, a .rooms .low, a .end) }
+      seek-stood = key-stands room store (list .place) (list .end) w (seeking .over) step h n rest g made (a .rooms) (a .end)
 
       pub seek-hit : (b : Bool) → b ≡ keyed room store key n → b ≡ true → Chosen room (declared room store key list) (At i n)
-      seek-hit b e t = record { is = sym (seek-found room store key (list .end) (list .place) after i k l n found h g (sym e ∙ t)); stands = seek-stood }
+      seek-hit b e t =
+          let q : keyed room store key n ≡ true = sym e ∙ t in
+          let d : 65 - i ≡ suc (65 - (i + 1)) = omega arith in
+          let s = walk-given room store (list .place) (list .end) w (seeking .over) step h (65 - (i + 1)) n rest g in
+          record { is = sym (rw (d, s, q) at (seeking .left)); stands = seek-stood }
 
 -- ---- a selection
 
@@ -96,27 +100,24 @@ module _ (room store : Seq ℕ) (made : ℕ) (name : Seq ℕ) where
   unfolding named componentAt componentRead headRead
   name-is n v t own from len b r e1 e2 e3 e4 e5 e6 e7 = rw (e7, e6, e4, e5, e3, e2, e1)
 
-  pub ask-on : (place end from n : ℕ) (found : Found) (b : Bool) → Left (anyOf (named room store made name)) room place end from → Finds from end (child room end place from) found
-      → found ≡ founds.At n → b ≡ named room store made name n → b ≡ false → Left (anyOf (named room store made name)) room place end (n + 1)
-  ask-on place end from n found b k h g e f =
+  pub ask-on : (v w : Items) (step : Item) (n : ℕ) (rest : Items) (b : Bool) → Left (anyOf (named room store made name)) room v w → Gives room w step
+      → step ≡ given.At n rest → b ≡ named room store made name n → b ≡ false → Left (anyOf (named room store made name)) room v rest
+  ask-on v w step n rest b k h g e f =
       let q : named room store made name n ≡ false = sym e ∙ f in
-      left-on (anyOf (named room store made name)) room place end from k found h n g (λ (ns : Seq ℕ). rw q)
+      left-on (anyOf (named room store made name)) room v w k step h n rest g (λ (ns : Seq ℕ). rw q)
 
-  module _ (l : List) (el : l ≡ componentList room store made) (from : ℕ) (k : Left (anyOf (named room store made name)) room (l .place) (l .end) from) where
-    ask-all : (b : Bool) → anyOf (named room store made name) (items room (l .end) (l .place) 0) ≡ b → b ≡ taken room store made name
-    ask-all b e = sym e ∙ rw el
+  module _ (l : List) (el : l ≡ componentList room store made) (v : Items) (ev : v ≡ itemsFrom (l .place) 0 (l .end)) (w : Items)
+      (k : Left (anyOf (named room store made name)) room v w) (step : Item) (h : Gives room w step) where
+    ask-all : (b : Bool) → anyOf (named room store made name) (toCome room v) ≡ b → b ≡ taken room store made name
+    ask-all b e = sym e ∙ rw (ev, el)
 
-    pub ask-end : l .end ≤ from → false ≡ taken room store made name
-    ask-end b = ask-all false (left-past (anyOf (named room store made name)) room (l .place) (l .end) from k b)
+    pub ask-none : step ≡ given.End → false ≡ taken room store made name
+    ask-none g = ask-all false (left-none (anyOf (named room store made name)) room v w k step h g)
 
-    module _ (found : Found) (h : Finds from (l .end) (child room (l .end) (l .place) from) found) where
-      pub ask-none : found ≡ founds.Nothing → false ≡ taken room store made name
-      ask-none g = ask-all false (left-none (anyOf (named room store made name)) room (l .place) (l .end) from k found h g)
-
-      pub ask-hit : (n : ℕ) (b : Bool) → found ≡ founds.At n → b ≡ named room store made name n → b ≡ true → true ≡ taken room store made name
-      ask-hit n b g e t =
-          let q : named room store made name n ≡ true = sym e ∙ t in
-          ask-all true (left-at (anyOf (named room store made name)) room (l .place) (l .end) from k found h n g ∙ rw q)
+    pub ask-hit : (n : ℕ) (rest : Items) (b : Bool) → step ≡ given.At n rest → b ≡ named room store made name n → b ≡ true → true ≡ taken room store made name
+    ask-hit n rest b g e t =
+        let q : named room store made name n ≡ true = sym e ∙ t in
+        ask-all true (left-at (anyOf (named room store made name)) room v w k step h n rest g ∙ rw q)
 
 -- ---- 80, 81
 

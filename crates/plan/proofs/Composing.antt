@@ -10,13 +10,15 @@ use borrow.Author.Tests.{lt-ltb, le-ltb, eq-eqb, ne-eqb}
 use lib.Dec.{eqb}
 use lib.ListN.{length}
 use Rattle.meaning.specs.Base.{pick, ascii, nil?}
-use Rattle.tree.specs.declared.Found.{Found}
+use Rattle.tree.specs.declared.Items.{Items}
+use Rattle.tree.specs.declared.Item.{Item}
+use Rattle.tree.specs.declared.Item.the-variants as given
+use Rattle.tree.specs.Steps.{itemsFrom, toCome, Gives, item-ended, item-given}
 use Rattle.tree.specs.declared.Found.the-variants.{At, Nothing}
 use Rattle.tree.specs.declared.Value.{Value}
-use Rattle.tree.specs.Room.{Finds, Counts, child}
-use Rattle.tree.specs.Doors.{Rooms, Stood, valueAt, items}
-use Rattle.tree.specs.Spans.{items-step, items-end, items-count}
-use Rattle.tree.specs.Laws.{found-below, found-from}
+use Rattle.tree.specs.Room.{Counts}
+use Rattle.tree.specs.Doors.{Rooms, Stood, valueAt}
+use Rattle.tree.specs.Spans.{items-count}
 use Rattle.schema.specs.declared.Text.{Text}
 use Rattle.schema.specs.declared.Text.the-variants as texts
 use Rattle.schema.specs.declared.Features.{Features}
@@ -27,7 +29,7 @@ use Rattle.schema.specs.declared.Component.{Component}
 use Rattle.schema.specs.declared.Application.{Application}
 use Rattle.schema.specs.declared.Kind.the-variants as kinds
 use Rattle.schema.specs.declared.Features.the-variants as lists
-use Rattle.schema.specs.Texts.{clip, startOf, lengthOf, orText}
+use Rattle.schema.specs.Texts.{clip, startOf, lengthOf, orText, isGiven}
 use Rattle.parse.specs.declared.field.TextRead.{TextRead}
 use Rattle.parse.specs.declared.front.TableRead.{TableRead}
 use Rattle.parse.specs.declared.entry.List.{List}
@@ -38,7 +40,7 @@ use Rattle.parse.specs.Fields.{textAt}
 use Rattle.parse.specs.Entries.{entryTable, tableAt, applicationAt}
 use Rattle.parse.specs.Views as views
 use Rattle.parse.proofs.Judging.{components-among}
-use Rattle.validate.specs.Entries.{kept, there}
+use Rattle.validate.specs.Entries.{kept}
 use Rattle.validate.specs.Gathered.{components}
 use Rattle.plan.specs.declared.choice.Choice.{Choice}
 use Rattle.plan.specs.declared.choice.Choice.the-variants as choices
@@ -51,14 +53,14 @@ use Rattle.plan.specs.declared.component.PlannedFound.the-variants as re
 use Rattle.plan.specs.Choices.{Standing}
 use Rattle.plan.specs.Planned as plans
 use Rattle.plan.specs.PlannedSaid.{partition-read}
-use Rattle.plan.specs.Planned.{built, payload, pbpPayload, headLeft, bootLeft, planned, noBoot, loads, componentOf, before, placed, ahead, own, selected, composed, component}
+use Rattle.plan.specs.Planned.{built, payload, pbpPayload, headLeft, bootLeft, planned, noBoot, loads, componentOf, before, placed, ahead, own, plannedApplication, composed, component}
 
 -- ---- a component
 
 pub built-is : (p bin b : Text) (fs : Features) → b ≡ orText bin p → record { «package» = p; bin = b; features = fs } ≡ built p bin fs
 built-is p bin b fs e = rw e
 
-module _ (h : Head) (fs : Features) (t : Bool) (e : t ≡ there (h .«package»)) where
+module _ (h : Head) (fs : Features) (t : Bool) (e : t ≡ isGiven (h .«package»)) where
   pub payload-built : (b : Build) → t ≡ true → b ≡ built (h .«package») (h .bin) fs → sources.Package b ≡ payload h fs
   unfolding payload
   payload-built b y f = rw (← e, y, f)
@@ -67,12 +69,12 @@ module _ (h : Head) (fs : Features) (t : Bool) (e : t ≡ there (h .«package»)
   unfolding payload
   payload-file r y f = rw (← e, y, f)
 
-module _ (b : Boot) (fs : Features) (t : Bool) (e : t ≡ there (b .pbp)) where
+module _ (b : Boot) (fs : Features) (t : Bool) (e : t ≡ isGiven (b .pbp)) where
   pub pbp-file : t ≡ true → sources.File (b .pbp) ≡ pbpPayload b fs
   unfolding pbpPayload
   pbp-file y = rw (← e, y)
 
-  module _ (y : t ≡ false) (u : Bool) (f : u ≡ there (b .«pbp_package»)) where
+  module _ (y : t ≡ false) (u : Bool) (f : u ≡ isGiven (b .«pbp_package»)) where
     pub pbp-built : (r : Build) → u ≡ true → r ≡ built (b .«pbp_package») texts.Absent fs → sources.Package r ≡ pbpPayload b fs
     unfolding pbpPayload
     pbp-built r z g = rw (← e, y, ← f, z, g)
@@ -81,7 +83,7 @@ module _ (b : Boot) (fs : Features) (t : Bool) (e : t ≡ there (b .pbp)) where
     unfolding pbpPayload
     pbp-none z = rw (← e, y, ← f, z)
 
-module _ (h : Head) (t : Bool) (e : t ≡ there (h .«package»)) where
+module _ (h : Head) (t : Bool) (e : t ≡ isGiven (h .«package»)) where
   pub left-whole : t ≡ true → h ≡ headLeft h
   unfolding headLeft
   left-whole y = rw (← e, y)
@@ -141,52 +143,47 @@ module _ (room store : Seq ℕ) (made n : ℕ) where
 
 -- ---- how many stand before the first with a partition
 
-pub record Counting (room store : Seq ℕ) (made place end i from : ℕ) : Type 0 where
-  pub low : i ≤ from
-  pub high : from ≤ end
-  pub within : end ≤ made
-  pub left : before (placed room store made) (items room end place 0) ≡ i + before (placed room store made) (items room end place from)
+-- of a walk that began as v, i stand before what is to come, and none of them has a partition
+pub record Counting (room store : Seq ℕ) (made : ℕ) (v : Items) (i : ℕ) (w : Items) : Type 0 where
+  pub low : i ≤ w .at
+  pub high : w .at ≤ made
+  pub within : v .end ≤ made
+  pub among : w .end ≡ v .end
+  pub left : before (placed room store made) (toCome room v) ≡ i + before (placed room store made) (toCome room w)
 
-pub count-start : (room store : Seq ℕ) (made : ℕ) (l : List) → Rooms room made → l ≡ views.componentList room store made → Counting room store made (l .place) (l .end) 0 0
-count-start room store made l h e = record { low = omega arith; high = omega arith; within = components-among room store made l h e .end; left = omega arith }
+pub count-start : (room store : Seq ℕ) (made : ℕ) (l : List) (v : Items) → Rooms room made → l ≡ views.componentList room store made → v ≡ itemsFrom (l .place) 0 (l .end)
+    → Counting room store made v 0 v
+count-start room store made l v h e d =
+    rw d (record { low = omega arith; high = omega arith; within = components-among room store made l h e .end; among = refl; left = omega arith })
 
-module _ (room store : Seq ℕ) (made : ℕ) where
-  module _ (l : List) (e : l ≡ views.componentList room store made) (i from : ℕ) (k : Counting room store made (l .place) (l .end) i from) where
-    count-left : ahead room store made ≡ i + before (placed room store made) (items room (l .end) (l .place) from)
-    count-left = let z : ahead room store made ≡ before (placed room store made) (items room (l .end) (l .place) 0) = rw e in z ∙ k .left
+module _ (room store : Seq ℕ) (made : ℕ) (v : Items) (i : ℕ) (w : Items) (k : Counting room store made v i w) where
+  pub count-fits : Rooms room made → Fits w64 (i + 1)
+  count-fits r = record { fits = omega (arith, r .low, k .low, k .high) }
 
-    -- no item is left
-    count-none : items room (l .end) (l .place) from ≡ [] → i ≡ ahead room store made
-    count-none g = let z : ahead room store made ≡ i + 0 = rw g at count-left in omega (arith, z)
-
-    pub count-end : l .end ≤ from → i ≡ ahead room store made
-    unfolding items
-    count-end g = let d : l .end - from ≡ 0 = omega arith in count-none (rw d)
-
-    module _ (found : Found) (h : Finds from (l .end) (child room (l .end) (l .place) from) found) where
-      pub count-out : found ≡ Nothing → i ≡ ahead room store made
-      count-out g = count-none (items-end room (l .end) (l .place) from found h g)
-
-      pub count-hit : (n : ℕ) (p : Bool) → found ≡ At n → p ≡ placed room store made n → p ≡ true → i ≡ ahead room store made
-      count-hit n p g f y =
-          let z : ahead room store made ≡ i + 0 = rw (items-step room (l .end) (l .place) from n found h g, ← f, y) at count-left in
-          omega (arith, z)
-
-  module _ (place end i from : ℕ) (k : Counting room store made place end i from) where
-    pub count-fits : Rooms room made → Fits w64 (i + 1)
-    count-fits r = record { fits = omega (arith, r .low, k .low, k .high, k .within) }
-
-    pub count-on : (n : ℕ) (p : Bool) (found : Found) → Finds from end (child room end place from) found → found ≡ At n
-        → p ≡ placed room store made n → p ≡ false → Counting room store made place end (i + 1) (n + 1)
-    count-on n p found h g f y =
-        let z : before (placed room store made) (items room end place 0) ≡ i + suc (before (placed room store made) (items room end place (n + 1)))
-        = rw (items-step room end place from n found h g, ← f, y) at (k .left) in
+  module _ (step : Item) (h : Gives room w step) where
+    pub count-on : (n : ℕ) (rest : Items) (p : Bool) → step ≡ given.At n rest → p ≡ placed room store made n → p ≡ false → Counting room store made v (i + 1) rest
+    count-on n rest p g f y =
+        let s = item-given room w step h n rest g in
+        let z : before (placed room store made) (toCome room v) ≡ i + suc (before (placed room store made) (toCome room rest)) = rw (s .come, ← f, y) at (k .left) in
         record {
-          low = omega (arith, k .low, found-from found from n (h .from) g);
-          high = omega (arith, found-below found end n (h .below) g);
+          low = omega (arith, k .low, s .on);
+          high = omega (arith, s .within, k .among, k .within);
           within = k .within;
+          among = s .end ∙ k .among;
           left = omega (arith, z);
         }
+
+    module _ (l : List) (e : l ≡ views.componentList room store made) (ev : v ≡ itemsFrom (l .place) 0 (l .end)) where
+      count-left : ahead room store made ≡ i + before (placed room store made) (toCome room w)
+      count-left = let z : ahead room store made ≡ before (placed room store made) (toCome room v) = rw (ev, e) in z ∙ k .left
+
+      pub count-out : step ≡ given.End → i ≡ ahead room store made
+      count-out g = let z : ahead room store made ≡ i + 0 = rw (item-ended room w step h g) at count-left in omega (arith, z)
+
+      pub count-hit : (n : ℕ) (rest : Items) (p : Bool) → step ≡ given.At n rest → p ≡ placed room store made n → p ≡ true → i ≡ ahead room store made
+      count-hit n rest p g f y =
+          let z : ahead room store made ≡ i + 0 = rw (item-given room w step h n rest g .come, ← f, y) at count-left in
+          omega (arith, z)
 
 -- ---- by number
 
@@ -198,7 +195,7 @@ module _ (room store : Seq ℕ) (made i : ℕ) (found : ComponentFound) (e : fou
   own-some c p g f = rw (← e, g, f)
 
 pub selected-is : (room store : Seq ℕ) (made n : ℕ) (r : ApplicationRead) (c : Component) (p : Planned)
-    → r ≡ applicationAt room store made n 32 → c ≡ componentOf (r .application) → p ≡ planned c → results.At p ≡ selected room store made n
+    → r ≡ applicationAt room store made n 32 → c ≡ componentOf (r .application) → p ≡ planned c → results.At p ≡ plannedApplication room store made n
 selected-is room store made n r c p e f g = rw (g, f, e)
 
 module _ (room store : Seq ℕ) (made n i at : ℕ) (r : PlannedFound) (e : at ≡ ahead room store made) where
@@ -207,7 +204,7 @@ module _ (room store : Seq ℕ) (made n i at : ℕ) (r : PlannedFound) (e : at �
   composed-before h f = rw (← e, lt-ltb i at h) f
 
   module _ (h : at ≤ i) where
-    pub composed-here : i ≡ at → r ≡ selected room store made n → r ≡ composed room store made n i
+    pub composed-here : i ≡ at → r ≡ plannedApplication room store made n → r ≡ composed room store made n i
     unfolding composed
     composed-here k f = rw (← e, le-ltb i at h, eq-eqb i at k) f
 

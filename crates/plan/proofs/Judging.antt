@@ -11,7 +11,6 @@ use Rattle.tree.specs.declared.Found.{Found}
 use Rattle.tree.specs.declared.Found.the-variants as founds
 use Rattle.tree.specs.Room.{slotAt}
 use Rattle.tree.specs.Order.{next}
-use Rattle.tree.specs.Doors.{Rooms}
 use Rattle.parse.specs.declared.Refusal.{Refusal}
 use Rattle.parse.specs.declared.entry.List.{List}
 use Rattle.parse.specs.Entries.{onward, walk, applicationAt}

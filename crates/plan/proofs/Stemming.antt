@@ -3,25 +3,36 @@ use Prim.Native.Nat.{ℕ, suc, _+_, _-_, _≤_, _<_}
 use mathlib.Core.Bool.{Bool, true, false}
 use mathlib.Core.List.{List as Seq, [], _∷_, _++_}
 use mathlib.Core.Path.{_≡_, refl, sym, ap, _∙_}
+use mathlib.Core.Logic.{inl, inr}
 use native.Mathlib.Omega.{arith}
 use borrow.Author.Tests.{eq-eqb, ne-eqb}
+use denote.Enum.Declared.{tagOf}
+use types.Run.{OneOf}
 use lib.Dec.{eqb}
 use lib.ListN.{length, take, getD}
 use lib.Seq.{take-length, take-suc, length-take-le}
 use Rattle.meaning.specs.Base.{pick}
 use Rattle.meaning.specs.Files.{lastDot}
-use Rattle.tree.specs.declared.Slot.{Slot}
+use Rattle.tree.specs.declared.Span.{Span}
+use Rattle.tree.specs.declared.Items.{Items}
+use Rattle.tree.specs.declared.Item.{Item}
+use Rattle.tree.specs.declared.Item.the-variants as given
+use Rattle.tree.specs.Steps.{itemsFrom, toCome, Gives, KeyIs}
 use Rattle.tree.specs.declared.Value.{Value}
 use Rattle.tree.specs.declared.Fields.{Fields}
 use Rattle.tree.specs.declared.Found.{Found}
 use Rattle.tree.specs.declared.Found.the-variants as founds
-use Rattle.tree.specs.Room.{Finds, slotAt, child}
-use Rattle.tree.specs.Doors.{Rooms, Stood, valueAt, fieldsOf, items}
+use Rattle.tree.specs.Room.{Finds}
+use Rattle.tree.specs.Doors.{Rooms, Stood, valueAt, fieldsOf}
 use Rattle.tree.specs.Laws.{found-below}
+use Rattle.schema.proofs.Kind.{the-type}
+use Rattle.schema.specs.declared.Kind.{Kind}
+use Rattle.schema.specs.declared.Kind.the-variants as kinds
 use Rattle.schema.specs.declared.KindRead.{KindRead}
 use Rattle.schema.specs.declared.Text.{Text}
 use Rattle.schema.specs.declared.Text.the-variants as texts
-use Rattle.schema.specs.Texts.{clip, orText}
+use Rattle.schema.specs.Texts.{clip, orText, isGiven}
+use Rattle.schema.proofs.Wording.{Elsewhere, elsewhere}
 use Rattle.parse.specs.declared.front.TableRead.{TableRead}
 use Rattle.parse.specs.declared.front.Front.{Front}
 use Rattle.parse.specs.declared.entry.List.{List}
@@ -32,13 +43,12 @@ use Rattle.parse.specs.Entries.{entryTable, componentAt}
 use Rattle.parse.specs.Front.{frontRead}
 use Rattle.parse.specs.Refused.{lentText}
 use Rattle.parse.specs.Views.{componentList}
-use Rattle.validate.specs.Entries.{there}
 use Rattle.plan.specs.declared.choice.Choice.{Choice}
 use Rattle.plan.specs.declared.choice.Choice.the-variants as choices
 use Rattle.plan.specs.Choices.{Standing}
 use Rattle.plan.specs.Planned.{placed}
 use Rattle.plan.specs.Stems.{Dotted, stopped, shortened, stemOf, ownStem, isApp, firstWith, keyOf, leads, leader, leading, bootStem, stem}
-use Rattle.plan.proofs.Walking.{Left, left-past, left-none, left-at, left-on, component-below}
+use Rattle.plan.proofs.Walking.{Left, left-none, left-at, left-on, component-below}
 
 -- ---- the last dot
 
@@ -88,18 +98,25 @@ module _ (store : Seq ℕ) (file t : Text) (e : t ≡ nameIn store file) where
   pub stem-stored : (from len : ℕ) (s : Seq ℕ) (n : ℕ) → t ≡ texts.Stored from len → s ≡ clip from len store → n ≡ stopped s → texts.Stored from n ≡ stemOf store file
   stem-stored from len s n g es en = rw (← e, g, ← es) (ap (texts.Stored from) en)
 
-  pub stem-none : (u : Text) → t ≡ u → texts.Absent ≡ shortened store u → texts.Absent ≡ stemOf store file
-  stem-none u g q = rw (← e, g) q
+  pub stem-none : Elsewhere t → texts.Absent ≡ stemOf store file
+  stem-none o = rw (← e) (elsewhere (shortened store) texts.Absent refl refl (λ _. refl) (λ _ _. refl) t o)
 
 -- the other only where the first is absent
-or-there : (t d : Text) → orText t d ≡ pick (there t) t d
-or-there texts.Absent d = refl
-or-there (texts.Stored from len) d = refl
-or-there texts.Lent d = refl
-or-there (texts.Fixed w) d = refl
-or-there (texts.WithAic from len) d = refl
+or-given : (t d : Text) → orText t d ≡ pick (isGiven t) t d
+or-given texts.Absent d = refl
+or-given (texts.Stored from len) d = refl
+or-given texts.Lent d = refl
+or-given (texts.Fixed w) d = refl
+or-given (texts.WithAic from len) d = refl
 
 -- ---- the first `app` component with a partition
+
+-- the kinds but number 0
+pub app-not : (k : Kind) → OneOf (1 ∷ 2 ∷ []) (tagOf the-type k) → false ≡ isApp k
+app-not kinds.App (inl a) = absurd (omega arith)
+app-not kinds.App (inr a) = absurd (omega arith)
+app-not kinds.Pbp o = refl
+app-not kinds.Raw o = refl
 
 module _ (room store : Seq ℕ) (made : ℕ) where
   module _ (n : ℕ) (b : Bool) (e : b ≡ placed room store made n) where
@@ -112,31 +129,28 @@ module _ (room store : Seq ℕ) (made : ℕ) where
     unfolding leads componentAt componentRead headRead
     lead-is f v t k r e1 e2 e3 e4 = rw (← e, f, e4, e3, e2, e1)
 
-  pub lead-on : (place end from n : ℕ) (found : Found) (b : Bool) → Left (firstWith (leads room store made)) room place end from → Finds from end (child room end place from) found
-      → found ≡ founds.At n → b ≡ leads room store made n → b ≡ false → Left (firstWith (leads room store made)) room place end (n + 1)
-  lead-on place end from n found b k h g e f =
+  pub lead-on : (v w : Items) (step : Item) (n : ℕ) (rest : Items) (b : Bool) → Left (firstWith (leads room store made)) room v w → Gives room w step
+      → step ≡ given.At n rest → b ≡ leads room store made n → b ≡ false → Left (firstWith (leads room store made)) room v rest
+  lead-on v w step n rest b k h g e f =
       let q : leads room store made n ≡ false = sym e ∙ f in
-      left-on (firstWith (leads room store made)) room place end from k found h n g (λ (ns : Seq ℕ). rw q)
+      left-on (firstWith (leads room store made)) room v w k step h n rest g (λ (ns : Seq ℕ). rw q)
 
-  module _ (l : List) (el : l ≡ componentList room store made) (from : ℕ) (k : Left (firstWith (leads room store made)) room (l .place) (l .end) from) where
-    lead-all : (r : Found) → firstWith (leads room store made) (items room (l .end) (l .place) 0) ≡ r → r ≡ leader room store made
-    lead-all r e = sym e ∙ rw el
+  module _ (l : List) (el : l ≡ componentList room store made) (v : Items) (ev : v ≡ itemsFrom (l .place) 0 (l .end)) (w : Items)
+      (k : Left (firstWith (leads room store made)) room v w) (step : Item) (h : Gives room w step) where
+    lead-all : (r : Found) → firstWith (leads room store made) (toCome room v) ≡ r → r ≡ leader room store made
+    lead-all r e = sym e ∙ rw (ev, el)
 
-    pub lead-end : l .end ≤ from → Finds 0 made (leader room store made) founds.Nothing
-    lead-end b = record { is = lead-all founds.Nothing (left-past (firstWith (leads room store made)) room (l .place) (l .end) from k b); from = tt; below = tt }
+    pub lead-none : step ≡ given.End → Finds 0 made (leader room store made) founds.Nothing
+    lead-none g = record { is = lead-all founds.Nothing (left-none (firstWith (leads room store made)) room v w k step h g); from = tt; below = tt }
 
-    module _ (found : Found) (h : Finds from (l .end) (child room (l .end) (l .place) from) found) where
-      pub lead-none : found ≡ founds.Nothing → Finds 0 made (leader room store made) founds.Nothing
-      lead-none g = record { is = lead-all founds.Nothing (left-none (firstWith (leads room store made)) room (l .place) (l .end) from k found h g); from = tt; below = tt }
-
-      pub lead-hit : (n : ℕ) (b : Bool) → Rooms room made → found ≡ founds.At n → b ≡ leads room store made n → b ≡ true → Finds 0 made (leader room store made) (founds.At n)
-      lead-hit n b r g e t =
-          let q : leads room store made n ≡ true = sym e ∙ t in
-          record {
-            is = lead-all (founds.At n) (left-at (firstWith (leads room store made)) room (l .place) (l .end) from k found h n g ∙ rw q);
-            from = omega arith;
-            below = component-below room store made l el r from n found h g;
-          }
+    pub lead-hit : (n : ℕ) (rest : Items) (b : Bool) → Rooms room made → step ≡ given.At n rest → b ≡ leads room store made n → b ≡ true → Finds 0 made (leader room store made) (founds.At n)
+    lead-hit n rest b r g e t =
+        let q : leads room store made n ≡ true = sym e ∙ t in
+        record {
+          is = lead-all (founds.At n) (left-at (firstWith (leads room store made)) room v w k step h n rest g ∙ rw q);
+          from = omega arith;
+          below = component-below room store made l el r v ev w (k .among) step h n rest g;
+        }
 
   module _ (found : Found) (h : Finds 0 made (leader room store made) found) where
     pub leading-none : found ≡ founds.Nothing → texts.Absent ≡ leading room store made
@@ -155,10 +169,10 @@ module _ (room store : Seq ℕ) (made : ℕ) where
 
   -- ---- of a plan
 
-  module _ (name : Seq ℕ) (t : Text) (b : Bool) (e : t ≡ leading room store made) (k : b ≡ there t) where
+  module _ (name : Seq ℕ) (t : Text) (b : Bool) (e : t ≡ leading room store made) (k : b ≡ isGiven t) where
     boot-stem-or : bootStem room store made name ≡ pick b t (frontRead room store made (fieldsOf room made 1) (lentText name) .board .name)
     unfolding bootStem
-    boot-stem-or = rw (← e, k) (or-there t _)
+    boot-stem-or = rw (← e, k) (or-given t _)
 
     pub boot-stem-led : b ≡ true → t ≡ bootStem room store made name
     boot-stem-led y = sym (rw y at boot-stem-or)
@@ -170,8 +184,8 @@ module _ (room store : Seq ℕ) (made : ℕ) where
   pub stem-is : (name : Seq ℕ) (c u : Choice) (r : Text) → c ≡ u → r ≡ stem room store made name u → r ≡ stem room store made name c
   stem-is name c u r e q = rw e q
 
-pub key-text : (room : Seq ℕ) (n : ℕ) (v : Slot) → v ≡ slotAt room n → texts.Stored (v .key) (v .len) ≡ keyOf room n
-key-text room n v e = rw e
+pub key-text : (room : Seq ℕ) (n : ℕ) (v : Span) → KeyIs room n v → texts.Stored (v .from) (v .len) ≡ keyOf room n
+key-text room n v h = rw (h .is)
 
 pub standing-stood : (room : Seq ℕ) (c : Choice) (place n : ℕ) → Standing room c → c ≡ choices.At place n → Stood room n
 standing-stood room c place n h e = rw e at h

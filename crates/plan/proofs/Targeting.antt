@@ -1,61 +1,30 @@
 -- The partition that a reference finds: one law for each way out.
 use Prim.Native.Nat.{ℕ, zero, suc, _+_, _-_, _*_, _≤_, _<_}
+use mathlib.Core.Bool.{true}
 use mathlib.Core.List.{List as Seq, [], _∷_, map}
-use mathlib.Core.Path.{_≡_, refl, sym, ap, _∙_}
+use mathlib.Core.Path.{_≡_, refl, ap, _∙_}
 use native.Mathlib.Omega.{arith}
 use native.Mathlib.Nat.{le-of-suc-le-suc, not-suc-le-zero}
 use mir.Syntax.{w64}
 use mir.Val.{Fits}
 use borrow.Author.Tests.{lt-ltb, le-ltb, eqb-false}
 use lib.Dec.{eqb, ltb}
-use lib.ListN.{length, take, drop, getD, replicate, length-map}
-use lib.Seq.{length-take-le, getD-take, take-append-seam}
+use lib.ListN.{length, take, getD, replicate}
+use lib.Seq.{getD-take, take-append-seam}
 use Rattle.meaning.specs.Refusal.{Answer, accepted, refused, acceptedThen, numberOf}
 use Rattle.meaning.specs.Fields.{each, listed}
-use Rattle.meaning.specs.Rules.{nameOf}
 use Rattle.laws.specs.Cases.{on}
 use Rattle.tree.specs.Doors.{items}
 use Rattle.schema.specs.declared.Text.{Text}
-use Rattle.schema.specs.declared.Text.the-variants as texts
-use Rattle.schema.specs.declared.Word.{Word}
-use Rattle.schema.specs.declared.Span.{Span}
 use Rattle.schema.specs.declared.Partition.{Partition}
-use Rattle.schema.specs.Words.{all, Stands, word-part}
-use Rattle.schema.specs.Texts.{clip}
 use Rattle.parse.specs.declared.Refusal.{Refusal}
 use Rattle.parse.specs.declared.entry.List.{List}
 use Rattle.parse.specs.declared.entry.Partitions.{Partitions}
 use Rattle.parse.specs.declared.view.PartitionFound.the-variants as results
 use Rattle.parse.specs.Entries.{blank, partitions, partitionAt, partitionR, Partitioned}
 use Rattle.parse.specs.Views.{partitionList}
-use Rattle.layout.specs.Marks.{rank}
-use Rattle.layout.specs.Parts.{partName}
-use Rattle.plan.specs.Targets.{aim, given, none, found, partition}
-
-parts-long : (store : Seq ℕ) (items : Seq Partition) (count : ℕ) → count ≤ length items → length (map (partName store) (take count items)) ≡ count
-parts-long store items count h = length-map (take count items) (partName store) ∙ length-take-le count items h
-
--- ---- which of the partitions
-
-module _ (store : Seq ℕ) (items : Seq Partition) (count : ℕ) (h : count ≤ 32) (l : length items ≡ 32) (t : Text) where
-  pub aim-absent : t ≡ texts.Absent → count ≡ aim store (map (partName store) (take count items)) t
-  aim-absent e = rw e (sym (parts-long store items count (omega arith)))
-
-  pub aim-lent : t ≡ texts.Lent → count ≡ aim store (map (partName store) (take count items)) t
-  aim-lent e = rw e (sym (parts-long store items count (omega arith)))
-
-  pub aim-aic : (from len : ℕ) → t ≡ texts.WithAic from len → count ≡ aim store (map (partName store) (take count items)) t
-  aim-aic from len e = rw e (sym (parts-long store items count (omega arith)))
-
-module _ (store : Seq ℕ) (items : Seq Partition) (count : ℕ) (t : Text) (r : ℕ) where
-  pub aim-stored : (from len : ℕ) (s n : Seq ℕ) → t ≡ texts.Stored from len → s ≡ clip from len store → n ≡ nameOf s → r ≡ rank n (map (partName store) (take count items))
-      → r ≡ aim store (map (partName store) (take count items)) t
-  aim-stored from len s n e h f k = rw e (rw (← h, ← f) k)
-
-  pub aim-fixed : (w : Word) (s : Span) (n : Seq ℕ) → t ≡ texts.Fixed w → Stands w s → n ≡ nameOf (take (s .to - s .from) (drop (s .from) all)) → r ≡ rank n (map (partName store) (take count items))
-      → r ≡ aim store (map (partName store) (take count items)) t
-  aim-fixed w s n e h f k =
-      rw e (k ∙ ap (λ (x : Seq ℕ). rank x (map (partName store) (take count items))) (f ∙ ap nameOf (rw (h .is) (word-part w))))
+use Rattle.layout.specs.Parts.{partName, aim}
+use Rattle.plan.specs.Targets.{given, none, found, partition}
 
 -- ---- the partitions that were read
 
@@ -110,7 +79,7 @@ module _ (room store : Seq ℕ) (made : ℕ) (t : Text) (l : List) (e : l ≡ pa
   unfolding found
   target-none z =
       let n : given (partitions room store made (partitionList room store made) 32) ≡ [] = none-by p (partitions room store made (partitionList room store made) 32) (rw e at q) z in
-      rw (n, le-ltb (aim store [] t) 0 (omega arith))
+      rw (n, le-ltb (aim true store [] t) 0 (omega arith))
 
   module _ (z : p .fault .number ≡ 0) where
     taken : Taken (given (partitions room store made (partitionList room store made) 32)) (p .items) (p .count)
@@ -119,7 +88,7 @@ module _ (room store : Seq ℕ) (made : ℕ) (t : Text) (l : List) (e : l ≡ pa
     pub target-fits : p .count ≤ 32
     target-fits = taken .fits
 
-    module _ (at : ℕ) (f : at ≡ aim store (map (partName store) (take (p .count) (p .items))) t) where
+    module _ (at : ℕ) (f : at ≡ aim true store (map (partName store) (take (p .count) (p .items))) t) where
       pub target-low : at < p .count → at < 32
       target-low h = omega (arith, taken .fits)
 

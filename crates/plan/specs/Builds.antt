@@ -13,12 +13,11 @@ use Rattle.schema.specs.declared.Text.the-variants as texts
 use Rattle.schema.specs.declared.Features.{Features}
 use Rattle.schema.specs.declared.Features.the-variants as lists
 use Rattle.schema.specs.declared.Component.{Component}
-use Rattle.schema.specs.Texts.{orText}
+use Rattle.schema.specs.Texts.{orText, isGiven}
 use Rattle.parse.specs.Entries.{componentAt, applicationAt}
 use Rattle.parse.specs.Views.{componentList}
-use Rattle.layout.specs.Marks.{anyOf}
-use Rattle.validate.specs.Entries.{there}
-use Rattle.validate.specs.Clashes.{packed, noSpot, textSpot, listSpot, textAt, listAt}
+use Rattle.turns.specs.Marks.{anyOf}
+use Rattle.schema.specs.Spots.{packed, noSpot, textSpot, listSpot, textAt, listAt}
 use Rattle.plan.specs.declared.choice.Choice.{Choice}
 use Rattle.plan.specs.declared.choice.Choice.the-variants as choices
 use Rattle.plan.specs.declared.component.Build.{Build}
@@ -38,7 +37,7 @@ blank = record { «package» = texts.Absent; bin = texts.Absent; features = list
 abbrev pub noUse : Use
 noUse = record { «package» = noSpot; bin = noSpot; features = noSpot }
 
--- the use of a package, whose bin is the package itself where there is none
+-- the use of a package, whose bin is the package itself where isGiven is none
 unfoldable pub useOf : Text → Text → Features → Use
 useOf p bin fs = record { «package» = textSpot p; bin = textSpot (orText bin p); features = listSpot fs }
 
@@ -75,7 +74,7 @@ pub record Wanting (room : Seq ℕ) (made end : ℕ) : Type 0 where
   pub rooms : Rooms room made
   pub within : end ≤ made
 
--- there is a place for one more
+-- isGiven is a place for one more
 pub record Room (u : BuildList) : Type 0 where
   pub few : u .count ≤ 128
 
@@ -84,7 +83,7 @@ pub record Room (u : BuildList) : Type 0 where
 -- a use of a package that none of the earlier ones is of
 unfoldable pub fresh : Seq ℕ → Seq Build → Build → Bool
 fresh store earlier u =
-    pick (there (u .«package»)) (pick (anyOf (λ (v : Build). twice (packed store (u .«package»)) (packed store (v .«package»))) earlier) false true) false
+    pick (isGiven (u .«package»)) (pick (anyOf (λ (v : Build). twice (packed store (u .«package»)) (packed store (v .«package»))) earlier) false true) false
 
 abbrev pub firstUses : Seq ℕ → Seq Build → Seq Build → Seq Build
 firstUses store earlier [] = []
@@ -118,7 +117,7 @@ module _ (room store : Seq ℕ) (made : ℕ) where
   abbrev pub ownUses : Seq Build
   ownUses = eachComponent (componentList room store made .place) (componentList room store made .end)
 
-  -- "the application last"; of a key that is not declared there are none
+  -- "the application last"; of a key that is not declared isGiven are none
   abbrev pub uses : Choice → Seq Build
   uses choices.BootChain = ownUses
   uses choices.Undeclared = []

@@ -2,7 +2,7 @@
 use Prim.Native.Nat.{ℕ, _≤_}
 use mathlib.Core.Bool.{true, false}
 use mathlib.Core.List.{List, [], _∷_, _++_, map, append-assoc, append-nil}
-use mathlib.Core.Option.{Option, none, some}
+use mathlib.Core.Option.{none, some}
 use mathlib.Core.Path.{_≡_, refl, sym, ap, _∙_}
 use lib.ListN.{length}
 use lib.Seq.{take-all}
@@ -17,16 +17,15 @@ use Rattle.schema.specs.declared.Text.{Text}
 use Rattle.schema.specs.declared.Text.the-variants as texts
 use Rattle.schema.specs.declared.Features.{Features}
 use Rattle.schema.specs.declared.Component.{Component}
-use Rattle.schema.specs.Texts.{clip, spelled, optional}
+use Rattle.schema.specs.Texts.{clip, spelled, optional, isGiven}
 use Rattle.parse.specs.Meant.{featureList, componentMeant}
 use Rattle.parse.specs.Component as parsed
 use Rattle.parse.specs.Application as reading
 use Rattle.parse.specs.Entries as parsing
 use Rattle.parse.specs.Reads.{Kept, text-kept, else-spelled}
 use Rattle.parse.specs.Whole.{componentOf, applicationOf}
-use Rattle.layout.specs.Marks.{anyOf}
-use Rattle.validate.specs.Entries.{there}
-use Rattle.validate.specs.Clashes.{packed}
+use Rattle.turns.specs.Marks.{anyOf}
+use Rattle.schema.specs.Spots.{packed}
 use Rattle.validate.specs.Gathered.{components}
 use Rattle.plan.specs.declared.choice.Choice.{Choice}
 use Rattle.plan.specs.declared.choice.Choice.the-variants as choices
@@ -86,22 +85,22 @@ module _ (room store : List ℕ) (made : ℕ) (name : List ℕ) where
   -- uses whose package is absent are none
   abbrev pub usesMeant : List Build → List meant.Build
   usesMeant [] = []
-  usesMeant (u ∷ us) = pick (there (u .«package»)) ((buildMeant room store made name) u ∷ usesMeant us) (usesMeant us)
+  usesMeant (u ∷ us) = pick (isGiven (u .«package»)) ((buildMeant room store made name) u ∷ usesMeant us) (usesMeant us)
 
   -- the packages of those
   abbrev pub packs : List Build → List (List ℕ)
   packs [] = []
-  packs (u ∷ us) = pick (there (u .«package»)) (spelled store name (u .«package») ∷ packs us) (packs us)
+  packs (u ∷ us) = pick (isGiven (u .«package»)) (spelled store name (u .«package») ∷ packs us) (packs us)
 
   -- ---- first uses
 
-  packs-skip : (es : List Build) (u : Build) → there (u .«package») ≡ false → packs (es ++ (u ∷ [])) ≡ packs es
+  packs-skip : (es : List Build) (u : Build) → isGiven (u .«package») ≡ false → packs (es ++ (u ∷ [])) ≡ packs es
   packs-skip [] u h = rw h
   packs-skip (e ∷ es) u h = rw (packs-skip es u h)
 
-  packs-behind : (es : List Build) (u : Build) → there (u .«package») ≡ true → packs (es ++ (u ∷ [])) ≡ withLast (packs es) (spelled store name (u .«package»))
+  packs-behind : (es : List Build) (u : Build) → isGiven (u .«package») ≡ true → packs (es ++ (u ∷ [])) ≡ withLast (packs es) (spelled store name (u .«package»))
   packs-behind [] u h = rw h
-  packs-behind (e ∷ es) u h = rw (packs-behind es u h) (on (there (e .«package»)) (λ t. rw t) (λ t. rw t))
+  packs-behind (e ∷ es) u h = rw (packs-behind es u h) (on (isGiven (e .«package»)) (λ t. rw t) (λ t. rw t))
 
   -- a package stands among those of the earlier uses where one of them is of it
   among-packs : (from len : ℕ) (es : List Build) → KeptAll es
@@ -124,10 +123,10 @@ module _ (room store : List ℕ) (made : ℕ) (name : List ℕ) where
   first-uses-say es (u ∷ us) h k =
       let more = first-uses-say (es ++ (u ∷ [])) us (kept-behind es u h (k .0)) (k .1) in
       kept-cases (u .«package») (k .0)
-      (λ t. rw (fresh-absent es u t, ap there t) (rw (packs-skip es u (ap there t)) at more))
+      (λ t. rw (fresh-absent es u t, ap isGiven t) (rw (packs-skip es u (ap isGiven t)) at more))
       (λ from len t.
-      let m = rw (packs-behind es u (ap there t)) at more in
-      rw (fresh-stored es u from len h t, ap there t)
+      let m = rw (packs-behind es u (ap isGiven t)) at more in
+      rw (fresh-stored es u from len h t, ap isGiven t)
       (on (among (spelled store name (u .«package»)) (packs es)) (λ f. rw f m) (λ f. rw f (ap (λ (bs : List meant.Build). (buildMeant room store made name) u ∷ bs) m))))
 
   -- ---- uses
@@ -162,7 +161,7 @@ module _ (room store : List ℕ) (made : ℕ) (name : List ℕ) where
 
   uses-behind : (us : List Build) (u : Build) → usesMeant (us ++ (u ∷ [])) ≡ usesMeant us ++ usesMeant (u ∷ [])
   uses-behind [] u = refl
-  uses-behind (v ∷ us) u = rw (uses-behind us u) (on (there (v .«package»)) (λ t. rw t) (λ t. rw t))
+  uses-behind (v ∷ us) u = rw (uses-behind us u) (on (isGiven (v .«package»)) (λ t. rw t) (λ t. rw t))
 
   wanted-behind : (cs : List schema.Component) (c : schema.Component) → meant.wantedBy (withLast cs c) ≡ meant.wantedBy cs ++ meant.wanted c
   wanted-behind [] c = append-nil (meant.wanted c)

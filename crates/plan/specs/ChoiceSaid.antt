@@ -1,30 +1,23 @@
 -- What a selection's refusal says of the rooms is what 01's planning says of the preset they stand for.
 use Prim.Native.Nat.{ℕ, _+_}
-use mathlib.Core.Bool.{Bool, true, false}
 use mathlib.Core.List.{List as Seq, [], _∷_, map}
 use mathlib.Core.Option.{Option, none, some}
-use mathlib.Core.Path.{_≡_, refl, sym, ap, _∙_}
+use mathlib.Core.Path.{_≡_, refl}
 use native.Mathlib.Omega.{arith}
 use lib.Dec.{eqb}
 use Rattle.meaning.specs.Base.{pick, same}
 use Rattle.meaning.specs.Limits.{of01}
-use Rattle.meaning.specs.Refusal.{Answer, accepted, refused, acceptedThen}
 use Rattle.meaning.specs.Schema as schemas
 use Rattle.meaning.specs.Verdict.{among}
 use Rattle.meaning.specs.Plan as meant
 use Rattle.laws.specs.Cases.{on}
-use Rattle.tree.specs.declared.Found.the-variants as founds
-use Rattle.tree.specs.Room.{slotAt}
 use Rattle.tree.specs.Doors.{fieldsOf}
-use Rattle.schema.specs.Texts.{clip}
-use Rattle.parse.specs.declared.Refusal.{Refusal}
 use Rattle.parse.specs.Application.{applicationRead}
 use Rattle.parse.specs.Entries as parsed
-use Rattle.parse.specs.Entries.{refusalAt}
 use Rattle.parse.specs.Answers.{Says, says-made}
 use Rattle.parse.specs.Refused.{lentText}
 use Rattle.parse.specs.Whole.{presetMeant, componentOf, applicationOf}
-use Rattle.layout.specs.Marks.{anyOf}
+use Rattle.turns.specs.Marks.{anyOf}
 use Rattle.validate.specs.Entries.{kept}
 use Rattle.validate.specs.EntrySaid.{kept-spelled, component-kept, application-kept}
 use Rattle.validate.specs.Gathered.{components, applications}

@@ -13,7 +13,7 @@ use Rattle.parse.specs.declared.Refusal.{Refusal}
 use Rattle.parse.specs.declared.entry.List.{List}
 use Rattle.parse.specs.Entries.{refusalAt, walk, componentAt, applicationAt}
 use Rattle.parse.specs.Views.{applicationList}
-use Rattle.layout.specs.Marks.{anyOf}
+use Rattle.turns.specs.Marks.{anyOf}
 use Rattle.validate.specs.Entries.{kept}
 use Rattle.validate.specs.Gathered.{components}
 use Rattle.plan.specs.declared.choice.Choice.{Choice}
@@ -62,3 +62,7 @@ module _ (room store : Seq ℕ) where
     fault BootChain = refusalAt 0 0 0
     fault Undeclared = refusalAt 5 80 0
     fault (At place n) = nameFault place n
+
+    -- of a selection
+    abbrev pub refused : ℕ → Seq ℕ → Refusal
+    refused app key = fault (choice app key)

@@ -17,12 +17,12 @@ use Rattle.schema.specs.declared.Boot.{Boot}
 use Rattle.schema.specs.declared.Load.{Load}
 use Rattle.schema.specs.declared.Component.{Component}
 use Rattle.schema.specs.declared.Application.{Application}
-use Rattle.schema.specs.Texts.{orText}
+use Rattle.schema.specs.Texts.{orText, isGiven}
 use Rattle.parse.specs.declared.view.ComponentFound.{ComponentFound}
 use Rattle.parse.specs.declared.view.ComponentFound.the-variants as founds
 use Rattle.parse.specs.Entries.{componentAt, applicationAt}
 use Rattle.parse.specs.Views as views
-use Rattle.validate.specs.Entries.{kept, there}
+use Rattle.validate.specs.Entries.{kept}
 use Rattle.validate.specs.Gathered.{components}
 use Rattle.plan.specs.declared.choice.Choice.{Choice}
 use Rattle.plan.specs.declared.choice.Choice.the-variants as choices
@@ -40,11 +40,11 @@ built p bin fs = record { «package» = p; bin = orText bin p; features = fs }
 
 unfoldable pub payload : Head → Features → Source
 payload h fs =
-    pick (there (h .«package»)) (sources.Package (built (h .«package») (h .bin) fs)) (sources.File (orText (h .file) (texts.Stored 0 0)))
+    pick (isGiven (h .«package»)) (sources.Package (built (h .«package») (h .bin) fs)) (sources.File (orText (h .file) (texts.Stored 0 0)))
 
 unfoldable pub pbpPayload : Boot → Features → Source
 pbpPayload b fs =
-    pick (there (b .pbp)) (sources.File (b .pbp)) (pick (there (b .«pbp_package»)) (sources.Package (built (b .«pbp_package») texts.Absent fs)) sources.Nothing)
+    pick (isGiven (b .pbp)) (sources.File (b .pbp)) (pick (isGiven (b .«pbp_package»)) (sources.Package (built (b .«pbp_package») texts.Absent fs)) sources.Nothing)
 
 unfoldable pub headLeft : Head → Head
 headLeft h =
@@ -53,7 +53,7 @@ headLeft h =
       name = h .name;
       «package» = h .«package»;
       bin = h .bin;
-      file = pick (there (h .«package»)) (h .file) texts.Absent;
+      file = pick (isGiven (h .«package»)) (h .file) texts.Absent;
       filename = h .filename;
     }
 
@@ -122,12 +122,12 @@ module _ (room store : Seq ℕ) (made : ℕ) where
   abbrev pub own : ℕ → PlannedFound
   own i = plannedFound (views.component room store made i 32)
 
-  abbrev pub selected : ℕ → PlannedFound
-  selected n = results.At (planned (componentOf (applicationAt room store made n 32 .application)))
+  abbrev pub plannedApplication : ℕ → PlannedFound
+  plannedApplication n = results.At (planned (componentOf (applicationAt room store made n 32 .application)))
 
   -- the application stands directly before the first component with a partition
   unfoldable pub composed : ℕ → ℕ → PlannedFound
-  composed n i = pick (ltb i ahead) (own i) (pick (eqb i ahead) (selected n) (own (i - 1)))
+  composed n i = pick (ltb i ahead) (own i) (pick (eqb i ahead) (plannedApplication n) (own (i - 1)))
 
   abbrev pub count : Choice → ℕ
   count choices.BootChain = length (components room store made)

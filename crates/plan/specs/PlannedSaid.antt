@@ -20,7 +20,7 @@ use Rattle.schema.specs.declared.Features.{Features}
 use Rattle.schema.specs.declared.Head.{Head}
 use Rattle.schema.specs.declared.Component.{Component}
 use Rattle.schema.specs.declared.Application.{Application}
-use Rattle.schema.specs.Texts.{clip, spelled, optional, orText}
+use Rattle.schema.specs.Texts.{clip, spelled, optional, orText, isGiven}
 use Rattle.features.specs.Pieces.{piecesFrom}
 use Rattle.parse.specs.Fields.{textRead, textAt}
 use Rattle.parse.specs.Component.{componentRead, roleRead}
@@ -32,7 +32,7 @@ use Rattle.parse.specs.Reads.{Kept, text-kept, else-spelled, clip-none}
 use Rattle.parse.specs.Whole as whole
 use Rattle.parse.specs.Whole.{Clear}
 use Rattle.parse.specs.Given.{entryAt}
-use Rattle.validate.specs.Entries.{kept, there}
+use Rattle.validate.specs.EntrySaid.{kept-spelled}
 use Rattle.validate.specs.Gathered.{components}
 use Rattle.plan.specs.declared.choice.Choice.{Choice}
 use Rattle.plan.specs.declared.choice.Choice.the-variants as choices
@@ -47,14 +47,6 @@ use Rattle.plan.specs.Planned as plans
 use Rattle.plan.specs.ChoiceSaid.{selected, Met}
 
 -- ---- texts
-
--- a text that lies in the store
-pub kept-spelled : (store name : Seq ℕ) (t : Text) → Kept t → spelled store name t ≡ kept store t
-kept-spelled store name texts.Absent h = sym (clip-none store)
-kept-spelled store name (texts.Stored from len) h = refl
-kept-spelled store name texts.Lent h = absurd h
-kept-spelled store name (texts.Fixed w) h = absurd h
-kept-spelled store name (texts.WithAic from len) h = absurd h
 
 or-kept : (t : Text) (from len : ℕ) → Kept t → Kept (orText t (texts.Stored from len))
 or-kept texts.Absent from len h = tt
@@ -74,7 +66,7 @@ module _ (room store : Seq ℕ) (made : ℕ) (name : Seq ℕ) where
   sourceMeant (sources.Package b) = some (meant.fromPackage (buildMeant b))
   sourceMeant (sources.File t) = some (meant.fromFile (spelled store name t))
 
-  -- the source of a planned component is there: `planned-sourced`
+  -- the source of a planned component is isGiven: `planned-sourced`
   abbrev pub plannedMeant : Planned → meant.PlannedComponent
   plannedMeant p =
       record {
@@ -94,7 +86,7 @@ module _ (room store : Seq ℕ) (made : ℕ) (name : Seq ℕ) where
   built-means p bin fs s e = rw (else-spelled store name bin p, e)
 
   payload-by : (p bin file : Text) (fs : Features)
-      → sourceMeant (pick (there p) (sources.Package (built p bin fs)) (sources.File (orText file (texts.Stored 0 0))))
+      → sourceMeant (pick (isGiven p) (sources.Package (built p bin fs)) (sources.File (orText file (texts.Stored 0 0))))
       ≡ some (meant.payload (optional store name p) (optional store name bin) (featureList room store made fs) (optional store name file))
   payload-by texts.Absent bin file fs = rw (else-spelled store name file (texts.Stored 0 0), clip-none store)
   payload-by (texts.Stored from len) bin file fs = ap (λ (b : meant.Build). some (meant.fromPackage b)) (built-means (texts.Stored from len) bin fs (clip from len store) refl)
@@ -104,7 +96,7 @@ module _ (room store : Seq ℕ) (made : ℕ) (name : Seq ℕ) where
       ap (λ (b : meant.Build). some (meant.fromPackage b)) (built-means (texts.WithAic from len) bin fs (spelled store name (texts.WithAic from len)) refl)
 
   pbp-package : (p : Text) (fs : Features)
-      → sourceMeant (pick (there p) (sources.Package (built p texts.Absent fs)) sources.Nothing) ≡ meant.pbpPayload none (optional store name p) (featureList room store made fs)
+      → sourceMeant (pick (isGiven p) (sources.Package (built p texts.Absent fs)) sources.Nothing) ≡ meant.pbpPayload none (optional store name p) (featureList room store made fs)
   pbp-package texts.Absent fs = refl
   pbp-package (texts.Stored from len) fs = refl
   pbp-package texts.Lent fs = refl
@@ -112,7 +104,7 @@ module _ (room store : Seq ℕ) (made : ℕ) (name : Seq ℕ) where
   pbp-package (texts.WithAic from len) fs = refl
 
   pbp-by : (f p : Text) (fs : Features)
-      → sourceMeant (pick (there f) (sources.File f) (pick (there p) (sources.Package (built p texts.Absent fs)) sources.Nothing))
+      → sourceMeant (pick (isGiven f) (sources.File f) (pick (isGiven p) (sources.Package (built p texts.Absent fs)) sources.Nothing))
       ≡ meant.pbpPayload (optional store name f) (optional store name p) (featureList room store made fs)
   pbp-by texts.Absent p fs = pbp-package p fs
   pbp-by (texts.Stored from len) p fs = refl
@@ -120,7 +112,7 @@ module _ (room store : Seq ℕ) (made : ℕ) (name : Seq ℕ) where
   pbp-by (texts.Fixed w) p fs = refl
   pbp-by (texts.WithAic from len) p fs = refl
 
-  file-by : (p file : Text) → optional store name (pick (there p) file texts.Absent) ≡ meant.fileLeft (optional store name p) (optional store name file)
+  file-by : (p file : Text) → optional store name (pick (isGiven p) file texts.Absent) ≡ meant.fileLeft (optional store name p) (optional store name file)
   file-by texts.Absent file = refl
   file-by (texts.Stored from len) file = refl
   file-by texts.Lent file = refl
@@ -147,7 +139,7 @@ module _ (room store : Seq ℕ) (made : ℕ) (name : Seq ℕ) where
         pbp-by (c .boot .pbp) (c .boot .«pbp_package») (c .role .«pbp_features»),
       )
 
-  -- its source is there
+  -- its source is isGiven
   pub planned-sourced : (c : Component) → sourceMeant (planned c .source) ≡ some (plannedMeant (planned c) .source)
   planned-sourced c = rw (source-means c)
 
@@ -165,7 +157,7 @@ unfolding applicationAt applicationRead
 package-stored room store made n limit = refl
 
 pub selected-means : (room store : Seq ℕ) (made : ℕ) (name : Seq ℕ) (n : ℕ)
-    → foundMeant room store made name (plans.selected room store made n) ≡ some (meant.planned (meant.componentOf (whole.applicationOf room store made name 32 n)))
+    → foundMeant room store made name (plans.plannedApplication room store made n) ≡ some (meant.planned (meant.componentOf (whole.applicationOf room store made name 32 n)))
 selected-means room store made name n =
     let a = applicationAt room store made n 32 .application in
     ap (λ (p : meant.PlannedComponent). some p)
@@ -184,7 +176,7 @@ module _ (room store : Seq ℕ) (made n : ℕ) where
       let v = field room store (tableAt room store made n .fields) (ascii "partition") in
       rw partition-read (or-kept (textRead v .text) 0 0 (text-kept v))
 
-  -- whether there is one is what 01 asks
+  -- whether isGiven is one is what 01 asks
   pub placed-means : (name : Seq ℕ) → placed room store made n ≡ pick (nil? (whole.componentOf room store made name 32 n .role .partition)) false true
   unfolding placed
   placed-means name = rw (kept-spelled store name (componentAt room store made n 32 .component .role .partition) partition-kept)

@@ -32,7 +32,7 @@ use Rattle.parse.specs.Reads.{Kept, text-kept}
 use Rattle.parse.specs.Refused.{partitionNumbers}
 use Rattle.parse.specs.Whole.{partitionOf, componentOf, applicationOf}
 use Rattle.parse.specs.Given.{partitions-meant}
-use Rattle.layout.specs.Marks.{rank}
+use Rattle.layout.specs.Parts.{rank}
 use Rattle.layout.specs.Parts.{partName}
 use Rattle.validate.specs.EntrySaid.{Named, application-kept}
 use Rattle.validate.specs.Gathered.{components}
@@ -81,7 +81,7 @@ module _ (room store : Seq ℕ) (made : ℕ) where
   own-named : (i : ℕ) → NamedIn (plans.own room store made i)
   own-named i = found-named (nthOf (components room store made) i)
 
-  selected-named : (n : ℕ) → NamedIn (plans.selected room store made n)
+  selected-named : (n : ℕ) → NamedIn (plans.plannedApplication room store made n)
   unfolding plans.planned plans.componentOf
   selected-named n = application-named room store made n
 

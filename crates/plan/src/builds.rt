@@ -3,9 +3,17 @@
 use crate::choice::Choice;
 use crate::component::Build;
 use schema::Features;
+use schema::MOST_FEATURES;
 use schema::Text;
-use tree::Found;
-use validate::uses::Spot;
+use schema::spot::Spot;
+use schema::spot::bytes_spot;
+use schema::spot::list_at;
+use schema::spot::list_spot;
+use schema::spot::no_spot;
+use schema::spot::same_text;
+use schema::spot::text_at;
+use schema::spot::text_spot;
+use tree::Item;
 ghost use mathlib.Core.List.{[], map};
 ghost use mathlib.Core.Path.{_≡_};
 ghost use Prim.Native.Nat.{_≤_};
@@ -15,10 +23,15 @@ ghost use Rattle.plan.specs.Choices.{Standing};
 ghost use Rattle.plan.specs.Builds as builds;
 ghost use Rattle.plan.specs.Builds.{Wanting, Used};
 
+// Two for each component, and one for the application.
+const COMPONENT_USES: usize = 128;
+
+const MOST_USES: usize = 129;
+
 // Uses of packages, or builds; one whose package is absent is none.
 pub struct BuildList {
     pub count: usize,
-    pub items: [Use; 129],
+    pub items: [Use; MOST_USES],
 }
 
 // A component's two packages.
@@ -44,9 +57,9 @@ fn using(package: Text, bin: Text, features: Features) -> Use
     ensures { λ r. ⌜ r ≡ builds.useOf «package» bin features ⌝ }
 {
     Use {
-        package: validate::uses::text_spot(package),
-        bin: validate::uses::text_spot(bin.or(package)),
-        features: validate::uses::list_spot(features),
+        package: text_spot(package),
+        bin: text_spot(bin.or(package)),
+        features: list_spot(features),
     }
 }
 
@@ -58,23 +71,23 @@ pub fn build_at(u: Use) -> Build
     let bin = u.bin;
     let features = u.features;
     Build {
-        package: validate::uses::text_at(package),
-        bin: validate::uses::text_at(bin),
-        features: validate::uses::list_at(features),
+        package: text_at(package),
+        bin: text_at(bin),
+        features: list_at(features),
     }
 }
 
 // An array of none.
-fn no_builds() -> [Use; 129]
+fn no_builds() -> [Use; MOST_USES]
     ensures { λ r. ⌜ r ≡ replicate 129 builds.noUse ⌝ }
 {
-    let none = validate::uses::no_spot();
+    let none = no_spot();
     let blank = Use {
         package: none,
         bin: none,
         features: none,
     };
-    [blank; 129]
+    [blank; MOST_USES]
 }
 
 // "Each component's package, then its `pbp_package`", whose bin is the package itself.
@@ -85,7 +98,7 @@ fn wanted_at(tree: &[u8], store: &[u8], made: usize, n: usize) -> Wanted
     let t = parse::entry::entry_table(tree, made, tree::value_at(tree, store, n));
     let f = t.fields;
     let s = parse::component::read_sources(tree, store, f);
-    let l = parse::component::read_lists(tree, store, made, f, 32);
+    let l = parse::component::read_lists(tree, store, made, f, MOST_FEATURES);
     let o = parse::field::text(tree, store, f, b"pbp_package");
     let package = s.package;
     let bin = s.bin;
@@ -105,30 +118,27 @@ fn each_component(tree: &[u8], store: &[u8], made: usize, place: u16, end: usize
 {
     let mut items = no_builds();
     let mut i: usize = 0;
-    let mut from = 0;
-    while from < end {
-        let found = tree::child(tree, end, place, from);
-        match found {
-            Found::Nothing => break,
-            Found::At(n) => {
-                if 128 <= i {
+    let mut w = tree::items_of(place, end);
+    loop {
+        let step = tree::next_item(tree, w);
+        match step {
+            Item::End => break,
+            Item::At { value, rest } => {
+                if COMPONENT_USES <= i {
                     break;
                 }
-                let w = wanted_at(tree, store, made, n);
-                let own = w.own;
-                let pbp = w.pbp;
+                let used = wanted_at(tree, store, made, value);
+                let own = used.own;
+                let pbp = used.pbp;
                 let next = i + 1;
                 items[i] = own;
                 items[next] = pbp;
                 i += 2;
-                from = n + 1;
+                w = rest;
             }
         }
     }
-    BuildList {
-        count: i,
-        items: items,
-    }
+    BuildList { count: i, items }
 }
 
 // The use of the application that value number n is: its package and bin are its key.
@@ -136,21 +146,19 @@ fn application_use(tree: &[u8], store: &[u8], made: usize, n: usize) -> Use
     requires { ⌜ Rooms (now tree) made × Stood (now tree) n ⌝ }
     ensures { λ r. ⌜ builds.buildAt r ≡ builds.applicationUse (now (tree .entry)) (now (store .entry)) made n ⌝ }
 {
-    let r = parse::entry::application_at(tree, store, made, n, 32);
+    let r = parse::entry::application_at(tree, store, made, n, MOST_FEATURES);
     let a = r.application;
     let features = a.features;
-    let v = tree::get(tree, n);
-    let p = validate::uses::single(v.key, v.len, features);
-    let package = p.package;
-    let list = p.features;
+    let k = tree::key_at(tree, n);
+    let package = bytes_spot(k.from, k.len);
     Use {
-        package: package,
+        package,
         bin: package,
-        features: list,
+        features: list_spot(features),
     }
 }
 
-// "The application last": that use behind those of the components.
+// "The application last": that use after those of the components.
 fn with_application(tree: &[u8], store: &[u8], made: usize, n: usize, u: BuildList) -> BuildList
     requires { ⌜ Rooms (now tree) made × Stood (now tree) n × builds.Room u ⌝ }
     ensures { λ r. ⌜ builds.Followed (now (tree .entry)) (now (store .entry)) made n u r ⌝ }
@@ -160,12 +168,12 @@ fn with_application(tree: &[u8], store: &[u8], made: usize, n: usize, u: BuildLi
     items[count] = application_use(tree, store, made, n);
     BuildList {
         count: count + 1,
-        items: items,
+        items,
     }
 }
 
 // Those of some uses that no earlier one is of the same package as.
-fn first_uses(store: &[u8], uses: [Use; 129], count: usize) -> BuildList
+fn first_uses(store: &[u8], uses: [Use; MOST_USES], count: usize) -> BuildList
     requires { ⌜ count ≤ 129 ⌝ }
     ensures { λ r. ⌜ Used 129 (builds.firstUses (now (store .entry)) [] (map builds.buildAt (take count uses))) r ⌝ }
 {
@@ -175,23 +183,20 @@ fn first_uses(store: &[u8], uses: [Use; 129], count: usize) -> BuildList
         let u = uses[i];
         let p = u.package;
         // no package
-        if p.kind != 1 {
+        if p.kind != Spot::BYTES {
             continue;
         }
         for j in 0..i {
             let v = uses[j];
             let q = v.package;
-            if validate::uses::agree(store, p, q) {
+            if same_text(store, p, q) {
                 continue 'next;
             }
         }
         items[n] = u;
         n += 1;
     }
-    BuildList {
-        count: n,
-        items: items,
-    }
+    BuildList { count: n, items }
 }
 
 // All uses of a plan in their order; a key that is not declared has none.

@@ -2,7 +2,10 @@
 
 use parse::Refusal;
 use parse::entry::List;
-use tree::Found;
+use schema::MOST_ENTRIES;
+use schema::MOST_FEATURES;
+use tree::Item;
+use tree::Key;
 ghost use mathlib.Core.Path.{_≡_};
 ghost use Rattle.tree.specs.Doors.{Rooms, Stood};
 ghost use Rattle.parse.specs.Entries.{Among};
@@ -21,8 +24,8 @@ fn keyed(tree: &[u8], store: &[u8], n: usize, key: &[u8]) -> bool
     requires { ⌜ Stood (now tree) n ⌝ }
     ensures { λ r. ⌜ r ≡ choices.keyed (now (tree .entry)) (now (store .entry)) (now (key .entry)) n ⌝ }
 {
-    let v = tree::get(tree, n);
-    slices::same(key, schema::stored(store, v.key as usize, v.len as usize))
+    let k = tree::key_at(tree, n);
+    slices::same(key, schema::stored(store, k.from, k.len))
 }
 
 // The first of a table's values in byte order of key that has the key.
@@ -30,20 +33,17 @@ fn declared(tree: &[u8], store: &[u8], made: usize, list: List, key: &[u8]) -> C
     requires { ⌜ Among (now tree) made list ⌝ }
     ensures { λ r. ⌜ Chosen (now (tree .entry)) (choices.declared (now (tree .entry)) (now (store .entry)) (now (key .entry)) list) r ⌝ }
 {
-    let place = list.place;
-    let end = list.end;
-    let low = tree::skip_up(tree, end, place, 0);
-    let mut after = Found::Nothing;
+    let mut w = tree::keys_of(tree, list.place, list.end);
     let mut i = 0;
-    while i <= 64 {
-        let found = tree::next(tree, store, low, end, place, after);
-        match found {
-            Found::Nothing => return Choice::Undeclared,
-            Found::At(n) => {
-                if keyed(tree, store, n, key) {
-                    return Choice::At { place: i, value: n };
+    while i <= MOST_ENTRIES {
+        let step = tree::next_key(tree, store, w);
+        match step {
+            Key::End => return Choice::Undeclared,
+            Key::At { value, rest } => {
+                if keyed(tree, store, value, key) {
+                    return Choice::At { place: i, value };
                 }
-                after = Found::At(n);
+                w = rest;
                 i += 1;
             }
         }
@@ -81,22 +81,19 @@ fn taken(tree: &[u8], store: &[u8], made: usize, name: &[u8]) -> bool
     ensures { λ r. ⌜ r ≡ choices.taken (now (tree .entry)) (now (store .entry)) made (now (name .entry)) ⌝ }
 {
     let l = parse::view::component_list(tree, store, made);
-    let place = l.place;
-    let end = l.end;
-    let mut from = 0;
-    while from < end {
-        let found = tree::child(tree, end, place, from);
-        match found {
-            Found::Nothing => return false,
-            Found::At(n) => {
-                if named(tree, store, made, n, name) {
+    let mut w = tree::items_of(l.place, l.end);
+    loop {
+        let step = tree::next_item(tree, w);
+        match step {
+            Item::End => return false,
+            Item::At { value, rest } => {
+                if named(tree, store, made, value, name) {
                     return true;
                 }
-                from = n + 1;
+                w = rest;
             }
         }
     }
-    false
 }
 
 // 81: the application that value number n is, told at its entry.
@@ -104,7 +101,7 @@ fn check_name(tree: &[u8], store: &[u8], made: usize, place: usize, n: usize) ->
     requires { ⌜ Rooms (now tree) made × Stood (now tree) n ⌝ }
     ensures { λ r. ⌜ r ≡ choices.nameFault (now (tree .entry)) (now (store .entry)) made place n ⌝ }
 {
-    let r = parse::entry::application_at(tree, store, made, n, 32);
+    let r = parse::entry::application_at(tree, store, made, n, MOST_FEATURES);
     let a = r.application;
     let name = a.name;
     let own = schema::stored(store, name.start(), name.length());
@@ -115,9 +112,9 @@ fn check_name(tree: &[u8], store: &[u8], made: usize, place: usize, n: usize) ->
 }
 
 // 80, then 81.
-pub fn check(tree: &[u8], store: &[u8], made: usize, app: u32, key: &[u8]) -> Refusal
+pub fn check_selection(tree: &[u8], store: &[u8], made: usize, app: u32, key: &[u8]) -> Refusal
     requires { ⌜ Rooms (now tree) made ⌝ }
-    ensures { λ r. ⌜ r ≡ choices.fault (now (tree .entry)) (now (store .entry)) made (choices.choice (now (tree .entry)) (now (store .entry)) made app (now (key .entry))) ⌝ }
+    ensures { λ r. ⌜ r ≡ choices.refused (now (tree .entry)) (now (store .entry)) made app (now (key .entry)) ⌝ }
 {
     let c = choose(tree, store, made, app, key);
     match c {

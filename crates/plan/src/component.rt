@@ -9,10 +9,11 @@ use schema::Features;
 use schema::Head;
 use schema::Kind;
 use schema::Load;
+use schema::MOST_FEATURES;
 use schema::Number;
 use schema::Role;
 use schema::Text;
-use tree::Found;
+use tree::Item;
 ghost use mathlib.Core.Path.{_≡_};
 ghost use Rattle.tree.specs.Doors.{Rooms, Stood};
 ghost use Rattle.plan.specs.Choices.{Standing};
@@ -49,9 +50,9 @@ fn built(package: Text, bin: Text, features: Features) -> Build
     ensures { λ r. ⌜ r ≡ plans.built «package» bin features ⌝ }
 {
     Build {
-        package: package,
+        package,
         bin: bin.or(package),
-        features: features,
+        features,
     }
 }
 
@@ -62,7 +63,7 @@ fn payload(h: Head, features: Features) -> Source
     let package = h.package;
     let bin = h.bin;
     let file = h.file;
-    if validate::component::there(package) {
+    if package.is_given() {
         return Source::Package(built(package, bin, features));
     }
     Source::File(file.or(Text::Stored { from: 0, len: 0 }))
@@ -74,10 +75,10 @@ fn pbp_payload(b: Boot, features: Features) -> Source
 {
     let pbp = b.pbp;
     let package = b.pbp_package;
-    if validate::component::there(pbp) {
+    if pbp.is_given() {
         return Source::File(pbp);
     }
-    if validate::component::there(package) {
+    if package.is_given() {
         return Source::Package(built(package, Text::Absent, features));
     }
     Source::Nothing
@@ -93,16 +94,16 @@ fn head_left(h: Head) -> Head
     let bin = h.bin;
     let file = h.file;
     let filename = h.filename;
-    if validate::component::there(package) {
+    if package.is_given() {
         return h;
     }
     Head {
-        kind: kind,
-        name: name,
-        package: package,
-        bin: bin,
+        kind,
+        name,
+        package,
+        bin,
         file: Text::Absent,
-        filename: filename,
+        filename,
     }
 }
 
@@ -114,10 +115,10 @@ fn boot_left(b: Boot) -> Boot
     let private = b.private;
     Boot {
         updater: b.updater,
-        ram: ram,
+        ram,
         pbp: Text::Absent,
         pbp_package: package,
-        private: private,
+        private,
     }
 }
 
@@ -133,9 +134,9 @@ fn plan_of(c: Component) -> Planned
     Planned {
         spec: Component {
             head: head_left(head),
-            role: role,
+            role,
             boot: boot_left(boot),
-            load: load,
+            load,
         },
         source: payload(head, features),
         pbp_source: pbp_payload(boot, pbp_features),
@@ -157,17 +158,17 @@ pub fn component_of(a: Application) -> Component
     Component {
         head: Head {
             kind: Kind::App,
-            name: name,
-            package: package,
+            name,
+            package,
             bin: Text::Absent,
             file: Text::Absent,
-            filename: filename,
+            filename,
         },
         role: Role {
-            features: features,
+            features,
             pbp_features: Features::Absent,
-            partition: partition,
-            attr: attr,
+            partition,
+            attr,
             target_attr: Text::Absent,
             target_filename: Text::Absent,
         },
@@ -192,9 +193,9 @@ fn loads(load_address: Number, entry_offset: Number) -> Load
     ensures { λ r. ⌜ r ≡ plans.loads «load_address» «entry_offset» ⌝ }
 {
     Load {
-        load_address: load_address,
+        load_address,
         entry_point: Number::Absent,
-        entry_offset: entry_offset,
+        entry_offset,
         header_version: Number::Absent,
         with_ext: false,
         ext_reserve: 0,
@@ -219,24 +220,21 @@ fn ahead(tree: &[u8], store: &[u8], made: usize) -> usize
     ensures { λ r. ⌜ r ≡ plans.ahead (now (tree .entry)) (now (store .entry)) made ⌝ }
 {
     let l = parse::view::component_list(tree, store, made);
-    let place = l.place;
-    let end = l.end;
     let mut i = 0;
-    let mut from = 0;
-    while from < end {
-        let found = tree::child(tree, end, place, from);
-        match found {
-            Found::Nothing => return i,
-            Found::At(n) => {
-                if placed(tree, store, made, n) {
+    let mut w = tree::items_of(l.place, l.end);
+    loop {
+        let step = tree::next_item(tree, w);
+        match step {
+            Item::End => return i,
+            Item::At { value, rest } => {
+                if placed(tree, store, made, value) {
                     return i;
                 }
                 i += 1;
-                from = n + 1;
+                w = rest;
             }
         }
     }
-    i
 }
 
 // Component number i of the preset, planned.
@@ -244,7 +242,7 @@ fn own(tree: &[u8], store: &[u8], made: usize, i: usize) -> PlannedFound
     requires { ⌜ Rooms (now tree) made ⌝ }
     ensures { λ r. ⌜ r ≡ plans.own (now (tree .entry)) (now (store .entry)) made i ⌝ }
 {
-    let found = parse::view::component(tree, store, made, i, 32);
+    let found = parse::view::component(tree, store, made, i, MOST_FEATURES);
     match found {
         ComponentFound::Nothing => PlannedFound::Nothing,
         ComponentFound::At(c) => PlannedFound::At(plan_of(c)),
@@ -252,11 +250,11 @@ fn own(tree: &[u8], store: &[u8], made: usize, i: usize) -> PlannedFound
 }
 
 // The application that value number n is, planned.
-fn selected(tree: &[u8], store: &[u8], made: usize, n: usize) -> PlannedFound
+fn planned_application(tree: &[u8], store: &[u8], made: usize, n: usize) -> PlannedFound
     requires { ⌜ Rooms (now tree) made × Stood (now tree) n ⌝ }
-    ensures { λ r. ⌜ r ≡ plans.selected (now (tree .entry)) (now (store .entry)) made n ⌝ }
+    ensures { λ r. ⌜ r ≡ plans.plannedApplication (now (tree .entry)) (now (store .entry)) made n ⌝ }
 {
-    let r = parse::entry::application_at(tree, store, made, n, 32);
+    let r = parse::entry::application_at(tree, store, made, n, MOST_FEATURES);
     let a = r.application;
     PlannedFound::At(plan_of(component_of(a)))
 }
@@ -271,7 +269,7 @@ fn composed(tree: &[u8], store: &[u8], made: usize, n: usize, i: usize) -> Plann
         return own(tree, store, made, i);
     }
     if i == at {
-        return selected(tree, store, made, n);
+        return planned_application(tree, store, made, n);
     }
     own(tree, store, made, i - 1)
 }

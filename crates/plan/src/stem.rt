@@ -4,6 +4,7 @@ use crate::choice::Choice;
 use schema::Kind;
 use schema::Text;
 use tree::Found;
+use tree::Item;
 ghost use mathlib.Core.Path.{_≡_};
 ghost use Rattle.tree.specs.Doors.{Rooms, Stood};
 ghost use Rattle.tree.specs.Room.{Finds};
@@ -17,7 +18,7 @@ fn last_dot(s: &[u8]) -> usize
     let mut i = s.len();
     while 0 < i {
         i -= 1;
-        if s[i] == 46 {
+        if s[i] == b'.' {
             return i;
         }
     }
@@ -42,13 +43,10 @@ fn stem_of(store: &[u8], file: Text) -> Text
     let t = parse::component::name_in(store, file);
     match t {
         Text::Stored { from, len } => Text::Stored {
-            from: from,
+            from,
             len: stem_length(schema::stored(store, from, len)),
         },
-        Text::Absent => Text::Absent,
-        Text::Lent => Text::Absent,
-        Text::Fixed(_) => Text::Absent,
-        Text::WithAic { from: _, len: _ } => Text::Absent,
+        _ => Text::Absent,
     }
 }
 
@@ -57,8 +55,7 @@ fn is_app(k: Kind) -> bool
 {
     match k {
         Kind::App => true,
-        Kind::Pbp => false,
-        Kind::Raw => false,
+        _ => false,
     }
 }
 
@@ -83,22 +80,19 @@ fn leader(tree: &[u8], store: &[u8], made: usize) -> Found
     ensures { λ r. ⌜ Finds 0 made (stems.leader (now (tree .entry)) (now (store .entry)) made) r ⌝ }
 {
     let l = parse::view::component_list(tree, store, made);
-    let place = l.place;
-    let end = l.end;
-    let mut from = 0;
-    while from < end {
-        let found = tree::child(tree, end, place, from);
-        match found {
-            Found::Nothing => return Found::Nothing,
-            Found::At(n) => {
-                if leads(tree, store, made, n) {
-                    return Found::At(n);
+    let mut w = tree::items_of(l.place, l.end);
+    loop {
+        let step = tree::next_item(tree, w);
+        match step {
+            Item::End => return Found::Nothing,
+            Item::At { value, rest } => {
+                if leads(tree, store, made, value) {
+                    return Found::At(value);
                 }
-                from = n + 1;
+                w = rest;
             }
         }
     }
-    Found::Nothing
 }
 
 // "The package, else `bin`, else file stem" of the first `app` component with a partition, if there is one.
@@ -128,7 +122,7 @@ fn boot_stem(tree: &[u8], store: &[u8], made: usize, name: &[u8]) -> Text
     ensures { λ r. ⌜ r ≡ stems.bootStem (now (tree .entry)) (now (store .entry)) made (now (name .entry)) ⌝ }
 {
     let t = leading(tree, store, made);
-    if validate::component::there(t) {
+    if t.is_given() {
         return t;
     }
     let root = tree::fields_at(tree, made, 1);
@@ -138,14 +132,14 @@ fn boot_stem(tree: &[u8], store: &[u8], made: usize, name: &[u8]) -> Text
 }
 
 // The key of the application that value number n is.
-fn key_of(tree: &[u8], n: usize) -> Text
+pub fn key_of(tree: &[u8], n: usize) -> Text
     requires { ⌜ Stood (now tree) n ⌝ }
     ensures { λ r. ⌜ r ≡ stems.keyOf (now (tree .entry)) n ⌝ }
 {
-    let v = tree::get(tree, n);
+    let k = tree::key_at(tree, n);
     Text::Stored {
-        from: v.key as usize,
-        len: v.len as usize,
+        from: k.from,
+        len: k.len,
     }
 }
 

@@ -69,8 +69,8 @@ fn judge_rooms(way: Way, tree: &[u8], store: &[u8], made: usize, name: &[u8], ke
 {
     match way {
         Way::Read => parse::judge_records(tree, store, made, name),
-        Way::Validate => validate::judge(tree, store, made, name),
-        Way::Plan(app) => plan::judge(tree, store, made, name, app, key),
+        Way::Validate => validate::judge_rules(tree, store, made, name),
+        Way::Plan(app) => plan::judge_selection(tree, store, made, name, app, key),
     }
 }
 

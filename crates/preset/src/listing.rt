@@ -85,7 +85,7 @@ fn list_tree(name: &[u8], store: &mut [u8], tree: &mut [u8], out: &mut [u8], mad
     requires { ⌜ Rooms (now tree) made ⌝ }
     ensures { λ r. ⌜ listings.TreeListed (now (name .entry)) (now (store .entry)) (now (tree .entry)) made (now (out .entry)) (now (store .exit)) (now (tree .exit)) (now (out .exit)) r ⌝ }
 {
-    let v = plan::judge(tree, store, made, name, 0, b"");
+    let v = plan::judge_selection(tree, store, made, name, 0, b"");
     let o = crate::settle(v, store, tree, made);
     list(o, store, tree, out, name)
 }

@@ -3,10 +3,8 @@ use Prim.Native.Nat.{ℕ}
 use mathlib.Core.List.{List}
 use mathlib.Core.Path.{_≡_}
 use Rattle.meaning.specs.Base.{ascii}
-use Rattle.tree.specs.declared.Span.{Span}
 use Rattle.tree.specs.declared.Value.{Value}
 use Rattle.tree.specs.Doors.{valueAt}
-use Rattle.tree.specs.Steps.{keyAt}
 use Rattle.schema.specs.declared.KindRead.{KindRead}
 use Rattle.schema.specs.declared.Text.{Text}
 use Rattle.schema.specs.declared.Text.the-variants as texts
@@ -18,6 +16,7 @@ use Rattle.parse.specs.Fields.{textAt, kindAt}
 use Rattle.parse.specs.Component.{componentRead, headRead, roleRead}
 use Rattle.parse.specs.Application.{applicationRead, names}
 use Rattle.parse.specs.Entries.{entryTable, componentAt, applicationAt}
+use Rattle.plan.specs.Stems.{keyOf}
 use Rattle.report.specs.Shown as shown
 
 module _ (room store : List ℕ) (made n : ℕ) (v : Value) (t : TableRead) (ev : v ≡ valueAt room store n) (et : t ≡ entryTable room made v) (o p : TextRead) (partition : Text)
@@ -27,7 +26,7 @@ module _ (room store : List ℕ) (made n : ℕ) (v : Value) (t : TableRead) (ev 
   unfolding componentAt componentRead headRead roleRead
   component-brief k ek e = rw (e, ek, eo, ep, et, ev)
 
-  pub application-brief : (s : Span) (name : Text) → s ≡ keyAt room n → name ≡ orText (o .text) (texts.Stored (s .from) (s .len)) → partition ≡ orText (p .text) (texts.Fixed words.App)
-      → record { «package» = texts.Stored (s .from) (s .len); name = name; partition = partition } ≡ shown.applicationBrief (applicationAt room store made n 32 .application)
+  pub application-brief : (key name : Text) → key ≡ keyOf room n → name ≡ orText (o .text) key → partition ≡ orText (p .text) (texts.Fixed words.App)
+      → record { «package» = key; name = name; partition = partition } ≡ shown.applicationBrief (applicationAt room store made n 32 .application)
   unfolding applicationAt applicationRead names
-  application-brief s name es en e = rw (e, en, es, eo, ep, et, ev)
+  application-brief key name ek en e = rw (e, en, ek, eo, ep, et, ev)

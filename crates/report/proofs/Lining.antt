@@ -1,10 +1,11 @@
 -- The lines of the listing: one law for each.
 use Prim.Native.Nat.{ℕ, _+_}
-use mathlib.Core.List.{List, [], _∷_, _++_, append-assoc, append-nil}
+use mathlib.Core.List.{List, [], _∷_, append-assoc, append-nil}
 use mathlib.Core.Path.{_≡_, ap}
 use Rattle.meaning.specs.Base.{ascii}
 use Rattle.meaning.specs.Schema as meant
-use Rattle.meaning.specs.Listing.{spaced, decimal, dashed, stemLine, refusedLine}
+use Rattle.meaning.specs.Listing.{decimal, dashed, stemLine, refusedLine}
+use Rattle.schema.specs.declared.Text.{Text}
 use Rattle.schema.specs.declared.Word.{Word}
 use Rattle.schema.specs.declared.Chip.{Chip}
 use Rattle.schema.specs.declared.Chip.the-variants as chips
@@ -15,41 +16,15 @@ use Rattle.schema.specs.declared.Kind.the-variants as kinds
 use Rattle.schema.specs.declared.Partition.{Partition}
 use Rattle.schema.specs.Words.{word, chipMeant, mediaMeant, kindMeant, chipWord, mediaWord, kindWord}
 use Rattle.schema.specs.Texts.{clip, spelled}
-use Rattle.tree.specs.Room.{Holds, Counts as Counted}
-use Rattle.tree.specs.Doors.{Rooms}
-use Rattle.parse.specs.declared.entry.List.{List as Places}
 use Rattle.parse.specs.declared.view.Counts.{Counts}
 use Rattle.parse.specs.declared.view.Device.{Device}
-use Rattle.parse.specs.Entries.{Keyed}
-use Rattle.parse.specs.Front.{boardRead, frontOf}
-use Rattle.parse.specs.Views.{partitionList, componentList, applicationList, countsOf, deviceOf}
-use Rattle.parse.proofs.Judging.{partitions-hold, components-hold, applications-hold, counts-are}
+use Rattle.parse.specs.Views.{countsOf, deviceOf}
 use Rattle.report.specs.declared.brief.ComponentBrief.{ComponentBrief}
 use Rattle.report.specs.declared.brief.ApplicationBrief.{ApplicationBrief}
-use Rattle.report.specs.declared.lists.Lists.{Lists}
 use Rattle.page.specs.Page.{Wrote}
 use Rattle.report.specs.Shown as shown
 use Rattle.page.proofs.Pages.{wrote-then}
 use Rattle.page.proofs.Writing.{field-by}
-
--- ---- where the lists stand
-pub lists-stand : (room store : List ℕ) (made : ℕ) (p c a : Places) → p ≡ partitionList room store made → c ≡ componentList room store made → a ≡ applicationList room store made
-    → shown.Listed room store (record { made = made; partitions = p; components = c; applications = a })
-lists-stand room store made p c a ep ec ea = record { partitions = ep; components = ec; applications = ea }
-
-module _ (room store : List ℕ) (l : Lists) (h : Rooms room (l .made)) (k : shown.Listed room store l) where
-  pub partitions-stand : Holds room (l .partitions .end)
-  partitions-stand = partitions-hold room store (l .made) (l .partitions) h (k .partitions)
-
-  pub components-stand : Holds room (l .components .end)
-  components-stand = components-hold room store (l .made) (l .components) h (k .components)
-
-  pub applications-stand : Holds room (l .applications .end)
-  applications-stand = applications-hold room store (l .made) (l .applications) h (k .applications)
-
-  pub counts-stand : (p c a : ℕ) → Counted room (l .partitions .end) (l .partitions .place) p → Counted room (l .components .end) (l .components .place) c → Keyed room store (l .applications) 64 a
-      → record { partitions = p; components = c; applications = a } ≡ countsOf room store (l .made)
-  counts-stand p c a = counts-are room store (l .made) (l .partitions) (l .components) (l .applications) p c a (k .partitions) (k .components) (k .applications)
 
 -- ---- words
 chip-said : (c : Chip) (w : Word) → w ≡ chipWord c → word w ≡ meant.chipWord (chipMeant c)
@@ -75,10 +50,11 @@ module _ (o o1 o2 o3 : List ℕ) (n n1 n2 n3 : ℕ) where
   stem-line s w a z = simp append-assoc (wrote-then w (wrote-then a z))
 
   module _ (o4 : List ℕ) (n4 : ℕ) where
-    pub build-line : (pack : List ℕ) (k : ℕ)
-        → Wrote (ascii "build") o n o1 n1 → Wrote (32 ∷ pack) o1 n1 o2 n2 → Wrote (32 ∷ decimal k) o2 n2 o3 n3 → Wrote (10 ∷ []) o3 n3 o4 n4
-        → Wrote (shown.built pack k) o n o4 n4
-    build-line pack k w x y z = simp append-assoc (wrote-then w (wrote-then x (wrote-then y z)))
+    pub build-line : (store name : List ℕ) (p : Text) (k : ℕ)
+        → Wrote (ascii "build") o n o1 n1 → Wrote (32 ∷ spelled store name p) o1 n1 o2 n2 → Wrote (32 ∷ decimal k) o2 n2 o3 n3 → Wrote (10 ∷ []) o3 n3 o4 n4
+        → Wrote (shown.build store name p k) o n o4 n4
+    unfolding shown.build
+    build-line store name p k w x y z = simp append-assoc (wrote-then w (wrote-then x (wrote-then y z)))
 
     module _ (o5 : List ℕ) (n5 : ℕ) where
       pub part-line : (store : List ℕ) (p : Partition) (s : List ℕ) (end : ℕ)
@@ -120,13 +96,11 @@ module _ (o o1 o2 o3 : List ℕ) (n n1 n2 n3 : ℕ) where
 
   pub device-line : (chip : Chip) (media : Media) (c m : Word)
       → Wrote (ascii "ok") o n o1 n1 → Wrote (32 ∷ word c) o1 n1 o2 n2 → Wrote (32 ∷ word m) o2 n2 o3 n3 → c ≡ chipWord chip → m ≡ mediaWord media
-      → Wrote (ascii "ok" ++ spaced (meant.chipWord (chipMeant chip) ∷ meant.mediaWord (mediaMeant media) ∷ [])) o n o3 n3
+      → Wrote (shown.device chip media) o n o3 n3
   device-line chip media c m w x y e f = simp append-nil (wrote-then w (wrote-then (field-by x (chip-said chip c e)) (field-by y (media-said media m f))))
 
-module _ (room store : List ℕ) (made : ℕ) (name : List ℕ) (o o1 o2 : List ℕ) (n n1 n2 : ℕ) where
-  pub ok-line : (d : Device)
-      → Wrote (ascii "ok" ++ spaced (meant.chipWord (chipMeant (d .chip)) ∷ meant.mediaWord (mediaMeant (d .media)) ∷ [])) o n o1 n1 → Wrote (shown.counts room store made) o1 n1 o2 n2
-      → d ≡ deviceOf room store made
-      → Wrote (shown.ok room store made name) o n o2 n2
-  unfolding shown.ok deviceOf frontOf boardRead
+module _ (room store : List ℕ) (made : ℕ) (o o1 o2 : List ℕ) (n n1 n2 : ℕ) where
+  pub ok-line : (d : Device) → Wrote (shown.device (d .chip) (d .media)) o n o1 n1 → Wrote (shown.counts room store made) o1 n1 o2 n2 → d ≡ deviceOf room store made
+      → Wrote (shown.ok room store made) o n o2 n2
+  unfolding shown.ok
   ok-line d x y e = wrote-then (rw e at x) y

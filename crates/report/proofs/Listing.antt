@@ -14,16 +14,19 @@ use Rattle.tree.specs.declared.Item.the-variants as given
 use Rattle.tree.specs.declared.Keys.{Keys}
 use Rattle.tree.specs.declared.Key.{Key}
 use Rattle.tree.specs.declared.Key.the-variants as keyed
-use Rattle.tree.specs.Doors.{Rooms, items}
-use Rattle.tree.specs.Steps.{itemsFrom, toCome, Gives, item-given, item-ended, Over, Begins, KeyGives, key-given}
+use Rattle.tree.specs.Room.{Holds}
+use Rattle.tree.specs.Doors.{Rooms, Stood, items}
+use Rattle.tree.specs.Steps.{itemsFrom, toCome, Gives, item-room, item-ended, item-given, item-stands, Over, Begins, KeyGives, key-given, key-stands}
 use Rattle.schema.specs.declared.Text.{Text}
 use Rattle.schema.specs.Texts.{spelled}
 use Rattle.parse.specs.declared.entry.List.{List}
 use Rattle.parse.specs.declared.entry.PartitionRead.{PartitionRead}
+use Rattle.parse.specs.declared.view.Lists.{Lists}
 use Rattle.parse.specs.Entries.{partitionAt, componentAt, applicationAt, walk}
 use Rattle.parse.specs.Meant.{featureList}
+use Rattle.parse.specs.Views.{partitionList, componentList, applicationList, listsOf}
 use Rattle.parse.proofs.Entering.{walk-ended, walk-given}
-use Rattle.parse.proofs.Judging.{partitions-among, components-among, applications-among}
+use Rattle.parse.proofs.Judging.{partitions-among, components-among, applications-among, applications-hold}
 use Rattle.plan.specs.declared.builds.Use.{Use}
 use Rattle.plan.specs.declared.builds.BuildList.{BuildList}
 use Rattle.plan.specs.declared.choice.Choice.the-variants.{BootChain}
@@ -32,9 +35,9 @@ use Rattle.plan.specs.Builds.{Used, blank, noUse, buildAt, buildsOf}
 use Rattle.plan.specs.Stems.{stem}
 use Rattle.plan.proofs.Building.{used-at}
 use Rattle.page.specs.Page.{Wrote}
+use Rattle.report.specs.declared.Placed.{Placed}
 use Rattle.report.specs.declared.brief.ComponentBrief.{ComponentBrief}
 use Rattle.report.specs.declared.brief.ApplicationBrief.{ApplicationBrief}
-use Rattle.report.specs.declared.lists.Lists.{Lists}
 use Rattle.report.specs.Shown as shown
 use Rattle.page.proofs.Pages.{wrote-nil, wrote-then}
 
@@ -65,116 +68,148 @@ module _ {X : Type 0} (f : X → Seq ℕ) (all : Seq X) (out : Seq ℕ) (at : �
 
 -- ---- items one after the other
 
--- a walk over items has come from its start to here
-pub record Passed (f : ℕ → Seq ℕ) (room : Seq ℕ) (made : ℕ) (start : Items) (out : Seq ℕ) (at : ℕ) (w : Items) (out′ : Seq ℕ) (at′ : ℕ) : Type 0 where
-  pub within : w .end ≤ made
-  pub left : Left f (toCome room start) (toCome room w) out at out′ at′
+-- the lines of the items met, on a walk that began as v
+pub record Walked (f : ℕ → Seq ℕ) (room : Seq ℕ) (v : Items) (out : Seq ℕ) (at : ℕ) (w : Items) (out′ : Seq ℕ) (at′ : ℕ) : Type 0 where
+  pub left : Left f (toCome room v) (toCome room w) out at out′ at′
+  pub among : w .end ≡ v .end
 
-module _ (f : ℕ → Seq ℕ) (room : Seq ℕ) (made : ℕ) (start : Items) (out : Seq ℕ) (at : ℕ) (w : Items) (out′ : Seq ℕ) (at′ : ℕ)
-    (k : Passed f room made start out at w out′ at′) where
+pub items-start : (f : ℕ → Seq ℕ) (room : Seq ℕ) (v : Items) (out : Seq ℕ) (at : ℕ) → Walked f room v out at v out at
+items-start f room v out at = record { left = left-start f (toCome room v) out at; among = refl }
+
+module _ (f : ℕ → Seq ℕ) (room : Seq ℕ) (v : Items) (out : Seq ℕ) (at : ℕ) (w : Items) (out′ : Seq ℕ) (at′ : ℕ) (k : Walked f room v out at w out′ at′) where
   pub items-long : length out′ ≡ length out
-  items-long = k .left .wrote .long
+  items-long = left-long f (toCome room v) out at (toCome room w) out′ at′ (k .left)
 
   module _ (step : Item) (h : Gives room w step) where
-    pub items-end : (l m : List) → start ≡ itemsFrom (l .place) 0 (l .end) → l ≡ m → step ≡ given.End → Wrote (each f (items room (m .end) (m .place) 0)) out at out′ at′
-    items-end l m s d g = rw (s, d) at (left-end f (toCome room start) out at (toCome room w) out′ at′ (k .left) (item-ended room w step h g))
+    pub items-none : (l m : List) → l ≡ m → v ≡ itemsFrom (l .place) 0 (l .end) → step ≡ given.End → Wrote (each f (items room (m .end) (m .place) 0)) out at out′ at′
+    items-none l m d e g = rw (e, d) at (left-end f (toCome room v) out at (toCome room w) out′ at′ (k .left) (item-ended room w step h g))
 
-    items-on : (n : ℕ) (rest : Items) → step ≡ given.At n rest → (out″ : Seq ℕ) (at″ : ℕ) → Wrote (f n) out′ at′ out″ at″ → Passed f room made start out at rest out″ at″
-    items-on n rest g out″ at″ e =
-        let next = item-given room w step h n rest g in
-        record {
-          within = omega (arith, next .end, k .within);
-          left = left-on f (toCome room start) out at (toCome room w) out′ at′ (k .left) n (toCome room rest) (next .come) out″ at″ e;
-        }
+    pub items-on : (n : ℕ) (rest : Items) → step ≡ given.At n rest → (out″ : Seq ℕ) (at″ : ℕ) → Wrote (f n) out′ at′ out″ at″ → Walked f room v out at rest out″ at″
+    items-on n rest g out″ at″ x =
+        let s = item-given room w step h n rest g in
+        record { left = left-on f (toCome room v) out at (toCome room w) out′ at′ (k .left) n (toCome room rest) (s .come) out″ at″ x; among = s .end ∙ k .among }
 
--- a list that stands among the values made
-items-start : (f : ℕ → Seq ℕ) (room : Seq ℕ) (made : ℕ) (l : List) (w : Items) (out : Seq ℕ) (at : ℕ) → l .end ≤ made → w ≡ itemsFrom (l .place) 0 (l .end) → Passed f room made w out at w out at
-items-start f room made l w out at h e =
-    record { within = rw e h; left = left-start f (toCome room w) out at }
+-- ---- steps by key
 
-module _ (room store : Seq ℕ) (l : Lists) (r : Rooms room (l .made)) (h : shown.Listed room store l) (name : Seq ℕ) (w : Items) (out : Seq ℕ) (at : ℕ) where
-  pub parts-start : w ≡ itemsFrom (l .partitions .place) 0 (l .partitions .end) → Passed (shown.partAt room store (l .made) name) room (l .made) w out at w out at
-  parts-start =
-      items-start (shown.partAt room store (l .made) name) room (l .made) (l .partitions) w out at
-      (partitions-among room store (l .made) (l .partitions) r (h .partitions) .end)
+-- the lines of the keys met, on a walk that began as v
+pub record Keyed (f : ℕ → Seq ℕ) (room store : Seq ℕ) (v : Keys) (out : Seq ℕ) (at : ℕ) (w : Keys) (i : ℕ) (out′ : Seq ℕ) (at′ : ℕ) : Type 0 where
+  pub over : Over room (v .place) (v .end) w
+  pub left : Left f (walk room store (v .end) (v .place) 65 Nothing) (walk room store (v .end) (v .place) (65 - i) (w .after)) out at out′ at′
 
-  pub comps-start : w ≡ itemsFrom (l .components .place) 0 (l .components .end) → Passed (shown.compAt room store (l .made) name) room (l .made) w out at w out at
-  comps-start =
-      items-start (shown.compAt room store (l .made) name) room (l .made) (l .components) w out at
-      (components-among room store (l .made) (l .components) r (h .components) .end)
+pub keys-start : (f : ℕ → Seq ℕ) (room store : Seq ℕ) (place end : ℕ) (v : Keys) (out : Seq ℕ) (at : ℕ) → Begins room place end Nothing v → Keyed f room store v out at v 0 out at
+keys-start f room store place end v out at b =
+    record { over = record { ready = b .over .ready; place = refl; end = refl }; left = rw (b .after) (left-start f (walk room store (v .end) (v .place) 65 Nothing) out at) }
 
-module _ (room store : Seq ℕ) (made : ℕ) (name : Seq ℕ) (start : Items) (out : Seq ℕ) (at : ℕ) (w : Items) (out′ : Seq ℕ) (at′ : ℕ)
-    (step : Item) (h : Gives room w step) (n : ℕ) (rest : Items) (g : step ≡ given.At n rest) (out″ : Seq ℕ) (at″ : ℕ) where
-  pub parts-on : Passed (shown.partAt room store made name) room made start out at w out′ at′
-      → (r : PartitionRead) → r ≡ partitionAt room store made n → Wrote (shown.part store (r .partition)) out′ at′ out″ at″
-      → Passed (shown.partAt room store made name) room made start out at rest out″ at″
-  parts-on k r e x = items-on (shown.partAt room store made name) room made start out at w out′ at′ k step h n rest g out″ at″ (rw e at x)
-
-  pub comps-on : Passed (shown.compAt room store made name) room made start out at w out′ at′
-      → (b : ComponentBrief) → b ≡ shown.componentBrief (componentAt room store made n 32 .component) → Wrote (shown.comp store name b) out′ at′ out″ at″
-      → Passed (shown.compAt room store made name) room made start out at rest out″ at″
-  comps-on k b e x = items-on (shown.compAt room store made name) room made start out at w out′ at′ k step h n rest g out″ at″ (rw e at x)
-
--- ---- keys in byte order
-
--- a walk over keys has come from its start to here in i steps
-pub record Stepped (f : ℕ → Seq ℕ) (room store : Seq ℕ) (made : ℕ) (start : Keys) (out : Seq ℕ) (at : ℕ) (w : Keys) (i : ℕ) (out′ : Seq ℕ) (at′ : ℕ) : Type 0 where
-  pub over : Over room (start .place) (start .end) w
-  pub within : start .end ≤ made
-  pub left : Left f (walk room store (start .end) (start .place) 65 Nothing) (walk room store (start .end) (start .place) (65 - i) (w .after)) out at out′ at′
-
-module _ (f : ℕ → Seq ℕ) (room store : Seq ℕ) (made : ℕ) (start : Keys) (out : Seq ℕ) (at : ℕ) (w : Keys) (i : ℕ) (out′ : Seq ℕ) (at′ : ℕ)
-    (k : Stepped f room store made start out at w i out′ at′) where
+module _ (f : ℕ → Seq ℕ) (room store : Seq ℕ) (v : Keys) (out : Seq ℕ) (at : ℕ) (w : Keys) (i : ℕ) (out′ : Seq ℕ) (at′ : ℕ) (k : Keyed f room store v out at w i out′ at′) where
   pub keys-long : length out′ ≡ length out
-  keys-long = k .left .wrote .long
+  keys-long = left-long f (walk room store (v .end) (v .place) 65 Nothing) out at (walk room store (v .end) (v .place) (65 - i) (w .after)) out′ at′ (k .left)
 
-  module _ (l m : List) (b : Begins room (l .place) (l .end) Nothing start) (d : l ≡ m) where
-    keys-out : walk room store (start .end) (start .place) (65 - i) (w .after) ≡ [] → Wrote (each f (walk room store (m .end) (m .place) 65 Nothing)) out at out′ at′
-    keys-out e =
-        rw (b .over .place, b .over .end, d) at
-        (left-end f (walk room store (start .end) (start .place) 65 Nothing) out at (walk room store (start .end) (start .place) (65 - i) (w .after)) out′ at′ (k .left) e)
+  module _ (l m : List) (d : l ≡ m) (b : Begins room (l .place) (l .end) Nothing v) where
+    here : Keyed f room store (record { place = m .place; low = v .low; end = m .end; after = v .after }) out at w i out′ at′
+    here = rw (b .over .place, b .over .end, d) at k
+
+    keys-out : walk room store (m .end) (m .place) (65 - i) (w .after) ≡ [] → Wrote (each f (walk room store (m .end) (m .place) 65 Nothing)) out at out′ at′
+    keys-out e = left-end f (walk room store (m .end) (m .place) 65 Nothing) out at (walk room store (m .end) (m .place) (65 - i) (w .after)) out′ at′ (here .left) e
 
     pub keys-past : 65 ≤ i → Wrote (each f (walk room store (m .end) (m .place) 65 Nothing)) out at out′ at′
     keys-past h = let z : 65 - i ≡ 0 = omega arith in keys-out (rw z)
 
-    pub keys-end : (step : Key) → KeyGives room store w step → step ≡ keyed.End → Wrote (each f (walk room store (m .end) (m .place) 65 Nothing)) out at out′ at′
-    keys-end step h g = keys-out (walk-ended room store (start .place) (start .end) w (k .over) step h (65 - i) g)
+    pub keys-none : (step : Key) → KeyGives room store w step → step ≡ keyed.End → Wrote (each f (walk room store (m .end) (m .place) 65 Nothing)) out at out′ at′
+    keys-none step h g = keys-out (walk-ended room store (m .place) (m .end) w (here .over) step h (65 - i) g)
 
-  keys-on : (step : Key) → KeyGives room store w step → (n : ℕ) (rest : Keys) → step ≡ keyed.At n rest → i < 65 → (out″ : Seq ℕ) (at″ : ℕ) → Wrote (f n) out′ at′ out″ at″
-      → Stepped f room store made start out at rest (i + 1) out″ at″
-  keys-on step h n rest g b out″ at″ e =
-      let z : 65 - i ≡ suc (65 - (i + 1)) = omega arith in
-      record {
-        over = key-given room store (start .place) (start .end) w (k .over) step h n rest g .over;
-        within = k .within;
-        left = left-on f (walk room store (start .end) (start .place) 65 Nothing) out at (walk room store (start .end) (start .place) (65 - i) (w .after)) out′ at′ (k .left) n
-            (walk room store (start .end) (start .place) (65 - (i + 1)) (rest .after))
-            (rw z (walk-given room store (start .place) (start .end) w (k .over) step h (65 - (i + 1)) n rest g)) out″ at″ e;
-      }
+  module _ (step : Key) (h : KeyGives room store w step) (n : ℕ) (rest : Keys) (g : step ≡ keyed.At n rest) where
+    pub keys-on : i < 65 → (out″ : Seq ℕ) (at″ : ℕ) → Wrote (f n) out′ at′ out″ at″ → Keyed f room store v out at rest (i + 1) out″ at″
+    keys-on c out″ at″ x =
+        let z : 65 - i ≡ suc (65 - (i + 1)) = omega arith in
+        let s : walk room store (v .end) (v .place) (65 - i) (w .after) ≡ n ∷ walk room store (v .end) (v .place) (65 - (i + 1)) (rest .after)
+        = rw z (walk-given room store (v .place) (v .end) w (k .over) step h (65 - (i + 1)) n rest g) in
+        record {
+          over = key-given room store (v .place) (v .end) w (k .over) step h n rest g .over;
+          left = left-on f (walk room store (v .end) (v .place) 65 Nothing) out at (walk room store (v .end) (v .place) (65 - i) (w .after)) out′ at′ (k .left) n
+              (walk room store (v .end) (v .place) (65 - (i + 1)) (rest .after)) s out″ at″ x;
+        }
 
-pub apps-start : (room store : Seq ℕ) (l : Lists) → Rooms room (l .made) → shown.Listed room store l → (name : Seq ℕ) (w : Keys) (out : Seq ℕ) (at : ℕ)
-    → Begins room (l .applications .place) (l .applications .end) Nothing w
-    → Stepped (shown.appAt room store (l .made) name) room store (l .made) w out at w 0 out at
-apps-start room store l r h name w out at b =
-    record {
-      over = record { ready = b .over .ready; place = refl; end = refl };
-      within = omega (arith, b .over .end, applications-among room store (l .made) (l .applications) r (h .applications) .end);
-      left = rw (b .after) (left-start (shown.appAt room store (l .made) name) (walk room store (w .end) (w .place) 65 Nothing) out at);
-    }
+    pub keys-stood : (made : ℕ) (l : List) → Begins room (l .place) (l .end) Nothing v → Rooms room made → l .end ≤ made → Stood room n
+    keys-stood made l b r e =
+        let a : v .end ≤ made = omega (arith, b .over .end, e) in
+        key-stands room store (v .place) (v .end) w (k .over) step h n rest g made r a
 
-pub apps-on : (room store : Seq ℕ) (made : ℕ) (name : Seq ℕ) (start : Keys) (out : Seq ℕ) (at : ℕ) (w : Keys) (i : ℕ) (out′ : Seq ℕ) (at′ : ℕ)
-    → Stepped (shown.appAt room store made name) room store made start out at w i out′ at′
-    → (step : Key) → KeyGives room store w step → (n : ℕ) (rest : Keys) → step ≡ keyed.At n rest → i < 65
-    → (b : ApplicationBrief) → b ≡ shown.applicationBrief (applicationAt room store made n 32 .application)
-    → (out″ : Seq ℕ) (at″ : ℕ) → Wrote (shown.app store name b) out′ at′ out″ at″
-    → Stepped (shown.appAt room store made name) room store made start out at rest (i + 1) out″ at″
-apps-on room store made name start out at w i out′ at′ k step h n rest g low b e out″ at″ x =
-    keys-on (shown.appAt room store made name) room store made start out at w i out′ at′ k step h n rest g low out″ at″ (rw e at x)
+-- ---- what a line is made of
+
+pub parts-on : (room store : Seq ℕ) (made : ℕ) (v : Items) (out : Seq ℕ) (at : ℕ) (w : Items) (out′ : Seq ℕ) (at′ : ℕ)
+    → Walked (shown.partAt room store made) room v out at w out′ at′ → (step : Item) → Gives room w step → (n : ℕ) (rest : Items) → step ≡ given.At n rest
+    → (r : PartitionRead) → r ≡ partitionAt room store made n → (out″ : Seq ℕ) (at″ : ℕ) → Wrote (shown.part store (r .partition)) out′ at′ out″ at″
+    → Walked (shown.partAt room store made) room v out at rest out″ at″
+parts-on room store made v out at w out′ at′ k step h n rest g r e out″ at″ x = items-on (shown.partAt room store made) room v out at w out′ at′ k step h n rest g out″ at″ (rw e at x)
+
+module _ (room store : Seq ℕ) (made : ℕ) (name : Seq ℕ) where
+  pub comps-on : (v : Items) (out : Seq ℕ) (at : ℕ) (w : Items) (out′ : Seq ℕ) (at′ : ℕ)
+      → Walked (shown.compAt room store made name) room v out at w out′ at′ → (step : Item) → Gives room w step → (n : ℕ) (rest : Items) → step ≡ given.At n rest
+      → (x : ComponentBrief) → x ≡ shown.componentBrief (componentAt room store made n 32 .component) → (out″ : Seq ℕ) (at″ : ℕ) → Wrote (shown.comp store name x) out′ at′ out″ at″
+      → Walked (shown.compAt room store made name) room v out at rest out″ at″
+  comps-on v out at w out′ at′ k step h n rest g x e out″ at″ y = items-on (shown.compAt room store made name) room v out at w out′ at′ k step h n rest g out″ at″ (rw e at y)
+
+  pub apps-on : (v : Keys) (out : Seq ℕ) (at : ℕ) (w : Keys) (i : ℕ) (out′ : Seq ℕ) (at′ : ℕ) → Keyed (shown.appAt room store made name) room store v out at w i out′ at′
+      → (step : Key) → KeyGives room store w step → (n : ℕ) (rest : Keys) → step ≡ keyed.At n rest → i < 65
+      → (x : ApplicationBrief) → x ≡ shown.applicationBrief (applicationAt room store made n 32 .application) → (out″ : Seq ℕ) (at″ : ℕ) → Wrote (shown.app store name x) out′ at′ out″ at″
+      → Keyed (shown.appAt room store made name) room store v out at rest (i + 1) out″ at″
+  apps-on v out at w i out′ at′ k step h n rest g c x e out″ at″ y = keys-on (shown.appAt room store made name) room store v out at w i out′ at′ k step h n rest g c out″ at″ (rw e at y)
+
+-- ---- the lists of a preset in the rooms
+
+pub stands : (room store : Seq ℕ) (made : ℕ) (l : Lists) → Rooms room made → l ≡ listsOf room store made → shown.Stands room store (record { made = made; lists = l })
+stands room store made l r e = record { rooms = r; lists = e }
+
+module _ (room store : Seq ℕ) (p : Placed) (h : shown.Stands room store p) where
+  pub parts-list : p .lists .partitions ≡ partitionList room store (p .made)
+  parts-list = ap (λ (x : Lists). x .partitions) (h .lists)
+
+  pub comps-list : p .lists .components ≡ componentList room store (p .made)
+  comps-list = ap (λ (x : Lists). x .components) (h .lists)
+
+  pub apps-list : p .lists .applications ≡ applicationList room store (p .made)
+  apps-list = ap (λ (x : Lists). x .applications) (h .lists)
+
+  parts-within : p .lists .partitions .end ≤ p .made
+  parts-within = partitions-among room store (p .made) (p .lists .partitions) (h .rooms) parts-list .end
+
+  comps-within : p .lists .components .end ≤ p .made
+  comps-within = components-among room store (p .made) (p .lists .components) (h .rooms) comps-list .end
+
+  pub apps-within : p .lists .applications .end ≤ p .made
+  apps-within = applications-among room store (p .made) (p .lists .applications) (h .rooms) apps-list .end
+
+  pub apps-hold : Holds room (p .lists .applications .end)
+  apps-hold = applications-hold room store (p .made) (p .lists .applications) (h .rooms) apps-list
+
+  module _ (v w : Items) (k : w .end ≡ v .end) where
+    walk-end : (l : List) → v ≡ itemsFrom (l .place) 0 (l .end) → w .end ≡ l .end
+    walk-end l e = k ∙ ap (λ (x : Items). x .end) e
+
+    module _ (ev : v ≡ itemsFrom (p .lists .partitions .place) 0 (p .lists .partitions .end)) where
+      low : w .end ≤ p .made
+      low = let a = walk-end (p .lists .partitions) ev in omega (arith, a, parts-within)
+
+      pub parts-hold : Holds room (w .end)
+      parts-hold = item-room room (p .made) w (h .rooms) low
+
+      pub parts-stood : (step : Item) → Gives room w step → (n : ℕ) (rest : Items) → step ≡ given.At n rest → Stood room n
+      parts-stood step s n rest g = item-stands room w step s n rest g (p .made) (h .rooms) low
+
+    module _ (ev : v ≡ itemsFrom (p .lists .components .place) 0 (p .lists .components .end)) where
+      low′ : w .end ≤ p .made
+      low′ = let a = walk-end (p .lists .components) ev in omega (arith, a, comps-within)
+
+      pub comps-hold : Holds room (w .end)
+      comps-hold = item-room room (p .made) w (h .rooms) low′
+
+      pub comps-stood : (step : Item) → Gives room w step → (n : ℕ) (rest : Items) → step ≡ given.At n rest → Stood room n
+      comps-stood step s n rest g = item-stands room w step s n rest g (p .made) (h .rooms) low′
 
 -- ---- builds
 
 module _ (room store : Seq ℕ) (made : ℕ) (name : Seq ℕ) (b : BuildList) (u : Used 129 (buildsOf room store made BootChain) b) (out : Seq ℕ) (at i : ℕ) (out′ : Seq ℕ) (at′ : ℕ)
-    (k : Left (shown.build room store made name) (buildsOf room store made BootChain) (drop i (buildsOf room store made BootChain)) out at out′ at′) where
+    (k : Left (shown.buildOf room store made name) (buildsOf room store made BootChain) (drop i (buildsOf room store made BootChain)) out at out′ at′) where
   -- the boot chain's builds
   abbrev bs : Seq Build
   bs = buildsOf room store made BootChain
@@ -182,16 +217,15 @@ module _ (room store : Seq ℕ) (made : ℕ) (name : Seq ℕ) (b : BuildList) (u
   pub builds-past : b .count ≤ i → Wrote (shown.builds room store made name) out at out′ at′
   builds-past h =
       let l : length bs ≤ i = omega (arith, u .count, h) in
-      left-end (shown.build room store made name) bs out at (drop i bs) out′ at′ k (drop-of-length-le bs l)
+      left-end (shown.buildOf room store made name) bs out at (drop i bs) out′ at′ k (drop-of-length-le bs l)
 
-  pub builds-on : i < b .count → (y : Use) (x : Build) → y ≡ getD (b .items) i noUse → x ≡ buildAt y
-      → (n : ℕ) → n ≡ length (featureList room store made (x .features)) → (out″ : Seq ℕ) (at″ : ℕ) → Wrote (shown.built (spelled store name (x .«package»)) n) out′ at′ out″ at″
-      → Left (shown.build room store made name) bs (drop (i + 1) bs) out at out″ at″
-  unfolding shown.build
-  builds-on h y x e g n c out″ at″ w =
+  pub builds-on : i < b .count → (y : Use) (x : Build) (n : ℕ) → y ≡ getD (b .items) i noUse → x ≡ buildAt y → n ≡ length (featureList room store made (x .features))
+      → (out″ : Seq ℕ) (at″ : ℕ) → Wrote (shown.build store name (x .«package») n) out′ at′ out″ at″
+      → Left (shown.buildOf room store made name) bs (drop (i + 1) bs) out at out″ at″
+  builds-on h y x n e g q out″ at″ w =
       let d : getD bs i blank ≡ x = used-at 129 bs b i u h ∙ sym (g ∙ ap buildAt e) in
-      left-on (shown.build room store made name) bs out at (drop i bs) out′ at′ k x (drop (i + 1) bs)
-      (rw (add-one i, ← d) (drop-cons bs i blank (omega (arith, h, u .count)))) out″ at″ (rw c at w)
+      left-on (shown.buildOf room store made name) bs out at (drop i bs) out′ at′ k x (drop (i + 1) bs)
+      (rw (add-one i, ← d) (drop-cons bs i blank (omega (arith, h, u .count)))) out″ at″ (rw q at w)
 
 -- the builds and the stem after them
 pub outcome-wrote : (room store : Seq ℕ) (made : ℕ) (name out out′ out″ : Seq ℕ) (at at′ at″ : ℕ) (t : Text) → Wrote (shown.builds room store made name) out at out′ at′ → t ≡ stem room store made name BootChain

@@ -18,7 +18,8 @@ use Rattle.schema.specs.declared.Application.{Application}
 use Rattle.parse.specs.Entries.{partitionAt, componentAt, applicationAt}
 use Rattle.parse.specs.Meant.{partitionMeant, componentMeant, applicationMeant}
 use Rattle.parse.specs.Refused.{lentText, partitionNumbers, componentNumbers, applicationNumbers}
-use Rattle.parse.specs.Views.{partitionList, componentList, countsOf}
+use Rattle.parse.specs.Front.{boardRead, frontOf}
+use Rattle.parse.specs.Views.{partitionList, componentList, countsOf, deviceOf}
 use Rattle.parse.specs.Whole.{presetMeant, partitionOf, componentOf, applicationOf}
 use Rattle.validate.specs.Gathered.{components}
 use Rattle.plan.specs.declared.component.Build.{Build}
@@ -60,12 +61,12 @@ module _ (room store : Seq ℕ) (made : ℕ) (name : Seq ℕ) where
   unfolding shown.app meant.appLine
   app-says a = refl
 
-  build-says : (b : Build) → shown.build room store made name b ≡ meant.buildLine (buildMeant room store made name b)
+  build-says : (b : Build) → shown.buildOf room store made name b ≡ meant.buildLine (buildMeant room store made name b)
   unfolding shown.build meant.buildLine
   build-says b = refl
 
-  ok-says : shown.ok room store made name ≡ meant.okLine made preset
-  unfolding shown.ok shown.counts countsOf meant.okLine
+  ok-says : shown.ok room store made ≡ meant.okLine made preset
+  unfolding shown.ok shown.counts countsOf deviceOf frontOf boardRead meant.okLine
   ok-says =
       let root = fieldsOf room made 1 in
       let counts = countsOf room store made in
@@ -79,9 +80,9 @@ module _ (room store : Seq ℕ) (made : ℕ) (name : Seq ℕ) where
 
   -- ---- the lists
 
-  parts-say : shown.parts room store made name ≡ each meant.partLine (preset .partitions)
+  parts-say : shown.parts room store made ≡ each meant.partLine (preset .partitions)
   parts-say =
-      each-meant (shown.partAt room store made name) meant.partLine (partitionOf room store made name)
+      each-meant (shown.partAt room store made) meant.partLine (partitionOf room store made name)
       (λ n. part-says (partitionAt room store made n .partition)) (partitionNumbers room store made (fieldsOf room made 1))
 
   comps-say : shown.comps room store made name ≡ each meant.compLine (preset .components)
@@ -98,7 +99,7 @@ module _ (room store : Seq ℕ) (made : ℕ) (name : Seq ℕ) where
     builds-lines-say : shown.builds room store made name ≡ each meant.buildLine (plan .builds)
     unfolding plans.composed
     builds-lines-say =
-        each-meant (shown.build room store made name) meant.buildLine (buildMeant room store made name) build-says (buildsOf room store made BootChain)
+        each-meant (shown.buildOf room store made name) meant.buildLine (buildMeant room store made name) build-says (buildsOf room store made BootChain)
         ∙ ap (each meant.buildLine) (builds-say room store made name BootChain tt few)
 
     -- the lines of the rooms are 01's lines

@@ -46,11 +46,7 @@ pub fn application(tree: &[u8], store: &[u8], made: usize, n: usize) -> Applicat
 {
     let t = parse::entry::entry_table(tree, made, tree::value_at(tree, store, n));
     let f = t.fields;
-    let k = tree::key_at(tree, n);
-    let key = Text::Stored {
-        from: k.from,
-        len: k.len,
-    };
+    let key = plan::stem::key_of(tree, n);
     let o = parse::field::text(tree, store, f, b"name");
     let p = parse::field::text(tree, store, f, b"partition");
     ApplicationBrief {

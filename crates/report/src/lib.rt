@@ -4,53 +4,57 @@ pub mod brief;
 pub mod line;
 pub mod lists;
 
-use crate::lists::Lists;
+use parse::view::Lists;
 use plan::choice::Choice;
 ghost use Rattle.tree.specs.Doors.{Rooms};
 ghost use Rattle.page.specs.Page.{Wrote};
 ghost use Rattle.report.specs.Shown as shown;
-ghost use Rattle.report.specs.Shown.{Listed};
+ghost use Rattle.report.specs.Shown.{Stands};
 
-// `ok`, and a line for each entry of these lists.
+// A preset in the rooms: how many values were made of it, and where its lists stand.
+pub struct Placed {
+    pub made: usize,
+    pub lists: Lists,
+}
+
+// `ok`, and a line for each entry of its lists.
 fn entry_lines(
     out: &mut [u8],
     at: usize,
     tree: &[u8],
     store: &[u8],
     name: &[u8],
-    lists: Lists,
+    p: Placed,
 ) -> usize
-    requires { ⌜ Rooms (now tree) (lists .made) × Listed (now tree) (now store) lists ⌝ }
-    ensures { λ r. ⌜ Wrote (shown.entries (now (tree .entry)) (now (store .entry)) (lists .made) (now (name .entry))) (now (out .entry)) at (now (out .exit)) r ⌝ }
+    requires { ⌜ Stands (now tree) (now store) p ⌝ }
+    ensures { λ r. ⌜ Wrote (shown.entries (now (tree .entry)) (now (store .entry)) (p .made) (now (name .entry)))
+        (now (out .entry)) at (now (out .exit)) r ⌝ }
 {
-    let after_ok = line::ok(out, at, tree, store, name, lists);
-    let after_parts = lists::parts(out, after_ok, tree, store, name, lists);
-    let after_comps = lists::comps(out, after_parts, tree, store, name, lists);
-    lists::apps(out, after_comps, tree, store, name, lists)
+    let i = line::ok(out, at, tree, store, p);
+    let j = lists::parts(out, i, tree, store, p);
+    let k = lists::comps(out, j, tree, store, name, p);
+    lists::apps(out, k, tree, store, name, p)
 }
 
 // `ok`, and a line for each entry of the lists, which are looked up once for both.
 fn entries(out: &mut [u8], at: usize, tree: &[u8], store: &[u8], made: usize, name: &[u8]) -> usize
     requires { ⌜ Rooms (now tree) made ⌝ }
-    ensures { λ r. ⌜ Wrote (shown.entries (now (tree .entry)) (now (store .entry)) made (now (name .entry))) (now (out .entry)) at (now (out .exit)) r ⌝ }
+    ensures { λ r. ⌜ Wrote (shown.entries (now (tree .entry)) (now (store .entry)) made (now (name .entry)))
+        (now (out .entry)) at (now (out .exit)) r ⌝ }
 {
-    let lists = Lists {
-        made,
-        partitions: parse::view::partition_list(tree, store, made),
-        components: parse::view::component_list(tree, store, made),
-        applications: parse::view::application_list(tree, store, made),
-    };
-    entry_lines(out, at, tree, store, name, lists)
+    let lists = parse::view::lists_of(tree, store, made);
+    entry_lines(out, at, tree, store, name, Placed { made, lists })
 }
 
 // What is built, and the stem.
 fn outcome(out: &mut [u8], at: usize, tree: &[u8], store: &[u8], made: usize, name: &[u8]) -> usize
     requires { ⌜ Rooms (now tree) made ⌝ }
-    ensures { λ r. ⌜ Wrote (shown.outcome (now (tree .entry)) (now (store .entry)) made (now (name .entry))) (now (out .entry)) at (now (out .exit)) r ⌝ }
+    ensures { λ r. ⌜ Wrote (shown.outcome (now (tree .entry)) (now (store .entry)) made (now (name .entry)))
+        (now (out .entry)) at (now (out .exit)) r ⌝ }
 {
-    let after_builds = lists::builds(out, at, tree, store, made, name);
+    let a = lists::builds(out, at, tree, store, made, name);
     let t = plan::stem::stem(tree, store, made, name, Choice::BootChain);
-    line::stem(out, after_builds, store, name, t)
+    line::stem(out, a, store, name, t)
 }
 
 // All lines of the listing, from a place of the output on; where they do not fit nothing is promised of it.
@@ -63,8 +67,9 @@ pub fn lines(
     name: &[u8],
 ) -> usize
     requires { ⌜ Rooms (now tree) made ⌝ }
-    ensures { λ r. ⌜ Wrote (shown.lines (now (tree .entry)) (now (store .entry)) made (now (name .entry))) (now (out .entry)) at (now (out .exit)) r ⌝ }
+    ensures { λ r. ⌜ Wrote (shown.lines (now (tree .entry)) (now (store .entry)) made (now (name .entry)))
+        (now (out .entry)) at (now (out .exit)) r ⌝ }
 {
-    let after_entries = entries(out, at, tree, store, made, name);
-    outcome(out, after_entries, tree, store, made, name)
+    let a = entries(out, at, tree, store, made, name);
+    outcome(out, a, tree, store, made, name)
 }

@@ -1,41 +1,27 @@
 // A line for each entry of a preset's lists, and for each build.
 
-use parse::entry::List;
+use crate::Placed;
 use plan::choice::Choice;
 use tree::Item;
 use tree::Key;
 ghost use Rattle.tree.specs.Doors.{Rooms};
 ghost use Rattle.page.specs.Page.{Wrote};
 ghost use Rattle.report.specs.Shown as shown;
-ghost use Rattle.report.specs.Shown.{Listed};
+ghost use Rattle.report.specs.Shown.{Stands};
 
-// As many keys as are counted: the limit on applications and one more.
-const KEYS_MOST: usize = 65;
-
-// Where a preset's lists stand, among so many values made.
-pub struct Lists {
-    pub made: usize,
-    pub partitions: List,
-    pub components: List,
-    pub applications: List,
-}
+// One more than there may be.
+const APPLICATIONS_ASKED: usize = 65;
 
 // The partitions, in their order.
-pub fn parts(
-    out: &mut [u8],
-    at: usize,
-    tree: &[u8],
-    store: &[u8],
-    name: &[u8],
-    lists: Lists,
-) -> usize
-    requires { ⌜ Rooms (now tree) (lists .made) × Listed (now tree) (now store) lists ⌝ }
-    ensures { λ r. ⌜ Wrote (shown.parts (now (tree .entry)) (now (store .entry)) (lists .made) (now (name .entry))) (now (out .entry)) at (now (out .exit)) r ⌝ }
+pub fn parts(out: &mut [u8], at: usize, tree: &[u8], store: &[u8], p: Placed) -> usize
+    requires { ⌜ Stands (now tree) (now store) p ⌝ }
+    ensures { λ r. ⌜ Wrote (shown.parts (now (tree .entry)) (now (store .entry)) (p .made)) (now (out .entry)) at (now (out .exit)) r ⌝ }
 {
-    let made = lists.made;
-    let list = lists.partitions;
+    let made = p.made;
+    let lists = p.lists;
+    let l = lists.partitions;
     let mut to = at;
-    let mut w = tree::items_of(list.place, list.end);
+    let mut w = tree::items_of(l.place, l.end);
     loop {
         let step = tree::next_item(tree, w);
         match step {
@@ -51,21 +37,16 @@ pub fn parts(
 }
 
 // The components, in their order.
-pub fn comps(
-    out: &mut [u8],
-    at: usize,
-    tree: &[u8],
-    store: &[u8],
-    name: &[u8],
-    lists: Lists,
-) -> usize
-    requires { ⌜ Rooms (now tree) (lists .made) × Listed (now tree) (now store) lists ⌝ }
-    ensures { λ r. ⌜ Wrote (shown.comps (now (tree .entry)) (now (store .entry)) (lists .made) (now (name .entry))) (now (out .entry)) at (now (out .exit)) r ⌝ }
+pub fn comps(out: &mut [u8], at: usize, tree: &[u8], store: &[u8], name: &[u8], p: Placed) -> usize
+    requires { ⌜ Stands (now tree) (now store) p ⌝ }
+    ensures { λ r. ⌜ Wrote (shown.comps (now (tree .entry)) (now (store .entry)) (p .made) (now (name .entry)))
+        (now (out .entry)) at (now (out .exit)) r ⌝ }
 {
-    let made = lists.made;
-    let list = lists.components;
+    let made = p.made;
+    let lists = p.lists;
+    let l = lists.components;
     let mut to = at;
-    let mut w = tree::items_of(list.place, list.end);
+    let mut w = tree::items_of(l.place, l.end);
     loop {
         let step = tree::next_item(tree, w);
         match step {
@@ -80,22 +61,17 @@ pub fn comps(
 }
 
 // The applications, in byte order of key.
-pub fn apps(
-    out: &mut [u8],
-    at: usize,
-    tree: &[u8],
-    store: &[u8],
-    name: &[u8],
-    lists: Lists,
-) -> usize
-    requires { ⌜ Rooms (now tree) (lists .made) × Listed (now tree) (now store) lists ⌝ }
-    ensures { λ r. ⌜ Wrote (shown.apps (now (tree .entry)) (now (store .entry)) (lists .made) (now (name .entry))) (now (out .entry)) at (now (out .exit)) r ⌝ }
+pub fn apps(out: &mut [u8], at: usize, tree: &[u8], store: &[u8], name: &[u8], p: Placed) -> usize
+    requires { ⌜ Stands (now tree) (now store) p ⌝ }
+    ensures { λ r. ⌜ Wrote (shown.apps (now (tree .entry)) (now (store .entry)) (p .made) (now (name .entry)))
+        (now (out .entry)) at (now (out .exit)) r ⌝ }
 {
-    let made = lists.made;
-    let list = lists.applications;
+    let made = p.made;
+    let lists = p.lists;
+    let l = lists.applications;
     let mut to = at;
-    let mut w = tree::keys_of(tree, list.place, list.end);
-    for _i in 0..KEYS_MOST {
+    let mut w = tree::keys_of(tree, l.place, l.end);
+    for _i in 0..APPLICATIONS_ASKED {
         let step = tree::next_key(tree, store, w);
         match step {
             Key::End => return to,
@@ -119,7 +95,8 @@ pub fn builds(
     name: &[u8],
 ) -> usize
     requires { ⌜ Rooms (now tree) made ⌝ }
-    ensures { λ r. ⌜ Wrote (shown.builds (now (tree .entry)) (now (store .entry)) made (now (name .entry))) (now (out .entry)) at (now (out .exit)) r ⌝ }
+    ensures { λ r. ⌜ Wrote (shown.builds (now (tree .entry)) (now (store .entry)) made (now (name .entry)))
+        (now (out .entry)) at (now (out .exit)) r ⌝ }
 {
     let b = plan::builds::builds(tree, store, made, Choice::BootChain);
     let items = b.items;

@@ -1,2 +1,3 @@
 pub mod Wording
 pub mod Spelling
+pub mod Spotting

@@ -1,13 +1,17 @@
 -- Words, texts and places: one law for each way out.
 use Prim.Native.Nat.{ℕ, _+_, _-_, _≤_, _<_}
 use mathlib.Core.Bool.{Bool, true, false}
-use mathlib.Core.List.{List, [], _++_}
+use mathlib.Core.List.{List, [], _∷_, _++_}
+use mathlib.Core.Logic.{inl, inr}
 use mathlib.Core.Path.{_≡_, refl, sym, ap, subst, _∙_}
 use native.Mathlib.Omega.{arith}
 use borrow.Author.Tests.{le-leb, lt-leb, le-ltb, lt-ltb}
+use denote.Enum.Declared.{tagOf}
+use types.Run.{OneOf}
 use lib.ListN.{length, take, drop}
 use Rattle.meaning.specs.Base.{same, part}
 use Rattle.meaning.specs.Schema as meant
+use Rattle.schema.proofs.Text.{the-type}
 use Rattle.schema.specs.declared.Word.{Word}
 use Rattle.schema.specs.declared.Word.the-variants as words
 use Rattle.schema.specs.declared.Span.{Span}
@@ -16,7 +20,7 @@ use Rattle.schema.specs.declared.Media.{Media}
 use Rattle.schema.specs.declared.Text.{Text}
 use Rattle.schema.specs.declared.Text.the-variants as texts
 use Rattle.schema.specs.Words.{word, all, spanOf, Stands, Put, word-part, mediaMeant, chipMeant, mediaChoice, media-choice}
-use Rattle.schema.specs.Texts.{clip, orText, aicOf}
+use Rattle.schema.specs.Texts.{clip, isGiven, orText, aicOf, startOf, lengthOf}
 
 stands : (w : Word) → Stands w (spanOf w)
 stands words.Board = record { is = refl; order = omega arith; end = omega arith }
@@ -43,18 +47,63 @@ span-is w v e = subst (λ (u : Word). Stands w (spanOf u)) e (stands w)
 pub word-is : (w : Word) (s : Span) (t : List ℕ) (r : Bool) → Stands w s → r ≡ same t (take (s .to - s .from) (drop (s .from) all)) → r ≡ same t (word w)
 word-is w s t r e h = h ∙ rw (e .is) (ap (same t) (word-part w))
 
+-- ---- the other variants of a text
+
+-- all but number 0, the absent one
+abbrev pub Given : Text → Type 0
+Given t = OneOf (1 ∷ 2 ∷ 3 ∷ 4 ∷ []) (tagOf the-type t)
+
+some : (n : ℕ) → OneOf (1 ∷ 2 ∷ 3 ∷ 4 ∷ []) n → n ≡ 0 → ⊥
+some n (inl a) e = omega arith
+some n (inr (inl a)) e = omega arith
+some n (inr (inr (inl a))) e = omega arith
+some n (inr (inr (inr a))) e = omega arith
+
+-- all but number 1, a string of the store
+abbrev pub Elsewhere : Text → Type 0
+Elsewhere t = OneOf (0 ∷ 2 ∷ 3 ∷ 4 ∷ []) (tagOf the-type t)
+
+other : (n : ℕ) → OneOf (0 ∷ 2 ∷ 3 ∷ 4 ∷ []) n → n ≡ 1 → ⊥
+other n (inl a) e = omega arith
+other n (inr (inl a)) e = omega arith
+other n (inr (inr (inl a))) e = omega arith
+other n (inr (inr (inr a))) e = omega arith
+
+-- what gives the same for all of these
+pub elsewhere {ℓ} : {X : Type ℓ} (g : Text → X) (x : X) → x ≡ g texts.Absent → x ≡ g texts.Lent → ((w : Word) → x ≡ g (texts.Fixed w)) → ((f n : ℕ) → x ≡ g (texts.WithAic f n))
+    → (t : Text) → Elsewhere t → x ≡ g t
+elsewhere g x a l f w texts.Absent o = a
+elsewhere g x a l f w (texts.Stored from len) o = absurd (other 1 o refl)
+elsewhere g x a l f w texts.Lent o = l
+elsewhere g x a l f w (texts.Fixed v) o = f v
+elsewhere g x a l f w (texts.WithAic from len) o = w from len
+
 -- ---- choices
-pub or-stored : (t d : Text) (f n : ℕ) → t ≡ texts.Stored f n → texts.Stored f n ≡ orText t d
-or-stored t d f n e = rw e
+pub given-is : (t : Text) → Given t → true ≡ isGiven t
+given-is texts.Absent o = absurd (some 0 o refl)
+given-is (texts.Stored from len) o = refl
+given-is texts.Lent o = refl
+given-is (texts.Fixed w) o = refl
+given-is (texts.WithAic from len) o = refl
 
-pub or-fixed : (t d : Text) (w : Word) → t ≡ texts.Fixed w → texts.Fixed w ≡ orText t d
-or-fixed t d w e = rw e
+pub or-given : (t d : Text) → Given t → t ≡ orText t d
+or-given texts.Absent d o = absurd (some 0 o refl)
+or-given (texts.Stored from len) d o = refl
+or-given texts.Lent d o = refl
+or-given (texts.Fixed w) d o = refl
+or-given (texts.WithAic from len) d o = refl
 
-pub or-aic : (t d : Text) (f n : ℕ) → t ≡ texts.WithAic f n → texts.WithAic f n ≡ orText t d
-or-aic t d f n e = rw e
+pub start-none : (t : Text) → Elsewhere t → 0 ≡ startOf t
+start-none = elsewhere startOf 0 refl refl (λ _. refl) (λ _ _. refl)
 
-pub aic-is : (t v : Text) → t ≡ v → aicOf v ≡ aicOf t
-aic-is t v e = ap aicOf (sym e)
+pub length-none : (t : Text) → Elsewhere t → 0 ≡ lengthOf t
+length-none = elsewhere lengthOf 0 refl refl (λ _. refl) (λ _ _. refl)
+
+pub aic-stored : (t : Text) (from len : ℕ) → t ≡ texts.Stored from len → texts.WithAic from len ≡ aicOf t
+aic-stored t from len e = ap aicOf (sym e)
+
+pub aic-none : (t : Text) → Elsewhere t → texts.Absent ≡ aicOf t
+aic-none = elsewhere aicOf texts.Absent refl refl (λ _. refl) (λ _ _. refl)
 
 pub erase-for : (m n : Media) → m ≡ n → meant.erase (mediaMeant n) ≡ meant.erase (mediaMeant m)
 erase-for m n e = ap (λ (u : Media). meant.erase (mediaMeant u)) (sym e)

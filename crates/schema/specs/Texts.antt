@@ -1,5 +1,6 @@
 -- What a text field's place says, and the choices between places.
 use Prim.Native.Nat.{ℕ, _+_}
+use mathlib.Core.Bool.{Bool, true, false}
 use mathlib.Core.List.{List, [], _++_}
 use mathlib.Core.Option.{Option, none, some}
 use lib.Dec.{leb}
@@ -30,6 +31,13 @@ optional store name (texts.Stored from len) = some (clip from len store)
 optional store name texts.Lent = some name
 optional store name (texts.Fixed w) = some (word w)
 optional store name (texts.WithAic from len) = some (clip from len store ++ ascii ".aic")
+
+abbrev pub isGiven : Text → Bool
+isGiven texts.Absent = false
+isGiven (texts.Stored from len) = true
+isGiven texts.Lent = true
+isGiven (texts.Fixed w) = true
+isGiven (texts.WithAic from len) = true
 
 -- what is there, or d
 abbrev pub orText : Text → Text → Text

@@ -1,12 +1,25 @@
 // Chips, media and kinds with what belongs to them, and the records of a preset: a text field says where its bytes are.
 
+pub mod spot;
+
 ghost use mathlib.Core.Path.{_≡_};
 ghost use Prim.Native.Nat.{_+_, _≤_};
 ghost use lib.ListN.{length};
 ghost use Rattle.meaning.specs.Base.{same};
 ghost use Rattle.meaning.specs.Schema as meant;
 ghost use Rattle.schema.specs.Words.{word, Stands, Put, chipRead, mediaRead, kindRead, chipMeant, mediaMeant, chipWord, mediaWord, kindWord, targetWord, mediaChoice};
-ghost use Rattle.schema.specs.Texts.{orText, aicOf, startOf, lengthOf, orNumber, clip};
+ghost use Rattle.schema.specs.Texts.{isGiven, orText, aicOf, startOf, lengthOf, orNumber, clip};
+
+// How many partitions a preset may have, how many components, and how many applications.
+pub const MOST_PARTITIONS: usize = 32;
+
+pub const MOST_ENTRIES: usize = 64;
+
+// How many features one list may have.
+pub const MOST_FEATURES: usize = 32;
+
+// How many bytes a name may have.
+pub const LONGEST_NAME: usize = 32;
 
 // The words that a preset takes where its text has none, and those that it may name.
 pub enum Word {
@@ -36,161 +49,9 @@ pub struct Span {
 }
 
 impl Word {
-    // All words, one behind the other.
-    pub const ALL: [u8; 152] = [
-        98,
-        111,
-        97,
-        114,
-        100,
-        114,
-        101,
-        108,
-        101,
-        97,
-        115,
-        101,
-        117,
-        110,
-        107,
-        110,
-        111,
-        119,
-        110,
-        48,
-        46,
-        48,
-        46,
-        48,
-        109,
-        116,
-        100,
-        59,
-        114,
-        101,
-        113,
-        117,
-        105,
-        114,
-        101,
-        100,
-        109,
-        116,
-        100,
-        59,
-        111,
-        112,
-        116,
-        105,
-        111,
-        110,
-        97,
-        108,
-        97,
-        112,
-        112,
-        99,
-        111,
-        109,
-        112,
-        111,
-        110,
-        101,
-        110,
-        116,
-        46,
-        98,
-        105,
-        110,
-        100,
-        49,
-        51,
-        120,
-        100,
-        50,
-        49,
-        120,
-        114,
-        105,
-        115,
-        99,
-        118,
-        51,
-        50,
-        105,
-        109,
-        97,
-        102,
-        99,
-        45,
-        117,
-        110,
-        107,
-        110,
-        111,
-        119,
-        110,
-        45,
-        110,
-        111,
-        110,
-        101,
-        45,
-        101,
-        108,
-        102,
-        114,
-        105,
-        115,
-        99,
-        118,
-        54,
-        52,
-        103,
-        99,
-        45,
-        117,
-        110,
-        107,
-        110,
-        111,
-        119,
-        110,
-        45,
-        110,
-        111,
-        110,
-        101,
-        45,
-        101,
-        108,
-        102,
-        115,
-        112,
-        105,
-        45,
-        110,
-        111,
-        114,
-        115,
-        112,
-        105,
-        45,
-        110,
-        97,
-        110,
-        100,
-        112,
-        98,
-        112,
-        114,
-        97,
-        119,
-        46,
-        97,
-        105,
-        99,
-    ];
+    // All words, one after the other.
+    pub const ALL: [u8; 152] =
+        *b"boardreleaseunknown0.0.0mtd;requiredmtd;optionalappcomponent.bind13xd21xriscv32imafc-unknown-none-elfriscv64gc-unknown-none-elfspi-norspi-nandpbpraw.aic";
 
     pub fn span(self) -> Span
         ensures { λ r. ⌜ Stands self r ⌝ }
@@ -416,7 +277,7 @@ impl Kind {
     }
 }
 
-// Where a text's bytes are: in the text store, the lent name of the board, a fixed word, or bytes of the store with `.aic` behind them.
+// Where a text's bytes are: in the text store, the lent name of the board, a fixed word, or bytes of the store followed by `.aic`.
 pub enum Text {
     Absent,
     Stored { from: usize, len: usize },
@@ -426,21 +287,21 @@ pub enum Text {
 }
 
 impl Text {
+    pub fn is_given(self) -> bool
+        ensures { λ r. ⌜ r ≡ isGiven self ⌝ }
+    {
+        match self {
+            Text::Absent => false,
+            _ => true,
+        }
+    }
+
     pub fn or(self, d: Text) -> Text
         ensures { λ r. ⌜ r ≡ orText self d ⌝ }
     {
         match self {
             Text::Absent => d,
-            Text::Stored { from, len } => Text::Stored {
-                from: from,
-                len: len,
-            },
-            Text::Lent => Text::Lent,
-            Text::Fixed(w) => Text::Fixed(w),
-            Text::WithAic { from, len } => Text::WithAic {
-                from: from,
-                len: len,
-            },
+            _ => self,
         }
     }
 
@@ -450,10 +311,7 @@ impl Text {
     {
         match self {
             Text::Stored { from, len: _ } => from,
-            Text::Absent => 0,
-            Text::Lent => 0,
-            Text::Fixed(_) => 0,
-            Text::WithAic { from: _, len: _ } => 0,
+            _ => 0,
         }
     }
 
@@ -462,26 +320,17 @@ impl Text {
     {
         match self {
             Text::Stored { from: _, len } => len,
-            Text::Absent => 0,
-            Text::Lent => 0,
-            Text::Fixed(_) => 0,
-            Text::WithAic { from: _, len: _ } => 0,
+            _ => 0,
         }
     }
 
-    // A stored text with `.aic` behind it.
+    // A stored text followed by `.aic`.
     pub fn aic(self) -> Text
         ensures { λ r. ⌜ r ≡ aicOf self ⌝ }
     {
         match self {
-            Text::Stored { from, len } => Text::WithAic {
-                from: from,
-                len: len,
-            },
-            Text::Absent => Text::Absent,
-            Text::Lent => Text::Absent,
-            Text::Fixed(_) => Text::Absent,
-            Text::WithAic { from: _, len: _ } => Text::Absent,
+            Text::Stored { from, len } => Text::WithAic { from, len },
+            _ => Text::Absent,
         }
     }
 }

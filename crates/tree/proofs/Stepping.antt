@@ -15,15 +15,15 @@ use Rattle.tree.specs.Room.{Holds, Finds, Clear, slotAt, child}
 use Rattle.tree.specs.Laws.{found-below, found-from}
 use Rattle.tree.specs.Spans.{items-step}
 use Rattle.tree.specs.Order.{next}
-use Rattle.tree.specs.Steps.{itemsFrom, keyAt, Given, Ready, Over, KeyGiven}
+use Rattle.tree.specs.Steps.{itemsFrom, KeyIs, Given, Ready, Over, KeyGiven}
 
 -- ---- what a value says of itself
 module _ (room : List ℕ) (n : ℕ) (v : Slot) (e : v ≡ slotAt room n) where
   pub kind-is : v .kind ≡ slotAt room n .kind
   kind-is = rw e
 
-  pub key-is : record { from = v .key; len = v .len } ≡ keyAt room n
-  key-is = rw e
+  pub key-is : v .key < 65536 → v .len < 65536 → KeyIs room n (record { from = v .key; len = v .len })
+  key-is a b = record { is = rw e; near = a; short = b }
 
 -- ---- in the order of the text
 module _ (room : List ℕ) (w : Items) (found : Found) (h : Finds (w .at) (w .end) (child room (w .end) (w .place) (w .at)) found) (n : ℕ) (e : found ≡ At n) where

@@ -70,6 +70,12 @@ module _ (room : List ℕ) (w : Items) (step : Item) (h : Gives room w step) whe
 abbrev pub keyAt : List ℕ → ℕ → Span
 keyAt room n = record { from = slotAt room n .key; len = slotAt room n .len }
 
+-- it is that, and short, as all that two bytes say
+pub record KeyIs (room : List ℕ) (n : ℕ) (r : Span) : Type 0 where
+  pub is : r ≡ keyAt room n
+  pub near : r .from < 65536
+  pub short : r .len < 65536
+
 -- the room holds the values that a walk over keys is among, and none below its low hangs under the place
 pub record Ready (room : List ℕ) (w : Keys) : Type 0 where
   pub fits : Holds room (w .end)

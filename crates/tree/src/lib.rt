@@ -202,7 +202,7 @@ pub fn kind_at(tree: &[u8], n: usize) -> u8
 // The key of value number n.
 pub fn key_at(tree: &[u8], n: usize) -> Span
     requires { ⌜ Holds (now tree) (n + 1) ⌝ }
-    ensures { λ r. ⌜ r ≡ steps.keyAt (now (tree .entry)) n ⌝ }
+    ensures { λ r. ⌜ steps.KeyIs (now (tree .entry)) n r ⌝ }
 {
     let v = get(tree, n);
     Span {

@@ -2,49 +2,46 @@
 use Prim.Native.Nat.{ℕ, _-_, _%_, _≤_, _<_}
 use mathlib.Core.Bool.{Bool, true, false}
 use mathlib.Core.List.{List, [], _∷_, map}
-use mathlib.Core.Path.{_≡_, refl, sym, ap, _∙_}
+use mathlib.Core.Path.{_≡_, refl, ap, _∙_}
+use mathlib.Core.Logic.{inl, inr}
 use native.Mathlib.Omega.{arith}
 use borrow.Author.Tests.{eq-eqb, ne-eqb, lt-ltb, le-ltb}
+use denote.Enum.Declared.{tagOf}
+use types.Run.{OneOf}
 use lib.Dec.{eqb, ltb}
-use lib.ListN.{length, take, drop, length-map}
-use lib.Seq.{length-take-le}
-use Rattle.meaning.specs.Base.{pick, nil?, before}
+use lib.ListN.{length, take}
+use Rattle.meaning.specs.Base.{pick, nil?}
 use Rattle.meaning.specs.Rules as meant
-use Rattle.chars.specs.Trimmed.{Trimmed}
-use Rattle.chars.specs.declared.Span as chars
-use Rattle.slices.specs.Found.{Found}
-use Rattle.tree.specs.declared.Slot.{Slot}
-use Rattle.tree.specs.Room.{slotAt}
+use Rattle.tree.specs.declared.Span.{Span}
+use Rattle.tree.specs.Steps.{KeyIs}
+use Rattle.schema.specs.declared.spot.Spot.{Spot}
+use Rattle.schema.specs.Spots.{bytesSpot}
+use Rattle.schema.proofs.Text.{the-type}
 use Rattle.schema.specs.declared.Text.{Text}
 use Rattle.schema.specs.declared.Text.the-variants as texts
-use Rattle.schema.specs.declared.Word.{Word}
-use Rattle.schema.specs.declared.Span as words
 use Rattle.schema.specs.declared.Number.{Number}
 use Rattle.schema.specs.declared.Number.the-variants as numbers
 use Rattle.schema.specs.declared.Boot.{Boot}
 use Rattle.schema.specs.declared.Component.{Component}
 use Rattle.schema.specs.declared.Application.{Application}
 use Rattle.schema.specs.declared.Partition.{Partition}
-use Rattle.schema.specs.Words.{all, Stands, word-part}
-use Rattle.schema.specs.Texts.{clip, startOf, lengthOf, amount}
+use Rattle.schema.specs.Texts.{clip, isGiven, startOf, lengthOf, amount}
 use Rattle.parse.specs.Fields.{firstFault}
 use Rattle.parse.specs.Entries as parsed
 use Rattle.parse.specs.declared.component.ComponentRead.{ComponentRead}
 use Rattle.parse.specs.declared.application.ApplicationRead.{ApplicationRead}
-use Rattle.layout.specs.Marks.{rank}
-use Rattle.layout.specs.Parts.{partName}
+use Rattle.layout.specs.Parts.{partName, rank, aim}
+use Rattle.layout.proofs.Naming.{parts-long}
 use Rattle.validate.specs.declared.Entry.{Entry}
 use Rattle.validate.specs.declared.uses.Pair.{Pair}
-use Rattle.validate.specs.Clashes.{pairOf, single}
+use Rattle.validate.specs.Clashes.{pairOfComponent, pairOfApplication}
 use Rattle.validate.specs.Entries as entries
-use Rattle.validate.specs.Entries.{there, counted, kept, referred, hollow, aim, componentEntry, applicationEntry}
+use Rattle.validate.proofs.Pairing.{key-spot}
+use Rattle.validate.specs.Entries.{counted, kept, referred, isEmpty, componentEntry, applicationEntry}
 
 nil-long : (s : List ℕ) → eqb (length s) 0 ≡ nil? s
 nil-long [] = refl
 nil-long (b ∷ s) = ne-eqb (length (b ∷ s)) 0 (λ h. omega arith)
-
-parts-long : (store : List ℕ) (items : List Partition) (count : ℕ) → count ≤ length items → length (map (partName store) (take count items)) ≡ count
-parts-long store items count h = length-map (take count items) (partName store) ∙ length-take-le count items h
 
 -- ---- a component's rules
 
@@ -63,13 +60,13 @@ late-boot true true = refl
 late-boot true false = refl
 late-boot false r = refl
 
-module _ (b : Boot) (pbp : Bool) (e : pbp ≡ there (b .pbp)) where
-  pub boot-both : (own : Bool) → own ≡ there (b .«pbp_package») → pbp ≡ true → own ≡ true → 55 ≡ entries.bootFault b
+module _ (b : Boot) (pbp : Bool) (e : pbp ≡ isGiven (b .pbp)) where
+  pub boot-both : (own : Bool) → own ≡ isGiven (b .«pbp_package») → pbp ≡ true → own ≡ true → 55 ≡ entries.bootFault b
   unfolding entries.bootFault meant.bootFault
   boot-both own f h k = rw (← e, ← f, h, k)
 
   module _ (ram : Bool) (late : ℕ) (g : ram ≡ counted (b .ram)) (l : late ≡ pick (b .updater) (pick ram 0 56) 0) where
-    pub boot-pbp : (own : Bool) → own ≡ there (b .«pbp_package») → pbp ≡ true → own ≡ false → late ≡ entries.bootFault b
+    pub boot-pbp : (own : Bool) → own ≡ isGiven (b .«pbp_package») → pbp ≡ true → own ≡ false → late ≡ entries.bootFault b
     unfolding entries.bootFault meant.bootFault
     boot-pbp own f h k = rw (← e, ← f, h, k, l, g) (late-boot (b .updater) (counted (b .ram)))
 
@@ -79,7 +76,7 @@ module _ (b : Boot) (pbp : Bool) (e : pbp ≡ there (b .pbp)) where
 
 pub late-done : (store : List ℕ) (known : Bool) (c : Component) (r name z source y boot x target reserve : ℕ) (pack file : Bool) (s : List ℕ) (a n : ℕ)
     → r ≡ firstFault name z → z ≡ firstFault source y → y ≡ firstFault boot x → x ≡ firstFault target reserve
-    → name ≡ entries.nameFault store (c .head .name) → source ≡ meant.sourceFault pack file → pack ≡ there (c .head .«package») → file ≡ there (c .head .file)
+    → name ≡ entries.nameFault store (c .head .name) → source ≡ meant.sourceFault pack file → pack ≡ isGiven (c .head .«package») → file ≡ isGiven (c .head .file)
     → boot ≡ entries.bootFault (c .boot) → target ≡ entries.targetFault (eqb (length s) 0) (c .boot .updater) known → reserve ≡ meant.reserveFault (c .load .«ext_reserve»)
     → s ≡ clip a n store → a ≡ startOf (c .role .partition) → n ≡ lengthOf (c .role .partition)
     → r ≡ entries.lateFault store known c
@@ -87,11 +84,6 @@ unfolding entries.lateFault
 late-done store known c r name z source y boot x target reserve pack file s a n e1 e2 e3 e4 f1 f2 f3 f4 f5 f6 f7 g p q =
     let k : eqb (length s) 0 ≡ nil? (kept store (c .role .partition)) = nil-long s ∙ ap nil? (kept-is store (c .role .partition) a n p q s g) in
     rw (e1, e2, e3, e4, f1, f2, f3, f4, f5, f6, f7, k)
-
-pub name-done : (s : List ℕ) (k : ℕ) → Found 59 s k → (r : chars.Span) → Trimmed (take (k - 0) (drop 0 s)) r
-    → take (r .end - r .from) (drop (r .from) (take (k - 0) (drop 0 s))) ≡ meant.nameOf s
-unfolding meant.nameOf
-name-done s k f r h = let z : k - 0 ≡ before 59 s = omega (arith, f .is) in h .is ∙ rw z
 
 pub reference-done : (store : List ℕ) (t : Text) (a n : ℕ) → a ≡ startOf t → n ≡ lengthOf t → (s : List ℕ) → s ≡ clip a n store → (r : List ℕ) → r ≡ meant.nameOf s → r ≡ referred store t
 reference-done store t a n p q s e r h = h ∙ rw (kept-is store t a n p q s e)
@@ -106,8 +98,8 @@ pub component-done : (store : List ℕ) (fault : ℕ) (c : Component) (items : L
     → named ≡ referred store (c .role .partition) → at ≡ rank named (map (partName store) (take count items))
     → a ≡ startOf (c .role .partition) → n ≡ lengthOf (c .role .partition) → s ≡ clip a n store
     → from ≡ startOf (c .head .name) → len ≡ lengthOf (c .head .name) → late ≡ entries.lateFault store (ltb at count) c
-    → pair ≡ pairOf store c → front ≡ pick (eqb (length s) 0) false (eqb at 0)
-    → record { fault = fault; mark = record { from = from; len = len; early = 0; late = late }; pair = pair; firstFault = front } ≡ componentEntry store (map (partName store) (take count items)) fault c
+    → pair ≡ pairOfComponent store c → front ≡ pick (eqb (length s) 0) false (eqb at 0)
+    → record { fault = fault; mark = record { from = from; len = len; early = 0; late = late }; pair = pair; first = front } ≡ componentEntry store (map (partName store) (take count items)) fault c
 unfolding componentEntry
 component-done store fault c items count l m named at a n s from len late pair front f g p q e h k j o i =
     let z : eqb (length s) 0 ≡ nil? (kept store (c .role .partition)) = nil-long s ∙ ap nil? (kept-is store (c .role .partition) a n p q s e) in
@@ -119,30 +111,27 @@ component-read room store made n parts r x e h = rw (h, e)
 
 -- ---- an application's rules
 
-pub hollow-stored : (store : List ℕ) (t : Text) (from len : ℕ) (s : List ℕ) → t ≡ texts.Stored from len → s ≡ clip from len store → eqb (length s) 0 ≡ hollow store t
-hollow-stored store t from len s e h = rw e (rw (← h) (nil-long s))
+-- of a text's variants all but numbers 0 and 1, the absent one and a string of the store
+abbrev pub Filled : Text → Type 0
+Filled t = OneOf (2 ∷ 3 ∷ 4 ∷ []) (tagOf the-type t)
 
-module _ (store : List ℕ) (items : List Partition) (count : ℕ) (h : count ≤ 32) (l : length items ≡ 32) (t : Text) where
-  pub aim-absent : t ≡ texts.Absent → count ≡ aim store (map (partName store) (take count items)) t
-  aim-absent e = rw e (sym (parts-long store items count (omega arith)))
+filled-high : (n : ℕ) → OneOf (2 ∷ 3 ∷ 4 ∷ []) n → n < 2 → ⊥
+filled-high n (inl a) l = omega arith
+filled-high n (inr (inl a)) l = omega arith
+filled-high n (inr (inr a)) l = omega arith
 
-  pub aim-lent : t ≡ texts.Lent → count ≡ aim store (map (partName store) (take count items)) t
-  aim-lent e = rw e (sym (parts-long store items count (omega arith)))
+pub empty-not : (store : List ℕ) (t : Text) → Filled t → false ≡ isEmpty store t
+empty-not store texts.Absent o = absurd (filled-high 0 o (omega arith))
+empty-not store (texts.Stored from len) o = absurd (filled-high 1 o (omega arith))
+empty-not store texts.Lent o = refl
+empty-not store (texts.Fixed w) o = refl
+empty-not store (texts.WithAic from len) o = refl
 
-  pub aim-aic : (from len : ℕ) → t ≡ texts.WithAic from len → count ≡ aim store (map (partName store) (take count items)) t
-  aim-aic from len e = rw e (sym (parts-long store items count (omega arith)))
-
-module _ (store : List ℕ) (items : List Partition) (count : ℕ) (t : Text) (r : ℕ) where
-  pub aim-stored : (from len : ℕ) (s : List ℕ) → t ≡ texts.Stored from len → s ≡ clip from len store → r ≡ rank s (map (partName store) (take count items))
-      → r ≡ aim store (map (partName store) (take count items)) t
-  aim-stored from len s e h k = rw e (rw (← h) k)
-
-  pub aim-fixed : (w : Word) (s : words.Span) → t ≡ texts.Fixed w → Stands w s → r ≡ rank (take (s .to - s .from) (drop (s .from) all)) (map (partName store) (take count items))
-      → r ≡ aim store (map (partName store) (take count items)) t
-  aim-fixed w s e h k = rw e (k ∙ ap (λ (x : List ℕ). rank x (map (partName store) (take count items))) (rw (h .is) (word-part w)))
+pub empty-stored : (store : List ℕ) (t : Text) (from len : ℕ) (s : List ℕ) → t ≡ texts.Stored from len → s ≡ clip from len store → eqb (length s) 0 ≡ isEmpty store t
+empty-stored store t from len s e h = rw e (rw (← h) (nil-long s))
 
 module _ (store : List ℕ) (known : Bool) (a : Application) (from len : ℕ) (p : from ≡ startOf (a .name)) (q : len ≡ lengthOf (a .name)) (s : List ℕ) (e : s ≡ clip from len store) where
-  early-by : pick (eqb (length s) 0) 61 (pick (ltb 32 (length s)) 62 (pick (hollow store (a .filename)) 63 (pick known 0 64))) ≡ entries.earlyFault store known a
+  early-by : pick (eqb (length s) 0) 61 (pick (ltb 32 (length s)) 62 (pick (isEmpty store (a .filename)) 63 (pick known 0 64))) ≡ entries.earlyFault store known a
   unfolding entries.earlyFault
   early-by = rw (nil-long s, kept-is store (a .name) from len p q s e)
 
@@ -153,9 +142,9 @@ module _ (store : List ℕ) (known : Bool) (a : Application) (from len : ℕ) (p
     pub early-long : 32 < length s → 62 ≡ entries.earlyFault store known a
     early-long l = rw (ne-eqb (length s) 0 h, lt-ltb 32 (length s) l) at early-by
 
-    module _ (l : length s ≤ 32) (r : Bool) (f : r ≡ hollow store (a .filename)) where
-      pub early-hollow : r ≡ true → 63 ≡ entries.earlyFault store known a
-      early-hollow z = rw (ne-eqb (length s) 0 h, le-ltb 32 (length s) l, ← f, z) at early-by
+    module _ (l : length s ≤ 32) (r : Bool) (f : r ≡ isEmpty store (a .filename)) where
+      pub early-unfiled : r ≡ true → 63 ≡ entries.earlyFault store known a
+      early-unfiled z = rw (ne-eqb (length s) 0 h, le-ltb 32 (length s) l, ← f, z) at early-by
 
       early-left : r ≡ false → pick known 0 64 ≡ entries.earlyFault store known a
       early-left z = rw (ne-eqb (length s) 0 h, le-ltb 32 (length s) l, ← f, z) at early-by
@@ -183,14 +172,14 @@ module _ (n : Number) (a : ℕ) (e : n ≡ numbers.Of a) where
 
 pub application-done : (store : List ℕ) (fault : ℕ) (pair : Pair) (a : Application) (items : List Partition) (count : ℕ) → count ≤ 32 → length items ≡ 32
     → (at from len early late : ℕ)
-    → at ≡ aim store (map (partName store) (take count items)) (a .partition)
+    → at ≡ aim false store (map (partName store) (take count items)) (a .partition)
     → from ≡ startOf (a .name) → len ≡ lengthOf (a .name) → early ≡ entries.earlyFault store (ltb at count) a
     → late ≡ meant.addressFault (amount (a .«load_address»))
-    → record { fault = fault; mark = record { from = from; len = len; early = early; late = late }; pair = pair; firstFault = false } ≡ applicationEntry store (map (partName store) (take count items)) fault pair a
+    → record { fault = fault; mark = record { from = from; len = len; early = early; late = late }; pair = pair; first = false } ≡ applicationEntry store (map (partName store) (take count items)) fault pair a
 unfolding applicationEntry
 application-done store fault pair a items count l m at from len early late g h k j o = rw (h, k, j, o, g, parts-long store items count (omega arith))
 
-pub application-read : (room store : List ℕ) (made n : ℕ) (parts : List (List ℕ)) (r : ApplicationRead) (v : Slot) (pair : Pair) (x : Entry) → r ≡ parsed.applicationAt room store made n 32
-    → v ≡ slotAt room n → pair ≡ single (v .key) (v .len) (r .application .features) → x ≡ applicationEntry store parts (r .fault) pair (r .application)
-    → x ≡ entries.applicationAt room store made parts n
-application-read room store made n parts r v pair x e f g h = rw (h, g, f, e)
+pub application-read : (room store : List ℕ) (made n : ℕ) (parts : List (List ℕ)) (r : ApplicationRead) (k : Span) (key : Spot) (pair : Pair) (x : Entry)
+    → r ≡ parsed.applicationAt room store made n 32 → KeyIs room n k → key ≡ bytesSpot (k .from) (k .len) → pair ≡ pairOfApplication key (r .application .features)
+    → x ≡ applicationEntry store parts (r .fault) pair (r .application) → x ≡ entries.applicationAt room store made parts n
+application-read room store made n parts r k key pair x e f d g h = rw (h, g, key-spot room n k key f d, e)

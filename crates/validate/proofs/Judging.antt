@@ -40,9 +40,9 @@ use Rattle.parse.specs.Verdict as verdicts
 use Rattle.parse.specs.Verdict.{Told}
 use Rattle.parse.proofs.Entering.{comps-many, comps-few}
 use Rattle.parse.proofs.Judging.{components-among, applications-among, partitions-judged, components-judged, applications-judged, verdict-told}
-use Rattle.layout.specs.declared.Fault.{Fault}
-use Rattle.layout.specs.declared.Mark.{Mark}
-use Rattle.layout.specs.Marks.{faultOf, judged}
+use Rattle.turns.specs.declared.Fault.{Fault}
+use Rattle.turns.specs.declared.Mark.{Mark}
+use Rattle.turns.specs.Marks.{faultOf, judged}
 use Rattle.layout.specs.Parts.{partName, partMeant}
 use Rattle.validate.specs.declared.gather.Gathered.{Gathered}
 use Rattle.validate.specs.declared.gather.Applied.{Applied}

@@ -28,9 +28,9 @@ use Rattle.parse.specs.Placed.{earlier-place}
 use Rattle.parse.specs.Meant.{boardMeant, imageMeant}
 use Rattle.parse.specs.Given as given
 use Rattle.parse.specs.Verdict.{verdict}
-use Rattle.layout.specs.declared.Fault.{Fault}
-use Rattle.layout.specs.declared.Mark.{Mark}
-use Rattle.layout.specs.Marks.{anyOf, faultOf, markRule, noted, judged}
+use Rattle.turns.specs.declared.Fault.{Fault}
+use Rattle.turns.specs.declared.Mark.{Mark}
+use Rattle.turns.specs.Marks.{anyOf, faultOf, markRule, noted, judged}
 use Rattle.layout.specs.Parts.{partName, partMeant}
 use Rattle.validate.specs.Entries.{componentAt, applicationAt}
 use Rattle.validate.specs.Fronts as fronts

@@ -15,46 +15,48 @@ use Rattle.meaning.specs.Rules.{twice, sameAll}
 use Rattle.laws.specs.Cases.{on, never}
 use Rattle.laws.specs.Order.{same-eq, eq-same}
 use Rattle.parse.specs.Meant.{featureList}
-use Rattle.layout.specs.Marks.{anyOf, firstHit}
-use Rattle.layout.specs.Hits.{Later, Earlier, later-on, later-end, later-head}
-use Rattle.validate.specs.declared.uses.Spot.{Spot}
+use Rattle.turns.specs.Marks.{anyOf, firstHit}
+use Rattle.turns.specs.Hits.{Later, Earlier, later-on, later-end, later-head}
+use Rattle.schema.specs.declared.spot.Spot.{Spot}
+use Rattle.schema.specs.Spots.{noSpot, spotted, listAt}
+use Rattle.validate.specs.declared.uses.Use.{Use}
 use Rattle.validate.specs.declared.uses.Pair.{Pair}
-use Rattle.validate.specs.Clashes.{noSpot, spotted, listAt, differ, clash, has, meet, unmet, left}
+use Rattle.validate.specs.Clashes.{ownUse, pbpUse, differ, useDiffers, clash, usesPackage, sharePackage, packageBeyond, usesBeyond}
 use Rattle.validate.specs.Gathered.{blank}
 
--- ---- has, meet, unmet, left: one law for each way out
+-- ---- whether packages are used, and what is used beyond another entry: one law for each way out
 
 module _ (store : List ℕ) (p : Spot) (b : Pair) (r : Bool) (e : r ≡ twice (spotted store p) (spotted store (b .«package»))) where
-  pub has-first : r ≡ true → true ≡ has store p b
-  unfolding has
-  has-first h = rw (← e, h)
+  pub uses-first : r ≡ true → true ≡ usesPackage store p b
+  unfolding usesPackage
+  uses-first h = rw (← e, h)
 
-  pub has-second : (s : Bool) → r ≡ false → s ≡ twice (spotted store p) (spotted store (b .«pbp_package»)) → s ≡ has store p b
-  unfolding has
-  has-second s h f = rw (← e, h) f
+  pub uses-second : (s : Bool) → r ≡ false → s ≡ twice (spotted store p) (spotted store (b .«pbp_package»)) → s ≡ usesPackage store p b
+  unfolding usesPackage
+  uses-second s h f = rw (← e, h) f
 
-module _ (store : List ℕ) (a b : Pair) (r : Bool) (e : r ≡ has store (a .«package») b) where
-  pub meet-first : r ≡ true → true ≡ meet store a b
-  unfolding meet
-  meet-first h = rw (← e, h)
+module _ (store : List ℕ) (a b : Pair) (r : Bool) (e : r ≡ usesPackage store (a .«package») b) where
+  pub share-first : r ≡ true → true ≡ sharePackage store a b
+  unfolding sharePackage
+  share-first h = rw (← e, h)
 
-  pub meet-second : (s : Bool) → r ≡ false → s ≡ has store (a .«pbp_package») b → s ≡ meet store a b
-  unfolding meet
-  meet-second s h f = rw (← e, h) f
+  pub share-second : (s : Bool) → r ≡ false → s ≡ usesPackage store (a .«pbp_package») b → s ≡ sharePackage store a b
+  unfolding sharePackage
+  share-second s h f = rw (← e, h) f
 
-module _ (store : List ℕ) (p : Spot) (b : Pair) (r : Bool) (e : r ≡ has store p b) where
-  pub unmet-has : (s : Spot) → r ≡ true → s ≡ noSpot → s ≡ unmet store p b
-  unfolding unmet
-  unmet-has s h f = rw (← e, h) f
+module _ (store : List ℕ) (p : Spot) (b : Pair) (r : Bool) (e : r ≡ usesPackage store p b) where
+  pub beyond-used : (s : Spot) → r ≡ true → s ≡ noSpot → s ≡ packageBeyond store p b
+  unfolding packageBeyond
+  beyond-used s h f = rw (← e, h) f
 
-  pub unmet-not : r ≡ false → p ≡ unmet store p b
-  unfolding unmet
-  unmet-not h = rw (← e, h)
+  pub beyond-not : r ≡ false → p ≡ packageBeyond store p b
+  unfolding packageBeyond
+  beyond-not h = rw (← e, h)
 
-pub left-made : (store : List ℕ) (a b : Pair) (p q : Spot) → p ≡ unmet store (a .«package») b → q ≡ unmet store (a .«pbp_package») b
-    → record { «package» = p; features = a .features; «pbp_package» = q; «pbp_features» = a .«pbp_features» } ≡ left store a b
-unfolding left
-left-made store a b p q e f = rw (e, f)
+pub beyond-made : (store : List ℕ) (a b : Pair) (p q : Spot) → p ≡ packageBeyond store (a .«package») b → q ≡ packageBeyond store (a .«pbp_package») b
+    → record { «package» = p; features = a .features; «pbp_package» = q; «pbp_features» = a .«pbp_features» } ≡ usesBeyond store a b
+unfolding usesBeyond
+beyond-made store a b p q e f = rw (e, f)
 
 -- ---- either of two
 
@@ -108,79 +110,82 @@ module _ (room store : List ℕ) (made : ℕ) where
   abbrev hit : Pair → Pair → Bool
   hit = clash room store made
 
-  -- no use of a package differs from an entry's uses
-  record Agrees (p f : Spot) (b : Pair) : Type 0 where
-    one : differ room store made p f (b .«package») (b .features) ≡ false
-    two : differ room store made p f (b .«pbp_package») (b .«pbp_features») ≡ false
+  -- a use differs from none of an entry's uses
+  record Agrees (u : Use) (b : Pair) : Type 0 where
+    one : differ room store made u (ownUse b) ≡ false
+    two : differ room store made u (pbpUse b) ≡ false
 
   record Both (a b : Pair) : Type 0 where
-    one : Agrees (a .«package») (a .features) b
-    two : Agrees (a .«pbp_package») (a .«pbp_features») b
+    one : Agrees (ownUse a) b
+    two : Agrees (pbpUse a) b
 
   both : (a b : Pair) → hit a b ≡ false → Both a b
-  unfolding clash
+  unfolding clash useDiffers
   both a b e =
-      let w : Bool = differ room store made (a .«package») (a .features) (b .«package») (b .features) in
-      let x : Bool = differ room store made (a .«package») (a .features) (b .«pbp_package») (b .«pbp_features») in
-      let y : Bool = differ room store made (a .«pbp_package») (a .«pbp_features») (b .«package») (b .features) in
-      let z : Bool = differ room store made (a .«pbp_package») (a .«pbp_features») (b .«pbp_package») (b .«pbp_features») in
-      let e2 : pick x true (pick y true z) ≡ false = second-false w (pick x true (pick y true z)) e in
-      let e3 : pick y true z ≡ false = second-false x (pick y true z) e2 in
+      let w : Bool = differ room store made (ownUse a) (ownUse b) in
+      let x : Bool = differ room store made (ownUse a) (pbpUse b) in
+      let y : Bool = differ room store made (pbpUse a) (ownUse b) in
+      let z : Bool = differ room store made (pbpUse a) (pbpUse b) in
+      let e1 : pick w true x ≡ false = first-false (pick w true x) (pick y true z) e in
+      let e2 : pick y true z ≡ false = second-false (pick w true x) (pick y true z) e in
       record {
-        one = record { one = first-false w (pick x true (pick y true z)) e; two = first-false x (pick y true z) e2 };
-        two = record { one = first-false y z e3; two = second-false y z e3 };
+        one = record { one = first-false w x e1; two = second-false w x e1 };
+        two = record { one = first-false y z e2; two = second-false y z e2 };
       }
 
-  not-has : (p f : Spot) (b : Pair) → has store p b ≡ false → Agrees p f b
-  unfolding has differ
-  not-has p f b e =
-      let x : Bool = twice (spotted store p) (spotted store (b .«package»)) in
-      let y : Bool = twice (spotted store p) (spotted store (b .«pbp_package»)) in
+  not-used : (u : Use) (b : Pair) → usesPackage store (u .«package») b ≡ false → Agrees u b
+  unfolding usesPackage differ
+  not-used u b e =
+      let x : Bool = twice (spotted store (u .«package»)) (spotted store (b .«package»)) in
+      let y : Bool = twice (spotted store (u .«package»)) (spotted store (b .«pbp_package»)) in
       record { one = rw (first-false x y e); two = rw (second-false x y e) }
 
-  pub not-met : (a b : Pair) → meet store a b ≡ false → hit a b ≡ false
-  unfolding meet clash
-  not-met a b e =
-      let v : Bool = has store (a .«package») b in
-      let w : Bool = has store (a .«pbp_package») b in
-      let x = not-has (a .«package») (a .features) b (first-false v w e) in
-      let y = not-has (a .«pbp_package») (a .«pbp_features») b (second-false v w e) in
+  pub not-shared : (a b : Pair) → sharePackage store a b ≡ false → hit a b ≡ false
+  unfolding sharePackage clash useDiffers
+  not-shared a b e =
+      let v : Bool = usesPackage store (a .«package») b in
+      let w : Bool = usesPackage store (a .«pbp_package») b in
+      let x = not-used (ownUse a) b (first-false v w e) in
+      let y = not-used (pbpUse a) b (second-false v w e) in
       rw (x .one, x .two, y .one, y .two)
 
-  absent-agrees : (f q g : Spot) → false ≡ differ room store made noSpot f q g
+  absent-agrees : (f : Spot) (v : Use) → false ≡ differ room store made (record { «package» = noSpot; features = f }) v
   unfolding differ spotted
-  absent-agrees f q g = refl
+  absent-agrees f v = refl
 
   -- a use against one that agrees with an entry
-  module _ (b : Pair) (p f : Spot) (x : Agrees p f b) (q g : Spot) (y : Agrees q g b) where
-    through : (t h : Spot) → twice (spotted store p) (spotted store t) ≡ true → differ room store made p f t h ≡ false → differ room store made q g t h ≡ false
-        → differ room store made p f q g ≡ false
+  module _ (b : Pair) (u : Use) (x : Agrees u b) (v : Use) (y : Agrees v b) where
+    through : (w : Use) → twice (spotted store (u .«package»)) (spotted store (w .«package»)) ≡ true → differ room store made u w ≡ false → differ room store made v w ≡ false
+        → differ room store made u v ≡ false
     unfolding differ
-    through t h =
-        apart-through (spotted store p) (spotted store t) (spotted store q) (featureList room store made (listAt f)) (featureList room store made (listAt h)) (featureList room store made (listAt g))
+    through w =
+        apart-through (spotted store (u .«package»)) (spotted store (w .«package»)) (spotted store (v .«package»))
+        (featureList room store made (listAt (u .features)))
+        (featureList room store made (listAt (w .features)))
+        (featureList room store made (listAt (v .features)))
 
-    has-agrees : has store p b ≡ true → differ room store made p f q g ≡ false
-    unfolding has
-    has-agrees e =
-        on (twice (spotted store p) (spotted store (b .«package»)))
-        (λ t. through (b .«package») (b .features) t (x .one) (y .one))
-        (λ t. through (b .«pbp_package») (b .«pbp_features») (rw t at e) (x .two) (y .two))
+    used-agrees : usesPackage store (u .«package») b ≡ true → differ room store made u v ≡ false
+    unfolding usesPackage
+    used-agrees e =
+        on (twice (spotted store (u .«package»)) (spotted store (b .«package»)))
+        (λ t. through (ownUse b) t (x .one) (y .one))
+        (λ t. through (pbpUse b) (rw t at e) (x .two) (y .two))
 
-    unmet-differ : differ room store made p f q g ≡ differ room store made (unmet store p b) f q g
-    unfolding unmet
-    unmet-differ = on (has store p b) (λ e. rw e (has-agrees e ∙ absent-agrees f q g)) (λ e. rw e)
+    beyond-differ : differ room store made u v ≡ differ room store made (record { «package» = packageBeyond store (u .«package») b; features = u .features }) v
+    unfolding packageBeyond
+    beyond-differ = on (usesPackage store (u .«package») b) (λ e. rw e (used-agrees e ∙ absent-agrees (u .features) v)) (λ e. rw e)
 
   -- what an entry agrees with need not be asked of those that agree with it too
-  pub left-clash : (a b c : Pair) → hit a b ≡ false → hit c b ≡ false → hit a c ≡ hit (left store a b) c
-  unfolding clash left
-  left-clash a b c e f =
+  pub beyond-clash : (a b c : Pair) → hit a b ≡ false → hit c b ≡ false → hit a c ≡ hit (usesBeyond store a b) c
+  unfolding clash useDiffers usesBeyond
+  beyond-clash a b c e f =
       let x = both a b e in
       let y = both c b f in
       rw (
-        unmet-differ b (a .«package») (a .features) (x .one) (c .«package») (c .features) (y .one),
-        unmet-differ b (a .«package») (a .features) (x .one) (c .«pbp_package») (c .«pbp_features») (y .two),
-        unmet-differ b (a .«pbp_package») (a .«pbp_features») (x .two) (c .«package») (c .features) (y .one),
-        unmet-differ b (a .«pbp_package») (a .«pbp_features») (x .two) (c .«pbp_package») (c .«pbp_features») (y .two),
+        beyond-differ b (ownUse a) (x .one) (ownUse c) (y .one),
+        beyond-differ b (ownUse a) (x .one) (pbpUse c) (y .two),
+        beyond-differ b (pbpUse a) (x .two) (ownUse c) (y .one),
+        beyond-differ b (pbpUse a) (x .two) (pbpUse c) (y .two),
       )
 
 -- ---- a part of a list, place by place
@@ -255,9 +260,9 @@ module _ (room store : List ℕ) (made : ℕ) (xs : List Pair) (n : ℕ) where
             let a : slice j i xs ≡ getD xs j blank ∷ slice (suc j) i xs = slice-cons j i xs blank m (omega (arith, l, h .later .long)) in
             rw add-one (rw a at (s .left-any))
 
-        pub rest-not : (t : Bool) → t ≡ meet store rest (getD xs j blank) → not t ≡ true → Rest (getD xs i blank) rest i (j + 1) found'
+        pub rest-not : (t : Bool) → t ≡ sharePackage store rest (getD xs j blank) → not t ≡ true → Rest (getD xs i blank) rest i (j + 1) found'
         rest-not t e f =
-            let z : hit room store made rest (getD xs j blank) ≡ false = not-met room store made rest (getD xs j blank) (sym e ∙ not-true t f) in
+            let z : hit room store made rest (getD xs j blank) ≡ false = not-shared room store made rest (getD xs j blank) (sym e ∙ not-true t f) in
             record { high = omega arith; none = s .none; left-any = rw z at rest-head }
 
         module _ (r : Bool) (e : r ≡ clash room store made rest (getD xs j blank)) where
@@ -267,10 +272,10 @@ module _ (room store : List ℕ) (made : ℕ) (xs : List Pair) (n : ℕ) where
               let b = rw a at (later-head (hit room store made) xs n i found (h .later) blank l) in
               omega (arith, b)
 
-          pub rest-on : (rest' : Pair) → r ≡ false → rest' ≡ left store rest (getD xs j blank) → Rest (getD xs i blank) rest' i (j + 1) found'
+          pub rest-on : (rest' : Pair) → r ≡ false → rest' ≡ usesBeyond store rest (getD xs j blank) → Rest (getD xs i blank) rest' i (j + 1) found'
           rest-on rest' f g =
               let z : hit room store made rest (getD xs j blank) ≡ false = sym e ∙ f in
               let long : i ≤ length xs = omega (arith, l, h .later .long) in
-              let y = any-alike xs blank i long (hit room store made rest) (hit room store made (left store rest (getD xs j blank))) (i - (j + 1)) (j + 1) (omega (arith, m))
-              (λ k u v. left-clash room store made rest (getD xs j blank) (getD xs k blank) z (h .before .none j k (omega (arith, u)) v)) in
+              let y = any-alike xs blank i long (hit room store made rest) (hit room store made (usesBeyond store rest (getD xs j blank))) (i - (j + 1)) (j + 1) (omega (arith, m))
+              (λ k u v. beyond-clash room store made rest (getD xs j blank) (getD xs k blank) z (h .before .none j k (omega (arith, u)) v)) in
               record { high = omega arith; none = s .none; left-any = rw g ((rw z at rest-head) ∙ y) }

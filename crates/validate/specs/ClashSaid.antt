@@ -1,5 +1,5 @@
 -- 01's rule 60 over components and applications is the first clash over their packages.
-use Prim.Native.Nat.{ℕ, suc, _+_, _-_, _%_, _<_}
+use Prim.Native.Nat.{ℕ, suc, _+_, _-_, _<_}
 use mathlib.Core.Bool.{Bool, true, false}
 use mathlib.Core.List.{List, [], _∷_, _++_, map, append-assoc, append-nil}
 use mathlib.Core.Option.{Option, none, some}
@@ -23,7 +23,6 @@ use Rattle.tree.specs.Short.{field-short}
 use Rattle.schema.specs.declared.Text.{Text}
 use Rattle.schema.specs.declared.Text.the-variants as texts
 use Rattle.schema.specs.declared.Features.{Features}
-use Rattle.schema.specs.declared.Features.the-variants as lists
 use Rattle.schema.specs.declared.Component.{Component}
 use Rattle.schema.specs.Texts.{optional}
 use Rattle.features.specs.Pieces.{wordsFrom, allTexts, pieces, featuresRead}
@@ -38,11 +37,11 @@ use Rattle.parse.specs.Entries as parsed
 use Rattle.parse.specs.Entries.{refusalAt}
 use Rattle.parse.specs.Answers.{Says, says-after, says-by}
 use Rattle.parse.specs.Whole.{componentOf, applicationOf}
-use Rattle.layout.specs.Marks.{anyOf, firstHit}
-use Rattle.validate.specs.declared.uses.Spot.{Spot}
+use Rattle.turns.specs.Marks.{anyOf, firstHit}
+use Rattle.schema.specs.Spots.{Short, ShortList, packed, spotted, listAt, spotted-short, list-short}
+use Rattle.validate.specs.declared.uses.Use.{Use as Used}
 use Rattle.validate.specs.declared.uses.Pair.{Pair}
-use Rattle.validate.specs.Clashes as clashes
-use Rattle.validate.specs.Clashes.{packed, textSpot, listSpot, spotted, listAt, differ, clash, pairOf}
+use Rattle.validate.specs.Clashes.{ownUse, pbpUse, differ, useDiffers, clash, pairOfComponent}
 use Rattle.validate.specs.Entries.{componentEntry, applicationEntry, componentAt, applicationAt}
 use Rattle.validate.specs.Faults.{clashFault}
 use Rattle.validate.specs.Gathered.{either}
@@ -178,51 +177,12 @@ hit-faults cs apps k l =
 
 -- ---- an entry's packages
 
--- a text that was read is absent or a short one of the store, and so is a feature list that is a text
-abbrev pub Short : Text → Type 0
-Short texts.Absent = Unit {0}
-Short (texts.Stored from len) = (from < 65536) × (len < 65536)
-Short texts.Lent = ⊥
-Short (texts.Fixed w) = ⊥
-Short (texts.WithAic from len) = ⊥
-
-abbrev pub ShortList : Features → Type 0
-ShortList lists.Absent = Unit {0}
-ShortList (lists.Words from len) = (from < 65536) × (len < 65536)
-ShortList (lists.Items place) = Unit {0}
-
 packed-short : (store name : List ℕ) (t : Text) → Short t → optional store name t ≡ packed store t
 packed-short store name texts.Absent h = refl
 packed-short store name (texts.Stored from len) h = refl
 packed-short store name texts.Lent h = absurd h
 packed-short store name (texts.Fixed w) h = absurd h
 packed-short store name (texts.WithAic from len) h = absurd h
-
-below : (n : ℕ) → n < 65536 → n % 65536 ≡ n
-below n h = omega (arith, h)
-
--- both are at their spots
-pub stored-short : (t : Text) → Short t → clashes.textAt (textSpot t) ≡ t
-unfolding clashes.textAt
-stored-short texts.Absent h = refl
-stored-short (texts.Stored from len) h = rw (below from (h .0), below len (h .1))
-stored-short texts.Lent h = absurd h
-stored-short (texts.Fixed w) h = absurd h
-stored-short (texts.WithAic from len) h = absurd h
-
-spotted-short : (store : List ℕ) (t : Text) → Short t → spotted store (textSpot t) ≡ packed store t
-unfolding spotted
-spotted-short store texts.Absent h = refl
-spotted-short store (texts.Stored from len) h = rw (below from (h .0), below len (h .1))
-spotted-short store texts.Lent h = absurd h
-spotted-short store (texts.Fixed w) h = absurd h
-spotted-short store (texts.WithAic from len) h = absurd h
-
-pub list-short : (f : Features) → ShortList f → listAt (listSpot f) ≡ f
-unfolding listAt
-list-short lists.Absent h = refl
-list-short (lists.Words from len) h = rw (below from (h .0), below len (h .1))
-list-short (lists.Items place) h = refl
 
 -- a value that is no text, or a short one
 abbrev ShortRead : Read → Type 0
@@ -274,39 +234,40 @@ record ShortIn (c : Component) : Type 0 where
   ownFeatures : ShortList (c .role .«pbp_features»)
 
 module _ (room store : List ℕ) (made : ℕ) where
-  abbrev usesAs : Spot → Spot → List Use
-  usesAs p f = use? (spotted store p) (featureList room store made (listAt f))
+  abbrev usesAs : Used → List Use
+  usesAs u = use? (spotted store (u .«package»)) (featureList room store made (listAt (u .features)))
 
   -- the uses of an entry: none, one or two
   abbrev pub usesIn : Pair → List Use
-  usesIn p = usesAs (p .«package») (p .features) ++ usesAs (p .«pbp_package») (p .«pbp_features»)
+  usesIn p = usesAs (ownUse p) ++ usesAs (pbpUse p)
 
-  differ-is : (p f q g : Spot) → differ room store made p f q g ≡ clashes (usesAs q g) (usesAs p f)
+  differ-is : (u v : Used) → differ room store made u v ≡ clashes (usesAs v) (usesAs u)
   unfolding differ
-  differ-is p f q g = one-clashes (spotted store p) (spotted store q) (featureList room store made (listAt f)) (featureList room store made (listAt g))
+  differ-is u v =
+      one-clashes (spotted store (u .«package»)) (spotted store (v .«package»)) (featureList room store made (listAt (u .features)))
+      (featureList room store made (listAt (v .features)))
 
   -- a later entry against an earlier one
   pub clash-is : (a b : Pair) → clash room store made a b ≡ clashes (usesIn b) (usesIn a)
-  unfolding clash
+  unfolding clash useDiffers
   clash-is a b =
-      let x : List Use = usesAs (a .«package») (a .features) in
-      let y : List Use = usesAs (a .«pbp_package») (a .«pbp_features») in
-      let v : List Use = usesAs (b .«package») (b .features) in
-      let w : List Use = usesAs (b .«pbp_package») (b .«pbp_features») in
+      let x : List Use = usesAs (ownUse a) in
+      let y : List Use = usesAs (pbpUse a) in
+      let v : List Use = usesAs (ownUse b) in
+      let w : List Use = usesAs (pbpUse b) in
       rw (
-        differ-is (a .«package») (a .features) (b .«package») (b .features),
-        differ-is (a .«package») (a .features) (b .«pbp_package») (b .«pbp_features»),
-        differ-is (a .«pbp_package») (a .«pbp_features») (b .«package») (b .features),
-        differ-is (a .«pbp_package») (a .«pbp_features») (b .«pbp_package») (b .«pbp_features»),
+        differ-is (ownUse a) (ownUse b),
+        differ-is (ownUse a) (pbpUse b),
+        differ-is (pbpUse a) (ownUse b),
+        differ-is (pbpUse a) (pbpUse b),
         two-clashes (v ++ w) x y,
         clashes-two v w x,
         clashes-two v w y,
       )
-      (sym (either-two (clashes v x) (clashes w x) (either (clashes v y) (clashes w y))))
 
   module _ (name : List ℕ) where
-    uses-short : (c : Component) → ShortIn c → usesOf (componentMeant room store made name c) ≡ usesIn (pairOf store c)
-    unfolding usesOf pairOf
+    uses-short : (c : Component) → ShortIn c → usesOf (componentMeant room store made name c) ≡ usesIn (pairOfComponent store c)
+    unfolding usesOf pairOfComponent
     uses-short c h =
         rw (
           packed-short store name (c .head .«package») (h .pack),

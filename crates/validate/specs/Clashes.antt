@@ -1,100 +1,73 @@
 -- Level 2 of 60: the packages that entries use, by where their names and features are.
-use Prim.Native.Nat.{ℕ, _%_}
+use Prim.Native.Nat.{ℕ}
 use mathlib.Core.Bool.{Bool, true, false}
 use mathlib.Core.List.{List}
-use mathlib.Core.Option.{Option, none, some}
-use lib.Dec.{eqb}
 use Rattle.meaning.specs.Base.{pick}
 use Rattle.meaning.specs.Rules.{twice, sameAll}
-use Rattle.schema.specs.declared.Text.{Text}
-use Rattle.schema.specs.declared.Text.the-variants as texts
+use Rattle.tree.specs.Room.{slotAt}
 use Rattle.schema.specs.declared.Features.{Features}
-use Rattle.schema.specs.declared.Features.the-variants as lists
 use Rattle.schema.specs.declared.Component.{Component}
-use Rattle.schema.specs.Texts.{clip}
 use Rattle.parse.specs.Meant.{featureList}
-use Rattle.validate.specs.declared.uses.Spot.{Spot}
+use Rattle.schema.specs.declared.spot.Spot.{Spot}
+use Rattle.schema.specs.Spots.{noSpot, textSpot, listSpot, spotted, listAt}
+use Rattle.validate.specs.declared.uses.Use.{Use}
 use Rattle.validate.specs.declared.uses.Pair.{Pair}
 
--- a package's name lies in the store
-abbrev pub packed : List ℕ → Text → Option (List ℕ)
-packed store texts.Absent = none
-packed store (texts.Stored from len) = some (clip from len store)
-packed store texts.Lent = none
-packed store (texts.Fixed w) = none
-packed store (texts.WithAic from len) = none
+-- an entry's two uses
+abbrev pub ownUse : Pair → Use
+ownUse a = record { «package» = a .«package»; features = a .features }
 
--- ---- spots: where a package or a feature list is, in few bytes
-
-abbrev pub noSpot : Spot
-noSpot = record { kind = 0; from = 0; len = 0 }
-
-abbrev pub bytesSpot : ℕ → ℕ → Spot
-bytesSpot from len = record { kind = 1; from = from % 65536; len = len % 65536 }
-
-abbrev pub textSpot : Text → Spot
-textSpot texts.Absent = noSpot
-textSpot (texts.Stored from len) = bytesSpot from len
-textSpot texts.Lent = noSpot
-textSpot (texts.Fixed w) = noSpot
-textSpot (texts.WithAic from len) = noSpot
-
-abbrev pub listSpot : Features → Spot
-listSpot lists.Absent = noSpot
-listSpot (lists.Words from len) = bytesSpot from len
-listSpot (lists.Items place) = record { kind = 2; from = place; len = 0 }
-
--- the text, the package, and the feature list, at a spot
-unfoldable pub textAt : Spot → Text
-textAt s = pick (eqb (s .kind) 1) (texts.Stored (s .from) (s .len)) texts.Absent
-
-unfoldable pub spotted : List ℕ → Spot → Option (List ℕ)
-spotted store s = pick (eqb (s .kind) 1) (some (clip (s .from) (s .len) store)) none
-
-unfoldable pub listAt : Spot → Features
-listAt s = pick (eqb (s .kind) 1) (lists.Words (s .from) (s .len)) (pick (eqb (s .kind) 2) (lists.Items (s .from)) lists.Absent)
+abbrev pub pbpUse : Pair → Use
+pbpUse a = record { «package» = a .«pbp_package»; features = a .«pbp_features» }
 
 module _ (room store : List ℕ) (made : ℕ) where
   -- one package with two feature sets
-  unfoldable pub differ : Spot → Spot → Spot → Spot → Bool
-  differ p f q g =
-      pick (twice (spotted store p) (spotted store q)) (pick (sameAll (featureList room store made (listAt f)) (featureList room store made (listAt g))) false true) false
+  unfoldable pub differ : Use → Use → Bool
+  differ u v =
+      pick (twice (spotted store (u .«package»)) (spotted store (v .«package»)))
+      (pick (sameAll (featureList room store made (listAt (u .features))) (featureList room store made (listAt (v .features)))) false true) false
+
+  -- a use and some use of an entry
+  unfoldable pub useDiffers : Use → Pair → Bool
+  useDiffers u b = pick (differ u (ownUse b)) true (differ u (pbpUse b))
 
   -- some use of one and some use of the other
   unfoldable pub clash : Pair → Pair → Bool
-  clash a b =
-      pick (differ (a .«package») (a .features) (b .«package») (b .features)) true
-      (pick (differ (a .«package») (a .features) (b .«pbp_package») (b .«pbp_features»)) true
-      (pick (differ (a .«pbp_package») (a .«pbp_features») (b .«package») (b .features)) true (differ (a .«pbp_package») (a .«pbp_features») (b .«pbp_package») (b .«pbp_features»))))
+  clash a b = pick (useDiffers (ownUse a) b) true (useDiffers (pbpUse a) b)
 
 module _ (store : List ℕ) where
   -- an entry uses a package
-  unfoldable pub has : Spot → Pair → Bool
-  has p b = pick (twice (spotted store p) (spotted store (b .«package»))) true (twice (spotted store p) (spotted store (b .«pbp_package»)))
+  unfoldable pub usesPackage : Spot → Pair → Bool
+  usesPackage p b = pick (twice (spotted store p) (spotted store (b .«package»))) true (twice (spotted store p) (spotted store (b .«pbp_package»)))
 
   -- two entries use one package
-  unfoldable pub meet : Pair → Pair → Bool
-  meet a b = pick (has (a .«package») b) true (has (a .«pbp_package») b)
+  unfoldable pub sharePackage : Pair → Pair → Bool
+  sharePackage a b = pick (usesPackage (a .«package») b) true (usesPackage (a .«pbp_package») b)
 
   -- a package that an entry does not use
-  unfoldable pub unmet : Spot → Pair → Spot
-  unmet p b = pick (has p b) noSpot p
+  unfoldable pub packageBeyond : Spot → Pair → Spot
+  packageBeyond p b = pick (usesPackage p b) noSpot p
 
   -- what one uses that the other does not
-  unfoldable pub left : Pair → Pair → Pair
-  left a b = record { «package» = unmet (a .«package») b; features = a .features; «pbp_package» = unmet (a .«pbp_package») b; «pbp_features» = a .«pbp_features» }
-
-abbrev pub spots : Text → Features → Text → Features → Pair
-spots p f q g = record { «package» = textSpot p; features = listSpot f; «pbp_package» = textSpot q; «pbp_features» = listSpot g }
+  unfoldable pub usesBeyond : Pair → Pair → Pair
+  usesBeyond a b = record { «package» = packageBeyond (a .«package») b; features = a .features; «pbp_package» = packageBeyond (a .«pbp_package») b; «pbp_features» = a .«pbp_features» }
 
 -- "where a component's `pbp_package` is its `package`, only `pbp_features` count"
-unfoldable pub pairOf : List ℕ → Component → Pair
-pairOf store c =
-    spots (c .head .«package»)
-    (pick (twice (packed store (c .head .«package»)) (packed store (c .boot .«pbp_package»))) (c .role .«pbp_features») (c .role .features))
-    (c .boot .«pbp_package»)
-    (c .role .«pbp_features»)
+unfoldable pub pairOfComponent : List ℕ → Component → Pair
+pairOfComponent store c =
+    let own = textSpot (c .head .«package») in
+    let pbp = textSpot (c .boot .«pbp_package») in
+    record {
+      «package» = own;
+      features = pick (twice (spotted store own) (spotted store pbp)) (listSpot (c .role .«pbp_features»)) (listSpot (c .role .features));
+      «pbp_package» = pbp;
+      «pbp_features» = listSpot (c .role .«pbp_features»);
+    }
 
--- an application's package is its key, which is where its slot says
-abbrev pub single : ℕ → ℕ → Features → Pair
-single key len f = record { «package» = record { kind = 1; from = key; len = len }; features = listSpot f; «pbp_package» = noSpot; «pbp_features» = noSpot }
+-- where the key of value number n is
+abbrev pub keySpot : List ℕ → ℕ → Spot
+keySpot room n = record { kind = 1; from = slotAt room n .key; len = slotAt room n .len }
+
+-- an application's package is its key
+abbrev pub pairOfApplication : Spot → Features → Pair
+pairOfApplication key f = record { «package» = key; features = listSpot f; «pbp_package» = noSpot; «pbp_features» = noSpot }

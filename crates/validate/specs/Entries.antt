@@ -1,13 +1,12 @@
 -- Level 2 of an entry's own rules: 52 to 59 of a component, 61 to 64 and 66 of an application.
 use Prim.Native.Nat.{ℕ}
 use mathlib.Core.Bool.{Bool, true, false}
-use mathlib.Core.List.{List}
+use mathlib.Core.List.{List, map}
 use lib.Dec.{eqb, ltb}
-use lib.ListN.{length}
+use lib.ListN.{length, take}
 use Rattle.meaning.specs.Base.{pick, nil?}
 use Rattle.meaning.specs.Verdict.{orElse, long}
 use Rattle.meaning.specs.Rules as meant
-use Rattle.tree.specs.Room.{slotAt}
 use Rattle.schema.specs.declared.Text.{Text}
 use Rattle.schema.specs.declared.Text.the-variants as texts
 use Rattle.schema.specs.declared.Number.{Number}
@@ -15,24 +14,21 @@ use Rattle.schema.specs.declared.Number.the-variants as numbers
 use Rattle.schema.specs.declared.Boot.{Boot}
 use Rattle.schema.specs.declared.Component.{Component}
 use Rattle.schema.specs.declared.Application.{Application}
-use Rattle.schema.specs.Words.{word}
-use Rattle.schema.specs.Texts.{clip, startOf, lengthOf, amount}
+use Rattle.schema.specs.declared.Partition.{Partition}
+use Rattle.schema.specs.Texts.{clip, isGiven, startOf, lengthOf, amount}
 use Rattle.parse.specs.Entries as parsed
-use Rattle.layout.specs.Marks.{rank}
+use Rattle.layout.specs.Parts.{partName, rank, aim}
 use Rattle.validate.specs.declared.Entry.{Entry}
 use Rattle.validate.specs.declared.uses.Pair.{Pair}
-use Rattle.validate.specs.Clashes.{pairOf, single}
+use Rattle.validate.specs.Clashes.{keySpot, pairOfComponent, pairOfApplication}
+
+-- the names of the first of some partitions
+abbrev pub partNames : List ℕ → ℕ → List Partition → List (List ℕ)
+partNames store count items = map (partName store) (take count items)
 
 -- a text that lies in the store
 abbrev pub kept : List ℕ → Text → List ℕ
 kept store t = clip (startOf t) (lengthOf t) store
-
-abbrev pub there : Text → Bool
-there texts.Absent = false
-there (texts.Stored from len) = true
-there texts.Lent = true
-there (texts.Fixed w) = true
-there (texts.WithAic from len) = true
 
 abbrev pub counted : Number → Bool
 counted numbers.Absent = false
@@ -46,7 +42,7 @@ nameFault store t = pick (long (kept store t)) 52 0
 
 -- 55, 56
 unfoldable pub bootFault : Boot → ℕ
-bootFault b = meant.bootFault (there (b .pbp)) (there (b .«pbp_package»)) (b .updater) (counted (b .ram))
+bootFault b = meant.bootFault (isGiven (b .pbp)) (isGiven (b .«pbp_package»)) (b .updater) (counted (b .ram))
 
 -- 57, 58; whether the reference names a partition is known
 abbrev pub targetFault : Bool → Bool → Bool → ℕ
@@ -56,7 +52,7 @@ targetFault empty updater known = pick empty (pick updater 0 57) (pick known 0 5
 unfoldable pub lateFault : List ℕ → Bool → Component → ℕ
 lateFault store known c =
     orElse (nameFault store (c .head .name))
-    (orElse (meant.sourceFault (there (c .head .«package»)) (there (c .head .file)))
+    (orElse (meant.sourceFault (isGiven (c .head .«package»)) (isGiven (c .head .file)))
     (orElse (bootFault (c .boot))
     (orElse (targetFault (nil? (kept store (c .role .partition))) (c .boot .updater) known) (meant.reserveFault (c .load .«ext_reserve»)))))
 
@@ -71,32 +67,24 @@ componentEntry store parts fault c =
     record {
       fault = fault;
       mark = record { from = startOf (c .head .name); len = lengthOf (c .head .name); early = 0; late = lateFault store (ltb at (length parts)) c };
-      pair = pairOf store c;
+      pair = pairOfComponent store c;
       first = pick (nil? (kept store (c .role .partition))) false (eqb at 0);
     }
 
 -- ---- an application
 
 -- no bytes: a fixed word and one with `.aic` have some
-abbrev pub hollow : List ℕ → Text → Bool
-hollow store texts.Absent = true
-hollow store (texts.Stored from len) = nil? (clip from len store)
-hollow store texts.Lent = false
-hollow store (texts.Fixed w) = false
-hollow store (texts.WithAic from len) = false
+abbrev pub isEmpty : List ℕ → Text → Bool
+isEmpty store texts.Absent = true
+isEmpty store (texts.Stored from len) = nil? (clip from len store)
+isEmpty store texts.Lent = false
+isEmpty store (texts.Fixed w) = false
+isEmpty store (texts.WithAic from len) = false
 
--- the partition with an application's name for it
-abbrev pub aim : List ℕ → List (List ℕ) → Text → ℕ
-aim store parts texts.Absent = length parts
-aim store parts (texts.Stored from len) = rank (clip from len store) parts
-aim store parts texts.Lent = length parts
-aim store parts (texts.Fixed w) = rank (word w) parts
-aim store parts (texts.WithAic from len) = length parts
-
--- 61 to 64; whether its partition is there is known
+-- 61 to 64; whether there is its partition is known
 unfoldable pub earlyFault : List ℕ → Bool → Application → ℕ
 earlyFault store known a =
-    pick (nil? (kept store (a .name))) 61 (pick (long (kept store (a .name))) 62 (pick (hollow store (a .filename)) 63 (pick known 0 64)))
+    pick (nil? (kept store (a .name))) 61 (pick (long (kept store (a .name))) 62 (pick (isEmpty store (a .filename)) 63 (pick known 0 64)))
 
 -- with the fault of its record, and its package
 unfoldable pub applicationEntry : List ℕ → List (List ℕ) → ℕ → Pair → Application → Entry
@@ -106,7 +94,7 @@ applicationEntry store parts fault pair a =
       mark = record {
         from = startOf (a .name);
         len = lengthOf (a .name);
-        early = earlyFault store (ltb (aim store parts (a .partition)) (length parts)) a;
+        early = earlyFault store (ltb (aim false store parts (a .partition)) (length parts)) a;
         late = meant.addressFault (amount (a .«load_address»));
       };
       pair = pair;
@@ -122,4 +110,4 @@ module _ (room store : List ℕ) (made : ℕ) (parts : List (List ℕ)) where
   abbrev pub applicationAt : ℕ → Entry
   applicationAt n =
       let a = parsed.applicationAt room store made n 32 in
-      applicationEntry store parts (a .fault) (single (slotAt room n .key) (slotAt room n .len) (a .application .features)) (a .application)
+      applicationEntry store parts (a .fault) (pairOfApplication (keySpot room n) (a .application .features)) (a .application)

@@ -21,7 +21,7 @@ use Rattle.schema.specs.declared.Number.the-variants as numbers
 use Rattle.schema.specs.declared.Component.{Component}
 use Rattle.schema.specs.declared.Application.{Application}
 use Rattle.schema.specs.declared.Word.the-variants as words
-use Rattle.schema.specs.Texts.{clip, spelled, optional, orText, aicOf, amount}
+use Rattle.schema.specs.Texts.{clip, spelled, isGiven, optional, orText, aicOf, amount}
 use Rattle.parse.specs.Fields.{textRead}
 use Rattle.parse.specs.Meant.{componentMeant, applicationMeant}
 use Rattle.parse.specs.Component as parsed
@@ -30,14 +30,15 @@ use Rattle.parse.specs.Entries as parsing
 use Rattle.parse.specs.Reads.{Kept, text-kept, clip-none}
 use Rattle.parse.specs.Whole.{componentOf, applicationOf}
 use Rattle.parse.specs.Answers.{Says}
-use Rattle.layout.specs.declared.Mark.{Mark}
-use Rattle.layout.specs.declared.Fault.{Fault}
-use Rattle.layout.specs.Marks.{anyOf, markRule, noted, markVerdict, judged, entryFault}
-use Rattle.layout.specs.Turns as turns
-use Rattle.layout.specs.Turns.{among-rank, rank-first, judged-verdict, says-fine, says-refused}
+use Rattle.turns.specs.declared.Mark.{Mark}
+use Rattle.turns.specs.declared.Fault.{Fault}
+use Rattle.turns.specs.Marks.{anyOf, markRule, noted, markVerdict, judged, entryFault}
+use Rattle.turns.specs.Turns as turns
+use Rattle.layout.specs.Parts.{among-rank, rank-first, aim}
+use Rattle.turns.specs.Turns.{judged-verdict, says-fine, says-refused}
 use Rattle.validate.specs.declared.uses.Pair.{Pair}
 use Rattle.validate.specs.Entries as entries
-use Rattle.validate.specs.Entries.{there, counted, hollow, aim, componentEntry, applicationEntry, componentAt, applicationAt}
+use Rattle.validate.specs.Entries.{counted, isEmpty, componentEntry, applicationEntry, componentAt, applicationAt}
 use Rattle.validate.specs.Faults.{inEntry, componentsFault, applicationsFault, bootFault}
 
 -- ---- entries in turn
@@ -114,21 +115,21 @@ module _ (store name : List ℕ) where
   kept-spelled (texts.Fixed w) h = absurd h
   kept-spelled (texts.WithAic from len) h = absurd h
 
-  given-text : (t : Text) → meant.given (optional store name t) ≡ there t
+  given-text : (t : Text) → meant.given (optional store name t) ≡ isGiven t
   given-text texts.Absent = refl
   given-text (texts.Stored from len) = refl
   given-text texts.Lent = refl
   given-text (texts.Fixed w) = refl
   given-text (texts.WithAic from len) = refl
 
-  hollow-spelled : (t : Text) → Filed t → nil? (spelled store name t) ≡ hollow store t
-  hollow-spelled texts.Absent h = refl
-  hollow-spelled (texts.Stored from len) h = refl
-  hollow-spelled texts.Lent h = absurd h
-  hollow-spelled (texts.Fixed w) h = absurd h
-  hollow-spelled (texts.WithAic from len) h = nil-more (clip from len store) 46 (ascii "aic")
+  empty-spelled : (t : Text) → Filed t → nil? (spelled store name t) ≡ isEmpty store t
+  empty-spelled texts.Absent h = refl
+  empty-spelled (texts.Stored from len) h = refl
+  empty-spelled texts.Lent h = absurd h
+  empty-spelled (texts.Fixed w) h = absurd h
+  empty-spelled (texts.WithAic from len) h = nil-more (clip from len store) 46 (ascii "aic")
 
-  aim-spelled : (parts : List (List ℕ)) (t : Text) → Named t → among (spelled store name t) parts ≡ ltb (aim store parts t) (length parts)
+  aim-spelled : (parts : List (List ℕ)) (t : Text) → Named t → among (spelled store name t) parts ≡ ltb (aim false store parts t) (length parts)
   aim-spelled parts texts.Absent h = absurd h
   aim-spelled parts (texts.Stored from len) h = among-rank (clip from len store) parts
   aim-spelled parts texts.Lent h = absurd h
@@ -226,8 +227,8 @@ module _ (room store : List ℕ) (made : ℕ) (name : List ℕ) (parts : List (L
       → meant.applicationFault parts earlier (applicationMeant room store made name a) ≡ markRule 65 store earlier (applicationEntry store parts fault pair a .mark)
   unfolding meant.applicationFault entryFault applicationEntry entries.earlyFault
   application-rule earlier fault pair a k =
-      rw (kept-spelled store name (a .name) (k .name), hollow-spelled store name (a .filename) (k .filename), aim-spelled store name parts (a .partition) (k .partition))
-      (early-turned (nil? (entries.kept store (a .name))) (long (entries.kept store (a .name))) (hollow store (a .filename)) (ltb (aim store parts (a .partition)) (length parts))
+      rw (kept-spelled store name (a .name) (k .name), empty-spelled store name (a .filename) (k .filename), aim-spelled store name parts (a .partition) (k .partition))
+      (early-turned (nil? (entries.kept store (a .name))) (long (entries.kept store (a .name))) (isEmpty store (a .filename)) (ltb (aim false store parts (a .partition)) (length parts))
       (among (entries.kept store (a .name)) earlier) (meant.addressFault (amount (a .«load_address»))))
 
   applications-turn : (ns : List ℕ)

@@ -3,7 +3,7 @@ use Prim.Native.Nat.{ℕ, _+_, _-_}
 use mathlib.Core.Bool.{Bool}
 use mathlib.Core.List.{List as Seq, [], map, _++_}
 use lib.Dec.{eqb, ltb}
-use lib.ListN.{length}
+use lib.ListN.{length, take}
 use Rattle.meaning.specs.Base.{pick, nil?}
 use Rattle.meaning.specs.Limits.{of01}
 use Rattle.meaning.specs.Layout as meant
@@ -11,19 +11,21 @@ use Rattle.tree.specs.Doors.{fieldsOf}
 use Rattle.schema.specs.declared.Chip.{Chip}
 use Rattle.schema.specs.Words.{chipMeant}
 use Rattle.parse.specs.declared.Refusal.{Refusal}
+use Rattle.parse.specs.declared.entry.Partitions.{Partitions}
 use Rattle.parse.specs.Refusals.{earlier}
 use Rattle.parse.specs.Entries.{refusalAt, partitionAt}
 use Rattle.parse.specs.Front.{frontRead}
 use Rattle.parse.specs.Refused.{lentText, partitionNumbers}
 use Rattle.parse.specs.Verdict as verdicts
-use Rattle.layout.specs.declared.Fault.{Fault}
-use Rattle.layout.specs.declared.Mark.{Mark}
-use Rattle.layout.specs.Marks.{anyOf, firstHit, faultOf, judged}
+use Rattle.turns.specs.declared.Fault.{Fault}
+use Rattle.turns.specs.declared.Mark.{Mark}
+use Rattle.turns.specs.Marks.{anyOf, firstHit, faultOf, judged}
 use Rattle.layout.specs.Parts.{partName, partMeant}
 use Rattle.validate.specs.declared.uses.Pair.{Pair}
+use Rattle.validate.specs.declared.gather.Gathered.{Gathered}
 use Rattle.validate.specs.declared.gather.Applied.{Applied}
 use Rattle.validate.specs.Clashes.{clash}
-use Rattle.validate.specs.Entries.{componentAt, applicationAt}
+use Rattle.validate.specs.Entries.{partNames, componentAt, applicationAt}
 use Rattle.validate.specs.Fronts as fronts
 use Rattle.validate.specs.Gathered.{faultAt, components, applications}
 
@@ -97,6 +99,14 @@ module _ (room store : Seq ℕ) (made : ℕ) where
     unfoldable pub componentsJudged : Refusal → Refusal
     componentsJudged rules =
         earlier (verdicts.componentFault room store made of01) (earlier (verdicts.applicationFault room store made of01) (earlier rules listsFault))
+
+  -- ---- with the partitions that were read
+
+  abbrev pub componentsAfter : Partitions → Refusal → Refusal
+  componentsAfter p rules = componentsJudged (partNames store (p .count) (p .items)) rules
+
+  abbrev pub applicationsAfter : Partitions → Refusal → Gathered → Refusal
+  applicationsAfter p rules c = applicationsJudged (partNames store (p .count) (p .items)) rules (c .count) (take (c .count) (c .pairs)) (c .first)
 
   -- ---- of a preset
 

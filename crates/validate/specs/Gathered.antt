@@ -10,22 +10,21 @@ use Rattle.meaning.specs.Refusal.{inApplication}
 use Rattle.meaning.specs.Fields.{listed}
 use Rattle.tree.specs.declared.Found.the-variants.{Nothing}
 use Rattle.tree.specs.Doors.{Rooms, fieldsOf, items}
-use Rattle.schema.specs.declared.Text.the-variants as texts
-use Rattle.schema.specs.declared.Features.the-variants as lists
+use Rattle.schema.specs.Spots.{noSpot}
 use Rattle.parse.specs.declared.Refusal.{Refusal}
 use Rattle.parse.specs.Entries.{walk, refusalAt, refusalOf, eachComponent, applicationR}
 use Rattle.parse.specs.Refused.{componentNumbers, applicationNumbers}
-use Rattle.layout.specs.declared.Fault.{Fault}
-use Rattle.layout.specs.Marks.{anyOf, firstHit, judged}
+use Rattle.turns.specs.declared.Fault.{Fault}
+use Rattle.turns.specs.Marks.{anyOf, firstHit, judged}
 use Rattle.validate.specs.declared.Entry.{Entry}
 use Rattle.validate.specs.declared.uses.Pair.{Pair}
 use Rattle.validate.specs.declared.gather.Gathered.{Gathered}
 use Rattle.validate.specs.declared.gather.Applied.{Applied}
-use Rattle.validate.specs.Clashes.{spots, clash}
+use Rattle.validate.specs.Clashes.{clash}
 use Rattle.validate.specs.Entries.{componentAt, applicationAt}
 
 abbrev pub blank : Pair
-blank = spots texts.Absent lists.Absent texts.Absent lists.Absent
+blank = record { «package» = noSpot; features = noSpot; «pbp_package» = noSpot; «pbp_features» = noSpot }
 
 abbrev pub either : Bool → Bool → Bool
 either a b = pick a true b

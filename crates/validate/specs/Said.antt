@@ -20,9 +20,9 @@ use Rattle.parse.specs.Front.{frontRead}
 use Rattle.parse.specs.Refused.{lentText, partitionNumbers}
 use Rattle.parse.specs.Whole.{presetMeant, partitionOf, componentOf, applicationOf}
 use Rattle.parse.specs.Answers.{Says, says-after, says-by}
-use Rattle.layout.specs.Marks.{anyOf, faultOf}
+use Rattle.turns.specs.Marks.{anyOf, faultOf}
 use Rattle.layout.specs.Parts.{partName, partMeant}
-use Rattle.layout.specs.Turns.{layout-verdict}
+use Rattle.layout.specs.Layouts.{layout-verdict}
 use Rattle.validate.specs.Entries.{componentAt}
 use Rattle.validate.specs.Gathered.{components, applications}
 use Rattle.validate.specs.Faults as faults

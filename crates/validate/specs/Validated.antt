@@ -1,7 +1,6 @@
 -- The judge of validation: "fields; then validation".
-use Prim.Native.Nat.{ℕ, _≤_}
+use Prim.Native.Nat.{ℕ}
 use mathlib.Core.List.{List}
-use mathlib.Core.Path.{_≡_}
 use Rattle.parse.specs.declared.Refusal.{Refusal}
 use Rattle.parse.specs.Refusals.{earlier}
 use Rattle.parse.specs.Verdict.{reading}

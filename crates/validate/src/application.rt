@@ -2,57 +2,31 @@
 
 use crate::Entry;
 use crate::uses::Pair;
-use layout::Mark;
 use schema::Application;
+use schema::LONGEST_NAME;
+use schema::MOST_FEATURES;
+use schema::MOST_PARTITIONS;
 use schema::Number;
 use schema::Partition;
 use schema::Text;
-use schema::Word;
+use schema::spot::bytes_spot;
+use turns::Mark;
 ghost use mathlib.Core.Path.{_≡_};
-ghost use mathlib.Core.List.{map};
 ghost use Prim.Native.Nat.{_≤_};
-ghost use lib.ListN.{take};
 ghost use Rattle.meaning.specs.Rules as meant;
 ghost use Rattle.tree.specs.Doors.{Rooms, Stood};
 ghost use Rattle.schema.specs.Texts.{amount};
-ghost use Rattle.layout.specs.Parts.{partName};
+ghost use Rattle.validate.specs.Entries.{partNames};
 ghost use Rattle.validate.specs.Entries as entries;
 
 // Whether a text has no bytes.
-fn hollow(store: &[u8], t: Text) -> bool
-    ensures { λ r. ⌜ r ≡ entries.hollow (now (store .entry)) t ⌝ }
+fn is_empty(store: &[u8], t: Text) -> bool
+    ensures { λ r. ⌜ r ≡ entries.isEmpty (now (store .entry)) t ⌝ }
 {
     match t {
         Text::Absent => true,
         Text::Stored { from, len } => schema::stored(store, from, len).len() == 0,
-        Text::Lent => false,
-        Text::Fixed(_) => false,
-        Text::WithAic { from: _, len: _ } => false,
-    }
-}
-
-// The partition that an application names, "compared exactly"; as many as there are where there is none.
-fn aim(store: &[u8], items: [Partition; 32], count: usize, t: Text) -> usize
-    requires { ⌜ count ≤ 32 ⌝ }
-    ensures { λ r. ⌜ r ≡ entries.aim (now (store .entry)) (map (partName (now (store .entry))) (take count items)) t ⌝ }
-{
-    match t {
-        Text::Absent => count,
-        Text::Stored { from, len } => layout::find(
-            store,
-            items,
-            count,
-            schema::stored(store, from, len),
-        ),
-        Text::Lent => count,
-        Text::Fixed(w) => {
-            let all = Word::ALL;
-            let s = w.span();
-            let from = s.from;
-            let to = s.to;
-            layout::find(store, items, count, &all[from..to])
-        }
-        Text::WithAic { from: _, len: _ } => count,
+        _ => false,
     }
 }
 
@@ -65,11 +39,11 @@ fn early_fault(store: &[u8], a: Application, known: bool) -> u32
     if n == 0 {
         return 61;
     }
-    if 32 < n {
+    if LONGEST_NAME < n {
         return 62;
     }
     let filename = a.filename;
-    if hollow(store, filename) {
+    if is_empty(store, filename) {
         return 63;
     }
     if known {
@@ -98,25 +72,26 @@ fn entry_of(
     fault: u32,
     pair: Pair,
     a: Application,
-    items: [Partition; 32],
+    items: [Partition; MOST_PARTITIONS],
     count: usize,
 ) -> Entry
     requires { ⌜ count ≤ 32 ⌝ }
-    ensures { λ r. ⌜ r ≡ entries.applicationEntry (now (store .entry)) (map (partName (now (store .entry))) (take count items)) fault pair a ⌝ }
+    ensures { λ r. ⌜ r ≡ entries.applicationEntry (now (store .entry)) (partNames (now (store .entry)) count items) fault pair a ⌝ }
 {
     let name = a.name;
     let partition = a.partition;
     let address = a.load_address;
-    let at = aim(store, items, count, partition);
+    // "compared exactly"
+    let at = layout::find_named(store, items, count, partition, false);
     Entry {
-        fault: fault,
+        fault,
         mark: Mark {
             from: name.start(),
             len: name.length(),
             early: early_fault(store, a, at < count),
             late: address_fault(address),
         },
-        pair: pair,
+        pair,
         first: false,
     }
 }
@@ -127,16 +102,17 @@ pub fn entry(
     store: &[u8],
     made: usize,
     n: usize,
-    items: [Partition; 32],
+    items: [Partition; MOST_PARTITIONS],
     count: usize,
 ) -> Entry
     requires { ⌜ Rooms (now tree) made × Stood (now tree) n × (count ≤ 32) ⌝ }
-    ensures { λ r. ⌜ r ≡ entries.applicationAt (now (tree .entry)) (now (store .entry)) made (map (partName (now (store .entry))) (take count items)) n ⌝ }
+    ensures { λ r. ⌜ r ≡ entries.applicationAt (now (tree .entry)) (now (store .entry)) made
+        (partNames (now (store .entry)) count items) n ⌝ }
 {
-    let r = parse::entry::application_at(tree, store, made, n, 32);
+    let r = parse::entry::application_at(tree, store, made, n, MOST_FEATURES);
     let a = r.application;
     let features = a.features;
-    let v = tree::get(tree, n);
-    let pair = crate::uses::single(v.key, v.len, features);
+    let k = tree::key_at(tree, n);
+    let pair = crate::uses::pair_of_application(bytes_spot(k.from, k.len), features);
     entry_of(store, r.fault, pair, a, items, count)
 }

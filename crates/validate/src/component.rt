@@ -1,38 +1,27 @@
 // 52 to 59: what a component's own rules say, and the entry it makes.
 
 use crate::Entry;
-use layout::Mark;
 use parse::field::first_fault;
 use schema::Boot;
 use schema::Component;
+use schema::LONGEST_NAME;
+use schema::MOST_FEATURES;
+use schema::MOST_PARTITIONS;
 use schema::Number;
 use schema::Partition;
 use schema::Text;
+use turns::Mark;
 ghost use mathlib.Core.Path.{_≡_};
-ghost use mathlib.Core.List.{map};
 ghost use Prim.Native.Nat.{_≤_};
 ghost use mathlib.Core.Bool.{false};
 ghost use lib.Dec.{eqb};
-ghost use lib.ListN.{take};
 ghost use Rattle.meaning.specs.Base.{pick};
 ghost use Rattle.meaning.specs.Rules as meant;
 ghost use Rattle.tree.specs.Doors.{Rooms, Stood};
-ghost use Rattle.layout.specs.Parts.{partName};
+ghost use Rattle.validate.specs.Entries.{partNames};
 ghost use Rattle.validate.specs.Entries as entries;
 
-pub fn there(t: Text) -> bool
-    ensures { λ r. ⌜ r ≡ entries.there t ⌝ }
-{
-    match t {
-        Text::Absent => false,
-        Text::Stored { from: _, len: _ } => true,
-        Text::Lent => true,
-        Text::Fixed(_) => true,
-        Text::WithAic { from: _, len: _ } => true,
-    }
-}
-
-fn counted(n: Number) -> bool
+fn number_given(n: Number) -> bool
     ensures { λ r. ⌜ r ≡ entries.counted n ⌝ }
 {
     match n {
@@ -77,9 +66,9 @@ fn boot_fault(b: Boot) -> u32
     let pbp = b.pbp;
     let own = b.pbp_package;
     let ram = b.ram;
-    let late = ram_fault(b.updater, counted(ram));
-    if there(pbp) {
-        if there(own) {
+    let late = ram_fault(b.updater, number_given(ram));
+    if pbp.is_given() {
+        if own.is_given() {
             return 55;
         }
         return late;
@@ -103,11 +92,14 @@ fn target_fault(empty: bool, updater: bool, known: bool) -> u32
     58
 }
 
+// What an extension reserves comes in blocks of so many bytes.
+const RESERVE_BLOCK: u32 = 512;
+
 // 59: `ext_reserve` not a multiple of 512.
 fn reserve_fault(n: u32) -> u32
     ensures { λ r. ⌜ r ≡ meant.reserveFault n ⌝ }
 {
-    if n % 512 == 0 {
+    if n % RESERVE_BLOCK == 0 {
         return 0;
     }
     59
@@ -117,7 +109,7 @@ fn reserve_fault(n: u32) -> u32
 fn name_fault(store: &[u8], name: Text) -> u32
     ensures { λ r. ⌜ r ≡ entries.nameFault (now (store .entry)) name ⌝ }
 {
-    if 32 < schema::stored(store, name.start(), name.length()).len() {
+    if LONGEST_NAME < schema::stored(store, name.start(), name.length()).len() {
         return 52;
     }
     0
@@ -143,27 +135,15 @@ fn late_fault(store: &[u8], c: Component, known: bool) -> u32
     );
     first_fault(
         name_fault(store, name),
-        first_fault(source_fault(there(package), there(file)), late),
+        first_fault(source_fault(package.is_given(), file.is_given()), late),
     )
-}
-
-// "A component's reference drops everything from the first `;` and is trimmed."
-pub fn name_of<'a>(s: &'a [u8]) -> &'a [u8]
-    ensures { λ r. ⌜ now r ≡ meant.nameOf (now (s .entry)) ⌝ }
-{
-    let n = slices::find(s, 59);
-    let cut = &s[0..n];
-    let part = chars::trim(cut);
-    let from = part.from;
-    let end = part.end;
-    &cut[from..end]
 }
 
 // The partition's name in a component's reference.
 fn reference<'a>(store: &'a [u8], t: Text) -> &'a [u8]
     ensures { λ r. ⌜ now r ≡ entries.referred (now (store .entry)) t ⌝ }
 {
-    name_of(schema::stored(store, t.start(), t.length()))
+    layout::partition_name(schema::stored(store, t.start(), t.length()))
 }
 
 // Whether the partition found is the first.
@@ -176,25 +156,31 @@ fn in_first(at: usize, empty: bool) -> bool
     at == 0
 }
 
-fn entry_of(store: &[u8], fault: u32, c: Component, items: [Partition; 32], count: usize) -> Entry
+fn entry_of(
+    store: &[u8],
+    fault: u32,
+    c: Component,
+    items: [Partition; MOST_PARTITIONS],
+    count: usize,
+) -> Entry
     requires { ⌜ count ≤ 32 ⌝ }
-    ensures { λ r. ⌜ r ≡ entries.componentEntry (now (store .entry)) (map (partName (now (store .entry))) (take count items)) fault c ⌝ }
+    ensures { λ r. ⌜ r ≡ entries.componentEntry (now (store .entry)) (partNames (now (store .entry)) count items) fault c ⌝ }
 {
     let head = c.head;
     let role = c.role;
     let name = head.name;
     let partition = role.partition;
-    let at = layout::find(store, items, count, reference(store, partition));
+    let at = layout::find_partition(store, items, count, reference(store, partition));
     let empty = schema::stored(store, partition.start(), partition.length()).len() == 0;
     Entry {
-        fault: fault,
+        fault,
         mark: Mark {
             from: name.start(),
             len: name.length(),
             early: 0,
             late: late_fault(store, c, at < count),
         },
-        pair: crate::uses::pair_of(store, c),
+        pair: crate::uses::pair_of_component(store, c),
         first: in_first(at, empty),
     }
 }
@@ -205,13 +191,14 @@ pub fn entry(
     store: &[u8],
     made: usize,
     n: usize,
-    items: [Partition; 32],
+    items: [Partition; MOST_PARTITIONS],
     count: usize,
 ) -> Entry
     requires { ⌜ Rooms (now tree) made × Stood (now tree) n × (count ≤ 32) ⌝ }
-    ensures { λ r. ⌜ r ≡ entries.componentAt (now (tree .entry)) (now (store .entry)) made (map (partName (now (store .entry))) (take count items)) n ⌝ }
+    ensures { λ r. ⌜ r ≡ entries.componentAt (now (tree .entry)) (now (store .entry)) made
+        (partNames (now (store .entry)) count items) n ⌝ }
 {
-    let r = parse::entry::component_at(tree, store, made, n, 32);
+    let r = parse::entry::component_at(tree, store, made, n, MOST_FEATURES);
     let c = r.component;
     entry_of(store, r.fault, c, items, count)
 }

@@ -166,7 +166,7 @@ fn device_fault(store: &[u8], name: &[u8], chip: Chip, i: Image) -> u32
 }
 
 // 30 to 35, in their order: 30, 31 and 33 of the image, 32, 34 and 35 of the board.
-pub fn check(store: &[u8], name: &[u8], b: Board, i: Image) -> Refusal
+pub fn check_front(store: &[u8], name: &[u8], b: Board, i: Image) -> Refusal
     requires { ⌜ Fronted b i ⌝ }
     ensures { λ r. ⌜ r ≡ fronts.ruled (now (store .entry)) (now (name .entry)) b i ⌝ }
 {

@@ -1,28 +1,35 @@
 // All entries of a preset in their order: their marks, and the packages they use.
 
+use crate::uses::MOST_PAIRS;
 use crate::uses::Pair;
-use layout::Fault;
 use parse::Refusal;
+use parse::entry::List;
+use parse::entry::Partitions;
+use schema::MOST_ENTRIES;
+use schema::MOST_PARTITIONS;
 use schema::Partition;
-use tree::Found;
-ghost use mathlib.Core.List.{map};
+use tree::Item;
+use tree::Key;
+use turns::Fault;
 ghost use mathlib.Core.Path.{_≡_};
 ghost use lib.ListN.{take, replicate};
 ghost use Rattle.parse.specs.Refusals.{earlier};
-ghost use Rattle.layout.specs.Parts.{partName};
+ghost use Rattle.validate.specs.Entries.{partNames};
 ghost use Rattle.validate.specs.Gathered as gathered;
 ghost use Rattle.validate.specs.Gathered.{Counted, Components, Applications, Followed};
 
-// The components: the first fault of their records; how many there are, and whether one lies in the first partition; what their own rules say, and the packages they use.
+// The components: the first fault of their records; how many there are, and whether one lies in the first partition;
+// what their own rules say, and the packages they use.
 pub struct Gathered {
     pub fault: Refusal,
     pub count: usize,
     pub first: bool,
     pub own: Fault,
-    pub pairs: [Pair; 128],
+    pub pairs: [Pair; MOST_PAIRS],
 }
 
-// The applications: the first fault of their records; how many there are; what their own rules say, and the first of all entries whose packages clash.
+// The applications: the first fault of their records; how many there are;
+// what their own rules say, and the first of all entries whose packages clash.
 pub struct Applied {
     pub fault: Refusal,
     pub count: usize,
@@ -30,17 +37,17 @@ pub struct Applied {
     pub clash: usize,
 }
 
-fn no_pairs() -> [Pair; 128]
+fn no_pairs() -> [Pair; MOST_PAIRS]
     ensures { λ r. ⌜ r ≡ replicate 128 gathered.blank ⌝ }
 {
-    let none = crate::uses::no_spot();
+    let none = schema::spot::no_spot();
     let blank = Pair {
         package: none,
         features: none,
         pbp_package: none,
         pbp_features: none,
     };
-    [blank; 128]
+    [blank; MOST_PAIRS]
 }
 
 fn either(a: bool, b: bool) -> bool
@@ -70,26 +77,26 @@ pub fn each_component(
     tree: &[u8],
     store: &[u8],
     made: usize,
-    place: u16,
-    end: usize,
-    items: [Partition; 32],
+    l: List,
+    items: [Partition; MOST_PARTITIONS],
     count: usize,
 ) -> Gathered
-    requires { ⌜ Counted (now tree) made place end count ⌝ }
-    ensures { λ r. ⌜ Components (now (tree .entry)) (now (store .entry)) made place end (map (partName (now (store .entry))) (take count items)) r ⌝ }
+    requires { ⌜ Counted (now tree) made (l .place) (l .end) count ⌝ }
+    ensures { λ r. ⌜ Components (now (tree .entry)) (now (store .entry)) made (l .place) (l .end)
+        (partNames (now (store .entry)) count items) r ⌝ }
 {
-    let mut marks = layout::no_marks();
+    let mut marks = turns::no_marks();
     let mut pairs = no_pairs();
     let mut fault = parse::refusal_at(0, 0, 0);
     let mut first = false;
     let mut i = 0;
-    let mut from = 0;
-    while from < end {
-        let found = tree::child(tree, end, place, from);
-        match found {
-            Found::Nothing => break,
-            Found::At(n) => {
-                let e = crate::component::entry(tree, store, made, n, items, count);
+    let mut w = tree::items_of(l.place, l.end);
+    loop {
+        let step = tree::next_item(tree, w);
+        match step {
+            Item::End => break,
+            Item::At { value, rest } => {
+                let e = crate::component::entry(tree, store, made, value, items, count);
                 if e.fault != 0 {
                     fault = parse::refusal_at(4, e.fault, i);
                     break;
@@ -100,68 +107,69 @@ pub fn each_component(
                 pairs[i] = pair;
                 first = either(first, e.first);
                 i += 1;
-                from = n + 1;
+                w = rest;
             }
         }
     }
-    let own = layout::judge(store, marks, i, 51);
+    let own = turns::judge_marks(store, marks, i, 51);
     Gathered {
-        fault: fault,
+        fault,
         count: i,
-        first: first,
-        own: own,
-        pairs: pairs,
+        first,
+        own,
+        pairs,
     }
 }
 
-// The applications in byte order of key; their packages stand behind those of the components. The list's length is told before its entries, so the first fault waits for the last key.
+// The applications in byte order of key; their packages come after those of the components.
+// The list's length is told before its entries, so the first fault waits for the last key.
 pub fn each_application(
     tree: &[u8],
     store: &[u8],
     made: usize,
-    place: u16,
-    end: usize,
-    items: [Partition; 32],
-    count: usize,
-    old: [Pair; 128],
-    behind: usize,
+    l: List,
+    p: Partitions,
+    c: Gathered,
 ) -> Applied
-    requires { ⌜ Followed (now tree) made end count behind ⌝ }
-    ensures { λ r. ⌜ Applications (now (tree .entry)) (now (store .entry)) made place end (map (partName (now (store .entry))) (take count items)) (take behind old) r ⌝ }
+    requires { ⌜ Followed (now tree) made (l .end) (p .count) (c .count) ⌝ }
+    ensures { λ r. ⌜ Applications (now (tree .entry)) (now (store .entry)) made (l .place) (l .end)
+        (partNames (now (store .entry)) (p .count) (p .items)) (take (c .count) (c .pairs)) r ⌝ }
 {
-    let low = tree::skip_up(tree, end, place, 0);
-    let mut marks = layout::no_marks();
-    let mut pairs = old;
+    let items = p.items;
+    let count = p.count;
+    let components = c.count;
+    let mut pairs = c.pairs;
+    let mut marks = turns::no_marks();
     let mut fault = parse::refusal_at(0, 0, 0);
-    let mut after = Found::Nothing;
     let mut i = 0;
-    while i <= 64 {
-        let found = tree::next(tree, store, low, end, place, after);
-        match found {
-            Found::Nothing => break,
-            Found::At(n) => {
-                if 64 <= i {
-                    fault = parse::refusal_at(5, 25, 64);
+    let mut w = tree::keys_of(tree, l.place, l.end);
+    loop {
+        let step = tree::next_key(tree, store, w);
+        match step {
+            Key::End => break,
+            Key::At { value, rest } => {
+                if MOST_ENTRIES <= i {
+                    fault = parse::refusal_at(5, 25, MOST_ENTRIES);
                     break;
                 }
-                let e = crate::application::entry(tree, store, made, n, items, count);
+                let e = crate::application::entry(tree, store, made, value, items, count);
                 let mark = e.mark;
                 let pair = e.pair;
-                let at = behind + i;
+                let at = components + i;
                 fault = earlier_in(fault, 5, e.fault, i);
                 marks[i] = mark;
                 pairs[at] = pair;
-                after = Found::At(n);
                 i += 1;
+                w = rest;
             }
         }
     }
-    let own = layout::judge(store, marks, i, 65);
-    let all = behind + i;
+    let own = turns::judge_marks(store, marks, i, 65);
+    let all = components + i;
     Applied {
-        fault: fault,
+        fault,
         count: i,
-        own: own,
+        own,
         clash: crate::uses::first_clash(tree, store, made, pairs, all),
     }
 }

@@ -9,23 +9,23 @@ pub mod uses;
 use crate::gather::Applied;
 use crate::gather::Gathered;
 use crate::uses::Pair;
-use layout::Fault;
-use layout::Mark;
 use parse::Refusal;
+use parse::entry::Partitions;
 use schema::Chip;
-use schema::Partition;
-ghost use mathlib.Core.List.{map};
+use schema::MOST_ENTRIES;
+use schema::MOST_PARTITIONS;
+use turns::Fault;
+use turns::Mark;
 ghost use mathlib.Core.Path.{_≡_};
 ghost use Prim.Native.Nat.{_+_, _≤_};
-ghost use lib.ListN.{take};
-ghost use Rattle.layout.specs.Parts.{partName};
 ghost use Rattle.validate.specs.Gathered as gathered;
 ghost use Rattle.validate.specs.Faults as faults;
 ghost use Rattle.tree.specs.Doors.{Rooms};
 ghost use Rattle.parse.specs.Verdict.{Told};
 ghost use Rattle.validate.specs.Validated.{validating};
 
-// An entry read once: its record's fault, 0 for none; and what the rules ask of it: its mark, the packages it uses, and whether it lies in the first partition.
+// An entry read once: its record's fault, 0 for none, and what the rules ask of it:
+// its mark, the packages it uses, and whether it lies in the first partition.
 pub struct Entry {
     pub fault: u32,
     pub mark: Mark,
@@ -53,7 +53,7 @@ fn check_components(own: Fault, count: usize) -> Refusal
     in_entry(4, own)
 }
 
-// 60: in the components, then in the applications behind them.
+// 60: in the components, then in the applications after them.
 fn check_uses(at: usize, components: usize, applications: usize) -> Refusal
     requires { ⌜ (components ≤ 64) × (applications ≤ 64) ⌝ }
     ensures { λ r. ⌜ r ≡ faults.clashFault components (components + applications) at ⌝ }
@@ -79,7 +79,7 @@ fn check_first(first: bool) -> Refusal
 }
 
 // 60 to 70: the packages of all entries, the applications' own rules, the first partition.
-fn check_behind(components: usize, first: bool, a: Applied) -> Refusal
+fn check_rest(components: usize, first: bool, a: Applied) -> Refusal
     requires { ⌜ (components ≤ 64) × (a .count ≤ 64) ⌝ }
     ensures { λ r. ⌜ r ≡ faults.gatheredFault components first a ⌝ }
 {
@@ -100,19 +100,17 @@ fn judge_applications(
     tree: &[u8],
     store: &[u8],
     made: usize,
-    items: [Partition; 32],
-    count: usize,
+    p: Partitions,
     c: Gathered,
     rules: Refusal,
 ) -> Refusal
-    requires { ⌜ Rooms (now tree) made × (count ≤ 32) × gathered.Few c ⌝ }
-    ensures { λ r. ⌜ r ≡ faults.applicationsJudged (now (tree .entry)) (now (store .entry)) made (map (partName (now (store .entry))) (take count items)) rules (c .count) (take (c .count) (c .pairs)) (c .first) ⌝ }
+    requires { ⌜ Rooms (now tree) made × (p .count ≤ 32) × gathered.Few c ⌝ }
+    ensures { λ r. ⌜ r ≡ faults.applicationsAfter (now (tree .entry)) (now (store .entry)) made p rules c ⌝ }
 {
     let l = parse::view::application_list(tree, store, made);
     let cs = c.count;
     let first = c.first;
-    let pairs = c.pairs;
-    let a = gather::each_application(tree, store, made, l.place, l.end, items, count, pairs, cs);
+    let a = gather::each_application(tree, store, made, l, p, c);
     let fault = a.fault;
     let b = parse::earlier(parse::in_section(5, l.fault), fault);
     if b.number != 0 {
@@ -121,15 +119,15 @@ fn judge_applications(
     if rules.number != 0 {
         return rules;
     }
-    check_behind(cs, first, a)
+    check_rest(cs, first, a)
 }
 
 // 25, where a list has more entries than 64.
 fn check_length(section: u32, n: usize) -> Refusal
     ensures { λ r. ⌜ r ≡ faults.lengthFault section n ⌝ }
 {
-    if 64 < n {
-        return parse::refusal_at(section, 25, 64);
+    if MOST_ENTRIES < n {
+        return parse::refusal_at(section, 25, MOST_ENTRIES);
     }
     parse::refusal_at(0, 0, 0)
 }
@@ -139,12 +137,11 @@ fn judge_components(
     tree: &[u8],
     store: &[u8],
     made: usize,
-    items: [Partition; 32],
-    count: usize,
+    p: Partitions,
     rules: Refusal,
 ) -> Refusal
-    requires { ⌜ Rooms (now tree) made × (count ≤ 32) ⌝ }
-    ensures { λ r. ⌜ r ≡ faults.componentsJudged (now (tree .entry)) (now (store .entry)) made (map (partName (now (store .entry))) (take count items)) rules ⌝ }
+    requires { ⌜ Rooms (now tree) made × (p .count ≤ 32) ⌝ }
+    ensures { λ r. ⌜ r ≡ faults.componentsAfter (now (tree .entry)) (now (store .entry)) made p rules ⌝ }
 {
     let l = parse::view::component_list(tree, store, made);
     let n = tree::count_items(tree, l.end, l.place);
@@ -152,36 +149,39 @@ fn judge_components(
     if a.number != 0 {
         return a;
     }
-    let c = gather::each_component(tree, store, made, l.place, l.end, items, count);
+    let items = p.items;
+    let c = gather::each_component(tree, store, made, l, items, p.count);
     let b = c.fault;
     if b.number != 0 {
         return b;
     }
     let mine = c.own;
     let own = parse::earlier(rules, check_components(mine, c.count));
-    judge_applications(tree, store, made, items, count, c, own)
+    judge_applications(tree, store, made, p, c, own)
 }
 
-// The partitions, 40 to 48 beside the rules judged so far, and the lists behind.
+// The partitions, 40 to 48 beside the rules judged so far, and the lists after them.
 fn judge_partitions(tree: &[u8], store: &[u8], made: usize, chip: Chip, rules: Refusal) -> Refusal
     requires { ⌜ Rooms (now tree) made ⌝ }
     ensures { λ r. ⌜ r ≡ faults.partitionsJudged (now (tree .entry)) (now (store .entry)) made chip rules ⌝ }
 {
     let l = parse::view::partition_list(tree, store, made);
-    let p = parse::entry::read_partitions(tree, store, made, l, 32);
+    let p = parse::entry::read_partitions(tree, store, made, l, MOST_PARTITIONS);
     let fault = p.fault;
     let b = parse::earlier(parse::in_section(3, l.fault), fault);
     if b.number != 0 {
         return b;
     }
     let items = p.items;
-    let count = p.count;
-    let own = parse::earlier(rules, in_entry(3, layout::check(store, items, count, chip)));
-    judge_components(tree, store, made, items, count, own)
+    let own = parse::earlier(
+        rules,
+        in_entry(3, layout::check_layout(store, items, p.count, chip)),
+    );
+    judge_components(tree, store, made, p, own)
 }
 
 // The first refusal of the records, then of the rules: each entry is read once, and what rules say of it waits for the last record.
-pub fn judge(tree: &[u8], store: &[u8], made: usize, name: &[u8]) -> Refusal
+pub fn judge_rules(tree: &[u8], store: &[u8], made: usize, name: &[u8]) -> Refusal
     requires { ⌜ Rooms (now tree) made ⌝ }
     ensures { λ r. ⌜ Told (validating (now (name .entry)) (now (tree .entry)) (now (store .entry)) made) r ⌝ }
 {
@@ -194,6 +194,6 @@ pub fn judge(tree: &[u8], store: &[u8], made: usize, name: &[u8]) -> Refusal
     let board = f.board;
     let image = f.image;
     let chip = board.chip;
-    let rules = front::check(store, name, board, image);
+    let rules = front::check_front(store, name, board, image);
     judge_partitions(tree, store, made, chip, rules)
 }

@@ -2,22 +2,22 @@
 
 use schema::Component;
 use schema::Features;
-use schema::Text;
+use schema::spot::Spot;
+use schema::spot::list_at;
+use schema::spot::list_spot;
+use schema::spot::no_spot;
+use schema::spot::same_text;
+use schema::spot::text_spot;
 ghost use mathlib.Core.List.{[]};
 ghost use mathlib.Core.Path.{_≡_};
 ghost use Prim.Native.Nat.{_≤_};
 ghost use lib.ListN.{take};
-ghost use Rattle.meaning.specs.Rules as meant;
 ghost use Rattle.tree.specs.Doors.{Rooms};
-ghost use Rattle.layout.specs.Marks.{firstHit};
+ghost use Rattle.turns.specs.Marks.{firstHit};
 ghost use Rattle.validate.specs.Clashes as clashes;
 
-// A package or a feature list by where it is, in few bytes, since tables of them are handed on. kind 0: absent; 1: len bytes of the store; 2: the items of the array at place `from`.
-pub struct Spot {
-    pub kind: u16,
-    pub from: u16,
-    pub len: u16,
-}
+// As many components as there may be, and as many applications.
+pub const MOST_PAIRS: usize = 128;
 
 // An entry's packages with the features that they are to have.
 pub struct Pair {
@@ -27,123 +27,52 @@ pub struct Pair {
     pub pbp_features: Spot,
 }
 
-pub fn no_spot() -> Spot
-    ensures { λ r. ⌜ r ≡ clashes.noSpot ⌝ }
-{
-    Spot {
-        kind: 0,
-        from: 0,
-        len: 0,
-    }
-}
-
-fn bytes_spot(from: usize, len: usize) -> Spot
-    ensures { λ r. ⌜ r ≡ clashes.bytesSpot from len ⌝ }
-{
-    Spot {
-        kind: 1,
-        from: (from % 65536) as u16,
-        len: (len % 65536) as u16,
-    }
-}
-
-// No text of the store is longer.
-pub fn text_spot(t: Text) -> Spot
-    ensures { λ r. ⌜ r ≡ clashes.textSpot t ⌝ }
-{
-    match t {
-        Text::Absent => no_spot(),
-        Text::Stored { from, len } => bytes_spot(from, len),
-        Text::Lent => no_spot(),
-        Text::Fixed(_) => no_spot(),
-        Text::WithAic { from: _, len: _ } => no_spot(),
-    }
-}
-
-pub fn list_spot(f: Features) -> Spot
-    ensures { λ r. ⌜ r ≡ clashes.listSpot f ⌝ }
-{
-    match f {
-        Features::Absent => no_spot(),
-        Features::Words { from, len } => bytes_spot(from, len),
-        Features::Items(place) => Spot {
-            kind: 2,
-            from: place,
-            len: 0,
-        },
-    }
-}
-
-// The feature list at a spot.
-pub fn list_at(s: Spot) -> Features
-    ensures { λ r. ⌜ r ≡ clashes.listAt s ⌝ }
-{
-    if s.kind == 1 {
-        return Features::Words {
-            from: s.from as usize,
-            len: s.len as usize,
-        };
-    }
-    if s.kind == 2 {
-        return Features::Items(s.from);
-    }
-    Features::Absent
-}
-
-// The text at a spot.
-pub fn text_at(s: Spot) -> Text
-    ensures { λ r. ⌜ r ≡ clashes.textAt s ⌝ }
-{
-    if s.kind == 1 {
-        return Text::Stored {
-            from: s.from as usize,
-            len: s.len as usize,
-        };
-    }
-    Text::Absent
-}
-
-// Whether both are there and have the same bytes.
-pub fn twice(store: &[u8], p: Text, q: Text) -> bool
-    ensures { λ r. ⌜ r ≡ meant.twice (clashes.packed (now (store .entry)) p) (clashes.packed (now (store .entry)) q) ⌝ }
-{
-    if let Text::Stored { from, len } = p {
-        if let Text::Stored { from: at, len: n } = q {
-            return slices::same(
-                schema::stored(store, from, len),
-                schema::stored(store, at, n),
-            );
-        }
-        return false;
-    }
-    false
-}
-
-// The same of two spots.
-pub fn agree(store: &[u8], p: Spot, q: Spot) -> bool
-    ensures { λ r. ⌜ r ≡ meant.twice (clashes.spotted (now (store .entry)) p) (clashes.spotted (now (store .entry)) q) ⌝ }
-{
-    if p.kind == 1 {
-        if q.kind == 1 {
-            return slices::same(
-                schema::stored(store, p.from as usize, p.len as usize),
-                schema::stored(store, q.from as usize, q.len as usize),
-            );
-        }
-        return false;
-    }
-    false
+// One package with the features that it is to have.
+struct Use {
+    package: Spot,
+    features: Spot,
 }
 
 // Whether it is one package with two feature sets.
-fn differ(tree: &[u8], store: &[u8], made: usize, p: Spot, f: Spot, q: Spot, g: Spot) -> bool
+fn differ(tree: &[u8], store: &[u8], made: usize, u: Use, v: Use) -> bool
     requires { ⌜ Rooms (now tree) made ⌝ }
-    ensures { λ r. ⌜ r ≡ clashes.differ (now (tree .entry)) (now (store .entry)) made p f q g ⌝ }
+    ensures { λ r. ⌜ r ≡ clashes.differ (now (tree .entry)) (now (store .entry)) made u v ⌝ }
 {
-    if agree(store, p, q) {
+    let p = u.package;
+    let f = u.features;
+    let q = v.package;
+    let g = v.features;
+    if same_text(store, p, q) {
         return !features::equal(tree, store, made, list_at(f), list_at(g));
     }
     false
+}
+
+fn own_use(a: Pair) -> Use
+    ensures { λ r. ⌜ r ≡ clashes.ownUse a ⌝ }
+{
+    let package = a.package;
+    let features = a.features;
+    Use { package, features }
+}
+
+fn pbp_use(a: Pair) -> Use
+    ensures { λ r. ⌜ r ≡ clashes.pbpUse a ⌝ }
+{
+    let package = a.pbp_package;
+    let features = a.pbp_features;
+    Use { package, features }
+}
+
+// Whether a use and some use of an entry differ.
+fn use_differs(tree: &[u8], store: &[u8], made: usize, u: Use, b: Pair) -> bool
+    requires { ⌜ Rooms (now tree) made ⌝ }
+    ensures { λ r. ⌜ r ≡ clashes.useDiffers (now (tree .entry)) (now (store .entry)) made u b ⌝ }
+{
+    if differ(tree, store, made, u, own_use(b)) {
+        return true;
+    }
+    differ(tree, store, made, u, pbp_use(b))
 }
 
 // Whether some use of one entry and some use of another differ.
@@ -151,74 +80,60 @@ fn clash(tree: &[u8], store: &[u8], made: usize, a: Pair, b: Pair) -> bool
     requires { ⌜ Rooms (now tree) made ⌝ }
     ensures { λ r. ⌜ r ≡ clashes.clash (now (tree .entry)) (now (store .entry)) made a b ⌝ }
 {
-    let p = a.package;
-    let f = a.features;
-    let p2 = a.pbp_package;
-    let f2 = a.pbp_features;
-    let q = b.package;
-    let g = b.features;
-    let q2 = b.pbp_package;
-    let g2 = b.pbp_features;
-    if differ(tree, store, made, p, f, q, g) {
+    if use_differs(tree, store, made, own_use(a), b) {
         return true;
     }
-    if differ(tree, store, made, p, f, q2, g2) {
-        return true;
-    }
-    if differ(tree, store, made, p2, f2, q, g) {
-        return true;
-    }
-    differ(tree, store, made, p2, f2, q2, g2)
+    use_differs(tree, store, made, pbp_use(a), b)
 }
 
 // Whether an entry uses a package.
-fn has(store: &[u8], p: Spot, b: Pair) -> bool
-    ensures { λ r. ⌜ r ≡ clashes.has (now (store .entry)) p b ⌝ }
+fn uses_package(store: &[u8], p: Spot, b: Pair) -> bool
+    ensures { λ r. ⌜ r ≡ clashes.usesPackage (now (store .entry)) p b ⌝ }
 {
     let q = b.package;
     let q2 = b.pbp_package;
-    if agree(store, p, q) {
+    if same_text(store, p, q) {
         return true;
     }
-    agree(store, p, q2)
+    same_text(store, p, q2)
 }
 
 // Whether two entries use one package.
-fn meet(store: &[u8], a: Pair, b: Pair) -> bool
-    ensures { λ r. ⌜ r ≡ clashes.meet (now (store .entry)) a b ⌝ }
+fn share_package(store: &[u8], a: Pair, b: Pair) -> bool
+    ensures { λ r. ⌜ r ≡ clashes.sharePackage (now (store .entry)) a b ⌝ }
 {
     let p = a.package;
     let p2 = a.pbp_package;
-    if has(store, p, b) {
+    if uses_package(store, p, b) {
         return true;
     }
-    has(store, p2, b)
+    uses_package(store, p2, b)
 }
 
 // A package that an entry does not use; none where it does.
-fn unmet(store: &[u8], p: Spot, b: Pair) -> Spot
-    ensures { λ r. ⌜ r ≡ clashes.unmet (now (store .entry)) p b ⌝ }
+fn package_beyond(store: &[u8], p: Spot, b: Pair) -> Spot
+    ensures { λ r. ⌜ r ≡ clashes.packageBeyond (now (store .entry)) p b ⌝ }
 {
-    if has(store, p, b) {
+    if uses_package(store, p, b) {
         return no_spot();
     }
     p
 }
 
 // What an entry uses that another does not.
-fn left(store: &[u8], a: Pair, b: Pair) -> Pair
-    ensures { λ r. ⌜ r ≡ clashes.left (now (store .entry)) a b ⌝ }
+fn uses_beyond(store: &[u8], a: Pair, b: Pair) -> Pair
+    ensures { λ r. ⌜ r ≡ clashes.usesBeyond (now (store .entry)) a b ⌝ }
 {
     let p = a.package;
     let f = a.features;
     let p2 = a.pbp_package;
     let f2 = a.pbp_features;
-    let package = unmet(store, p, b);
-    let pbp_package = unmet(store, p2, b);
+    let package = package_beyond(store, p, b);
+    let pbp_package = package_beyond(store, p2, b);
     Pair {
-        package: package,
+        package,
         features: f,
-        pbp_package: pbp_package,
+        pbp_package,
         pbp_features: f2,
     }
 }
@@ -228,7 +143,7 @@ pub fn first_clash(
     tree: &[u8],
     store: &[u8],
     made: usize,
-    pairs: [Pair; 128],
+    pairs: [Pair; MOST_PAIRS],
     count: usize,
 ) -> usize
     requires { ⌜ Rooms (now tree) made × (count ≤ 128) ⌝ }
@@ -240,57 +155,55 @@ pub fn first_clash(
         let mut rest = pairs[i];
         for j in 0..i {
             let b = pairs[j];
-            if !meet(store, rest, b) {
+            if !share_package(store, rest, b) {
                 continue;
             }
             if clash(tree, store, made, rest, b) {
                 found = i;
                 break 'later;
             }
-            rest = left(store, rest, b);
+            rest = uses_beyond(store, rest, b);
         }
     }
     found
 }
 
-fn spots(package: Text, features: Features, pbp_package: Text, pbp_features: Features) -> Pair
-    ensures { λ r. ⌜ r ≡ clashes.spots «package» features «pbp_package» «pbp_features» ⌝ }
-{
-    Pair {
-        package: text_spot(package),
-        features: list_spot(features),
-        pbp_package: text_spot(pbp_package),
-        pbp_features: list_spot(pbp_features),
-    }
-}
-
 // "Where a component's `pbp_package` is its `package`, only `pbp_features` count."
-pub fn pair_of(store: &[u8], c: Component) -> Pair
-    ensures { λ r. ⌜ r ≡ clashes.pairOf (now (store .entry)) c ⌝ }
+pub fn pair_of_component(store: &[u8], c: Component) -> Pair
+    ensures { λ r. ⌜ r ≡ clashes.pairOfComponent (now (store .entry)) c ⌝ }
 {
     let head = c.head;
     let role = c.role;
     let boot = c.boot;
-    let package = head.package;
-    let features = role.features;
-    let pbp_package = boot.pbp_package;
-    let pbp_features = role.pbp_features;
-    if twice(store, package, pbp_package) {
-        return spots(package, pbp_features, pbp_package, pbp_features);
+    let own = head.package;
+    let own_features = role.features;
+    let pbp = boot.pbp_package;
+    let pbp_list = role.pbp_features;
+    let package = text_spot(own);
+    let pbp_package = text_spot(pbp);
+    let pbp_features = list_spot(pbp_list);
+    if same_text(store, package, pbp_package) {
+        return Pair {
+            package,
+            features: pbp_features,
+            pbp_package,
+            pbp_features,
+        };
     }
-    spots(package, features, pbp_package, pbp_features)
+    Pair {
+        package,
+        features: list_spot(own_features),
+        pbp_package,
+        pbp_features,
+    }
 }
 
 // An application's package is its key.
-pub fn single(key: u16, len: u16, features: Features) -> Pair
-    ensures { λ r. ⌜ r ≡ clashes.single key len features ⌝ }
+pub fn pair_of_application(key: Spot, features: Features) -> Pair
+    ensures { λ r. ⌜ r ≡ clashes.pairOfApplication key features ⌝ }
 {
     Pair {
-        package: Spot {
-            kind: 1,
-            from: key,
-            len: len,
-        },
+        package: key,
         features: list_spot(features),
         pbp_package: no_spot(),
         pbp_features: no_spot(),

@@ -1,5 +1,5 @@
 use borrow.Author.Needs.{needs}
-use Rattle.layout.proofs.Judging.{same-of}
+use Rattle.turns.proofs.Judging.{same-of}
 use Rattle.layout.proofs.bears.Statement.{statement}
 use Rattle.layout.proofs.bears.Tie as tie
 use Rattle.layout.proofs.bears.Reads as reads

@@ -1,3 +1,4 @@
+-- The marks made so far are those of the first i partitions, and the last of these ends where the next is measured from.
 use borrow.Author.Needs.{needs}
 use Prim.Native.Nat.{_-_}
 use Rattle.layout.proofs.Marking.{Made, marks-start, marks-on, marks-end}
@@ -7,7 +8,7 @@ use Rattle.layout.proofs.marks_of.Reads as reads
 use Rattle.layout.proofs.marks_of.Lts as lts
 use Rattle.layout.proofs.end_of.Reads as end-of-reads
 use Rattle.layout.proofs.mark_of.Reads as mark-of-reads
-use Rattle.layout.proofs.no_marks.Reads as no-marks-reads
+use Rattle.turns.proofs.no_marks.Reads as no-marks-reads
 
 abbrev Inv-loop : tie.InvT-loop
 Inv-loop bytes count block items entries₀ end₀ i₀ entries end i = Made bytes block items count entries end i

@@ -5,8 +5,8 @@ use Rattle.preset.proofs.judge_rooms.Tie as tie
 use Rattle.preset.proofs.judge_rooms.Reads as reads
 use Rattle.preset.proofs.judge_rooms.Lts as lts
 use Rattle.parse.proofs.judge_records.Reads as judge-records-reads
-use Rattle.plan.proofs.judge.Reads as judge-reads
-use Rattle.validate.proofs.judge.Reads as judge-reads′
+use Rattle.plan.proofs.judge_selection.Reads as judge-selection-reads
+use Rattle.validate.proofs.judge_rules.Reads as judge-rules-reads
 
 enum-told : tie.Need-enum-told
 enum-told c = search needs
@@ -17,14 +17,14 @@ judge-records-requires c κs = search needs
 enum-told-2 : tie.Need-enum-told-2
 enum-told-2 c = search needs
 
-judge-requires : tie.Need-judge-requires
-judge-requires c κs = search needs
+judge-rules-requires : tie.Need-judge-rules-requires
+judge-rules-requires c κs = search needs
 
 enum-known-way : tie.Need-enum-known-way
 enum-known-way c = search needs
 
-judge-requires-2 : tie.Need-judge-requires-2
-judge-requires-2 c κs = search needs
+judge-selection-requires : tie.Need-judge-selection-requires
+judge-selection-requires c κs = search needs
 
 returns : tie.Need-returns
 returns c = search (needs, read-judged)
@@ -42,9 +42,9 @@ judge-rooms-spec =
     enum-told
     judge-records-requires
     enum-told-2
-    judge-requires
+    judge-rules-requires
     enum-known-way
-    judge-requires-2
+    judge-selection-requires
     returns
     returns-2
     returns-3)

@@ -30,4 +30,10 @@ returns c = search (needs, wrote-then)
 pub entry-lines-spec : {M : Type 1} → statement M
 entry-lines-spec =
     tie.close
-    (tie.spec ok-requires parts-requires comps-requires apps-requires same-length returns)
+    (tie.spec
+    ok-requires
+    parts-requires
+    comps-requires
+    apps-requires
+    same-length
+    returns)

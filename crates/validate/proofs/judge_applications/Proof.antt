@@ -7,7 +7,7 @@ use Rattle.validate.proofs.judge_applications.Lts as lts
 use Rattle.parse.proofs.earlier.Reads as earlier-reads
 use Rattle.parse.proofs.in_section.Reads as in-section-reads
 use Rattle.parse.proofs.view.application_list.Reads as application-list-reads
-use Rattle.validate.proofs.check_behind.Reads as check-behind-reads
+use Rattle.validate.proofs.check_rest.Reads as check-rest-reads
 use Rattle.validate.proofs.gather.each_application.Reads as each-application-reads
 
 application-list-requires : tie.Need-application-list-requires
@@ -28,8 +28,8 @@ returns c = search (needs, applications-refused)
 returns-2 : tie.Need-returns-2
 returns-2 c = search (needs, rules-refused)
 
-check-behind-requires : tie.Need-check-behind-requires
-check-behind-requires c κs = search (needs, applications-few)
+check-rest-requires : tie.Need-check-rest-requires
+check-rest-requires c κs = search (needs, applications-few)
 
 returns-3 : tie.Need-returns-3
 returns-3 c = search (needs, applications-passed)
@@ -44,5 +44,5 @@ judge-applications-spec =
     earlier-requires
     returns
     returns-2
-    check-behind-requires
+    check-rest-requires
     returns-3)

@@ -1,3 +1,4 @@
+-- Where no component has a fault there are few, and what was gathered of them is what 01 asks of them; the paths are too long for the search.
 use borrow.Author.Needs.{needs}
 use Rattle.parse.proofs.Judging.{components-hold}
 use Rattle.validate.proofs.Judging.{components-counted, components-few, components-passed, components-refused, list-refused}
@@ -47,23 +48,23 @@ earlier-requires-2 c κs = search needs
 judge-applications-requires : tie.Need-judge-applications-requires
 judge-applications-requires c κs =
     let g = c .before .before .before .before .before .before in
-    let a = g .before .before .before in
+    let a = g .before .before .before .before in
     let l = a .before .before .before .before in
     let p = l .before .before .before in (
       p .pre .0,
       p .pre .1,
       components-few _ _ _ _ (l .component-list .ensures) _ (a .before .before .before .count-items .ensures) _ _ _ (a .before .before .in-section .ensures) (a .before .check-length .ensures) (a .earlier .ensures)
-          (g .before .if1 .left) _ _ (g .each-component .ensures) (c .before .before .before .if2 .left),
+          (g .before .before .if1 .left) _ _ (g .each-component .ensures) (c .before .before .before .if2 .left),
     )
 
 returns-3 : tie.Need-returns-3
 returns-3 c =
     let d = c .before in
     let g = d .before .before .before .before .before .before in
-    let a = g .before .before .before in
+    let a = g .before .before .before .before in
     let l = a .before .before .before .before in
     components-passed _ _ _ _ (l .component-list .ensures) _ (a .before .before .before .count-items .ensures) _ _ _ (a .before .before .in-section .ensures) (a .before .check-length .ensures) (a .earlier .ensures)
-    (g .before .if1 .left) _ _ (g .each-component .ensures) (d .before .before .before .if2 .left) _ _ _ _ (d .before .check-components .ensures) (d .earlier2 .ensures) (c .judge-applications .ensures)
+    (g .before .before .if1 .left) _ _ (g .each-component .ensures) (d .before .before .before .if2 .left) _ _ _ _ (d .before .check-components .ensures) (d .earlier2 .ensures) (c .judge-applications .ensures)
 
 pub judge-components-spec : {M : Type 1} → statement M
 judge-components-spec =

@@ -5,7 +5,7 @@ use Rattle.validate.proofs.judge_partitions.Statement.{statement}
 use Rattle.validate.proofs.judge_partitions.Tie as tie
 use Rattle.validate.proofs.judge_partitions.Reads as reads
 use Rattle.validate.proofs.judge_partitions.Lts as lts
-use Rattle.layout.proofs.check.Reads as check-reads
+use Rattle.layout.proofs.check_layout.Reads as check-layout-reads
 use Rattle.parse.proofs.earlier.Reads as earlier-reads
 use Rattle.parse.proofs.entry.read_partitions.Reads as read-partitions-reads
 use Rattle.parse.proofs.in_section.Reads as in-section-reads
@@ -28,8 +28,8 @@ earlier-requires c κs = search needs
 returns : tie.Need-returns
 returns c = search (needs, partitions-refused)
 
-check-requires : tie.Need-check-requires
-check-requires c κs = search (needs, parts-fit)
+check-layout-requires : tie.Need-check-layout-requires
+check-layout-requires c κs = search (needs, parts-fit)
 
 in-entry-requires : tie.Need-in-entry-requires
 in-entry-requires c κs = search needs
@@ -52,7 +52,7 @@ judge-partitions-spec =
     in-section-requires
     earlier-requires
     returns
-    check-requires
+    check-layout-requires
     in-entry-requires
     earlier-requires-2
     judge-components-requires

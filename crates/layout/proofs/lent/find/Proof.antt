@@ -46,7 +46,7 @@ use denote.Exit.{yes}
 use Rattle.schema.specs.declared.Partition.{Partition}
 use Rattle.schema.proofs.Partition as T
 use Rattle.schema.proofs.Partition.Laws as T′
-use Rattle.layout.specs.Marks.{rank}
+use Rattle.layout.specs.Parts.{rank}
 use Rattle.layout.specs.Parts.{partName}
 use Rattle.layout.proofs.Walking.{typeAt}
 use Rattle.layout.proofs.lent.scan as scan

@@ -50,7 +50,7 @@ use Rattle.meaning.specs.Base.{same}
 use Rattle.schema.specs.declared.Partition.{Partition}
 use Rattle.schema.proofs.Partition as T
 use Rattle.schema.proofs.Partition.Laws as T′
-use Rattle.layout.specs.Marks.{rank}
+use Rattle.layout.specs.Parts.{rank}
 use Rattle.layout.specs.Parts.{partName}
 use Rattle.layout.proofs.Checking.{noPart}
 use Rattle.layout.proofs.Finding.{Seeking, find-start, find-on, find-hit, find-end}

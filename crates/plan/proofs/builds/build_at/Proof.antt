@@ -4,8 +4,8 @@ use Rattle.plan.proofs.builds.build_at.Statement.{statement}
 use Rattle.plan.proofs.builds.build_at.Tie as tie
 use Rattle.plan.proofs.builds.build_at.Reads as reads
 use Rattle.plan.proofs.builds.build_at.Lts as lts
-use Rattle.validate.proofs.uses.list_at.Reads as list-at-reads
-use Rattle.validate.proofs.uses.text_at.Reads as text-at-reads
+use Rattle.schema.proofs.spot.list_at.Reads as list-at-reads
+use Rattle.schema.proofs.spot.text_at.Reads as text-at-reads
 
 text-at-requires : tie.Need-text-at-requires
 text-at-requires c κs = search needs

@@ -1,38 +1,43 @@
+-- The uses of the components met stand in the array, and with those to come they are those of all, up to 64.
 use borrow.Author.Needs.{needs}
-use Prim.Native.Nat.{_-_}
-use Rattle.parse.proofs.Entering.{holds-end, item-fits, item-less, item-stood}
-use Rattle.plan.proofs.Building.{Gathering, comps-end, comps-full, comps-none, comps-on, comps-room, comps-start}
+use lib.ListN.{length}
+use Rattle.tree.specs.Steps.{toCome, item-fewer}
+use Rattle.plan.proofs.Building.{Gathering, comps-start, comps-holds, comps-stood, comps-room, comps-on, comps-none, comps-full}
 use Rattle.plan.proofs.builds.each_component.Statement.{statement}
 use Rattle.plan.proofs.builds.each_component.Tie as tie
 use Rattle.plan.proofs.builds.each_component.Reads as reads
 use Rattle.plan.proofs.builds.each_component.Lts as lts
 use Rattle.plan.proofs.builds.no_builds.Reads as no-builds-reads
 use Rattle.plan.proofs.builds.wanted_at.Reads as wanted-at-reads
-use Rattle.tree.proofs.child.Reads as child-reads
+use Rattle.tree.proofs.items_of.Reads as items-of-reads
+use Rattle.tree.proofs.next_item.Reads as next-item-reads
 
 abbrev Inv-loop : tie.InvT-loop
-Inv-loop tree store made place end items₀ i₀ from₀ items i from = Gathering tree store made place end items i from
+Inv-loop tree store made place end items₀ i₀ w₀ items i w = Gathering tree store made place end items i w
 
 abbrev μ-loop : tie.MeasureT-loop
-μ-loop tree store made place end items₀ i₀ from₀ items i from = end - from
+μ-loop tree store made place end items₀ i₀ w₀ items i w = length (toCome tree w)
 
 no-builds-requires : tie.Need-no-builds-requires Inv-loop μ-loop
 no-builds-requires c κs = search needs
 
+items-of-requires : tie.Need-items-of-requires Inv-loop μ-loop
+items-of-requires c κs = search needs
+
 loop-holds : tie.Need-loop-holds Inv-loop μ-loop
 loop-holds c = search (needs, comps-start)
 
-child-requires : tie.Need-child-requires Inv-loop μ-loop
-child-requires c κs = search (needs, holds-end)
+next-item-requires : tie.Need-next-item-requires Inv-loop μ-loop
+next-item-requires c κs = search (needs, comps-holds)
 
 enum-told : tie.Need-enum-told Inv-loop μ-loop
 enum-told c = search needs
 
-enum-known-found : tie.Need-enum-known-found Inv-loop μ-loop
-enum-known-found c = search needs
+enum-known-step : tie.Need-enum-known-step Inv-loop μ-loop
+enum-known-step c = search needs
 
 wanted-at-requires : tie.Need-wanted-at-requires Inv-loop μ-loop
-wanted-at-requires c κs = search (needs, item-stood)
+wanted-at-requires c κs = search (needs, comps-stood)
 
 add-next : tie.Need-add-next Inv-loop μ-loop
 add-next c = search (needs, comps-room)
@@ -52,23 +57,17 @@ array-set-from-items-2 c = search (needs, comps-room)
 add-i : tie.Need-add-i Inv-loop μ-loop
 add-i c = search (needs, comps-room)
 
-add-from : tie.Need-add-from Inv-loop μ-loop
-add-from c = search (needs, item-fits)
-
 loop-less : tie.Need-loop-less Inv-loop μ-loop
-loop-less c = search (needs, item-less)
+loop-less c = search (needs, item-fewer)
 
 loop-again : tie.Need-loop-again Inv-loop μ-loop
 loop-again c = search (needs, comps-on)
 
 returns : tie.Need-returns Inv-loop μ-loop
-returns c = search (needs, comps-end, comps-none, comps-full)
+returns c = search (needs, comps-none, comps-full)
 
 returns-2 : tie.Need-returns-2 Inv-loop μ-loop
-returns-2 c = search (needs, comps-end, comps-none, comps-full)
-
-returns-3 : tie.Need-returns-3 Inv-loop μ-loop
-returns-3 c = search (needs, comps-end, comps-none, comps-full)
+returns-2 c = search (needs, comps-none, comps-full)
 
 pub each-component-spec : {M : Type 1} → statement M
 each-component-spec =
@@ -77,10 +76,11 @@ each-component-spec =
     Inv-loop
     μ-loop
     no-builds-requires
+    items-of-requires
     loop-holds
-    child-requires
+    next-item-requires
     enum-told
-    enum-known-found
+    enum-known-step
     wanted-at-requires
     add-next
     mul-items
@@ -88,9 +88,7 @@ each-component-spec =
     mul-items-2
     array-set-from-items-2
     add-i
-    add-from
     loop-less
     loop-again
     returns
-    returns-2
-    returns-3)
+    returns-2)

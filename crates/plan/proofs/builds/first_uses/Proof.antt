@@ -1,3 +1,4 @@
+-- The first uses among those before number i stand in the array, and use number i is of no package that one before number j is of.
 use borrow.Author.Needs.{needs}
 use Prim.Native.Nat.{_-_}
 use lib.ListN.{getD}
@@ -8,7 +9,7 @@ use Rattle.plan.proofs.builds.first_uses.Tie as tie
 use Rattle.plan.proofs.builds.first_uses.Reads as reads
 use Rattle.plan.proofs.builds.first_uses.Lts as lts
 use Rattle.plan.proofs.builds.no_builds.Reads as no-builds-reads
-use Rattle.validate.proofs.uses.agree.Reads as agree-reads
+use Rattle.schema.proofs.spot.same_text.Reads as same-text-reads
 
 abbrev Inv-loop : tie.InvT-loop
 Inv-loop store count uses items n i₀ u p j₀ i j = Unused store uses (getD uses i₀ noUse) i₀ i j
@@ -52,8 +53,8 @@ mul-v c = search (needs, unused-low)
 array-copy-out-v : tie.Need-array-copy-out-v Inv-loop μ-loop Inv-next μ-next
 array-copy-out-v c = search (needs, number-low)
 
-agree-requires : tie.Need-agree-requires Inv-loop μ-loop Inv-next μ-next
-agree-requires c κs = search needs
+same-text-requires : tie.Need-same-text-requires Inv-loop μ-loop Inv-next μ-next
+same-text-requires c κs = search needs
 
 add-i-2 : tie.Need-add-i-2 Inv-loop μ-loop Inv-next μ-next
 add-i-2 c = search (needs, number-low)
@@ -112,7 +113,7 @@ first-uses-spec =
     loop-holds
     mul-v
     array-copy-out-v
-    agree-requires
+    same-text-requires
     add-i-2
     next-less-2
     next-again-2

@@ -4,7 +4,7 @@ use Rattle.plan.proofs.builds.no_builds.Statement.{statement}
 use Rattle.plan.proofs.builds.no_builds.Tie as tie
 use Rattle.plan.proofs.builds.no_builds.Reads as reads
 use Rattle.plan.proofs.builds.no_builds.Lts as lts
-use Rattle.validate.proofs.uses.no_spot.Reads as no-spot-reads
+use Rattle.schema.proofs.spot.no_spot.Reads as no-spot-reads
 
 no-spot-requires : tie.Need-no-spot-requires
 no-spot-requires c κs = search needs

@@ -5,8 +5,8 @@ use Rattle.plan.proofs.builds.using.Tie as tie
 use Rattle.plan.proofs.builds.using.Reads as reads
 use Rattle.plan.proofs.builds.using.Lts as lts
 use Rattle.schema.proofs.Text.or.Reads as or-reads
-use Rattle.validate.proofs.uses.list_spot.Reads as list-spot-reads
-use Rattle.validate.proofs.uses.text_spot.Reads as text-spot-reads
+use Rattle.schema.proofs.spot.list_spot.Reads as list-spot-reads
+use Rattle.schema.proofs.spot.text_spot.Reads as text-spot-reads
 
 text-spot-requires : tie.Need-text-spot-requires
 text-spot-requires c κs = search needs

@@ -1,29 +1,30 @@
+-- No application met so far has the key, so the first of those to come that has it is the first of all.
 use borrow.Author.Needs.{needs}
 use Prim.Native.Nat.{_-_}
 use Rattle.parse.proofs.Entering.{holds-end}
-use Rattle.plan.proofs.Choosing.{Seeking, seek-start, seek-on, seek-end, seek-none, seek-stood, seek-hit}
+use Rattle.plan.proofs.Choosing.{Seeking, seek-start, seek-on, seek-none, seek-hit, seek-end, seek-stood}
 use Rattle.plan.proofs.choice.declared.Statement.{statement}
 use Rattle.plan.proofs.choice.declared.Tie as tie
 use Rattle.plan.proofs.choice.declared.Reads as reads
 use Rattle.plan.proofs.choice.declared.Lts as lts
 use Rattle.plan.proofs.choice.keyed.Reads as keyed-reads
-use Rattle.tree.proofs.next.Reads as next-reads
-use Rattle.tree.proofs.skip_up.Reads as skip-up-reads
+use Rattle.tree.proofs.keys_of.Reads as keys-of-reads
+use Rattle.tree.proofs.next_key.Reads as next-key-reads
 
 abbrev Inv-loop : tie.InvT-loop
-Inv-loop tree store made key place end low after₀ i₀ after i = Seeking tree store key end place after i
+Inv-loop tree store made key w₀ i₀ w i = Seeking tree store key w₀ w i
 
 abbrev μ-loop : tie.MeasureT-loop
-μ-loop tree store made key place end low after₀ i₀ after i = 65 - i
+μ-loop tree store made key w₀ i₀ w i = 65 - i
 
-skip-up-requires : tie.Need-skip-up-requires Inv-loop μ-loop
-skip-up-requires c κs = search (needs, holds-end)
+keys-of-requires : tie.Need-keys-of-requires Inv-loop μ-loop
+keys-of-requires c κs = search (needs, holds-end)
 
 loop-holds : tie.Need-loop-holds Inv-loop μ-loop
 loop-holds c = search (needs, seek-start)
 
-next-requires : tie.Need-next-requires Inv-loop μ-loop
-next-requires c κs = search (needs, holds-end)
+next-key-requires : tie.Need-next-key-requires Inv-loop μ-loop
+next-key-requires c κs = search needs
 
 enum-told : tie.Need-enum-told Inv-loop μ-loop
 enum-told c = search needs
@@ -31,8 +32,8 @@ enum-told c = search needs
 returns : tie.Need-returns Inv-loop μ-loop
 returns c = search (needs, seek-none)
 
-enum-known-found : tie.Need-enum-known-found Inv-loop μ-loop
-enum-known-found c = search needs
+enum-known-step : tie.Need-enum-known-step Inv-loop μ-loop
+enum-known-step c = search needs
 
 keyed-requires : tie.Need-keyed-requires Inv-loop μ-loop
 keyed-requires c κs = search (needs, seek-stood)
@@ -58,12 +59,12 @@ declared-spec =
     (tie.spec
     Inv-loop
     μ-loop
-    skip-up-requires
+    keys-of-requires
     loop-holds
-    next-requires
+    next-key-requires
     enum-told
     returns
-    enum-known-found
+    enum-known-step
     keyed-requires
     returns-2
     add-i

@@ -6,16 +6,10 @@ use Rattle.plan.proofs.choice.keyed.Reads as reads
 use Rattle.plan.proofs.choice.keyed.Lts as lts
 use Rattle.schema.proofs.stored.Reads as stored-reads
 use Rattle.slices.proofs.same.Reads as same-reads
-use Rattle.tree.proofs.get.Reads as get-reads
+use Rattle.tree.proofs.key_at.Reads as key-at-reads
 
-get-requires : tie.Need-get-requires
-get-requires c κs = search needs
-
-cast-stored : tie.Need-cast-stored
-cast-stored c = search needs
-
-cast-stored-2 : tie.Need-cast-stored-2
-cast-stored-2 c = search needs
+key-at-requires : tie.Need-key-at-requires
+key-at-requires c κs = search needs
 
 stored-requires : tie.Need-stored-requires
 stored-requires c κs = search needs
@@ -29,4 +23,8 @@ returns c = search (needs, key-is)
 pub keyed-spec : {M : Type 1} → statement M
 keyed-spec =
     tie.close
-    (tie.spec get-requires cast-stored cast-stored-2 stored-requires same-requires returns)
+    (tie.spec
+    key-at-requires
+    stored-requires
+    same-requires
+    returns)

@@ -6,7 +6,7 @@ use Rattle.plan.proofs.component.composed.Reads as reads
 use Rattle.plan.proofs.component.composed.Lts as lts
 use Rattle.plan.proofs.component.ahead.Reads as ahead-reads
 use Rattle.plan.proofs.component.own.Reads as own-reads
-use Rattle.plan.proofs.component.selected.Reads as selected-reads
+use Rattle.plan.proofs.component.planned_application.Reads as planned-application-reads
 
 ahead-requires : tie.Need-ahead-requires
 ahead-requires c κs = search needs
@@ -17,8 +17,8 @@ own-requires c κs = search needs
 returns : tie.Need-returns
 returns c = search (needs, composed-before)
 
-selected-requires : tie.Need-selected-requires
-selected-requires c κs = search needs
+planned-application-requires : tie.Need-planned-application-requires
+planned-application-requires c κs = search needs
 
 returns-2 : tie.Need-returns-2
 returns-2 c = search (needs, composed-here)
@@ -39,7 +39,7 @@ composed-spec =
     ahead-requires
     own-requires
     returns
-    selected-requires
+    planned-application-requires
     returns-2
     sub-own
     own-requires-2

@@ -35,8 +35,8 @@ returns-2 c = search needs
 returns-3 : tie.Need-returns-3
 returns-3 c = search (needs, total-more)
 
-pub count-items-spec : {M : Type 1} → statement M
-count-items-spec =
+pub count-spec : {M : Type 1} → statement M
+count-spec =
     tie.close
     (tie.spec
     component-list-requires

@@ -4,10 +4,10 @@ use Rattle.plan.proofs.component.head_left.Statement.{statement}
 use Rattle.plan.proofs.component.head_left.Tie as tie
 use Rattle.plan.proofs.component.head_left.Reads as reads
 use Rattle.plan.proofs.component.head_left.Lts as lts
-use Rattle.validate.proofs.component.there.Reads as there-reads
+use Rattle.schema.proofs.Text.is_given.Reads as is-given-reads
 
-there-requires : tie.Need-there-requires
-there-requires c κs = search needs
+is-given-requires : tie.Need-is-given-requires
+is-given-requires c κs = search needs
 
 returns : tie.Need-returns
 returns c = search (needs, left-whole)
@@ -16,4 +16,4 @@ returns-2 : tie.Need-returns-2
 returns-2 c = search (needs, left-without)
 
 pub head-left-spec : {M : Type 1} → statement M
-head-left-spec = tie.close (tie.spec there-requires returns returns-2)
+head-left-spec = tie.close (tie.spec is-given-requires returns returns-2)

@@ -5,16 +5,16 @@ use Rattle.plan.proofs.component.pbp_payload.Tie as tie
 use Rattle.plan.proofs.component.pbp_payload.Reads as reads
 use Rattle.plan.proofs.component.pbp_payload.Lts as lts
 use Rattle.plan.proofs.component.built.Reads as built-reads
-use Rattle.validate.proofs.component.there.Reads as there-reads
+use Rattle.schema.proofs.Text.is_given.Reads as is-given-reads
 
-there-requires : tie.Need-there-requires
-there-requires c κs = search needs
+is-given-requires : tie.Need-is-given-requires
+is-given-requires c κs = search needs
 
 returns : tie.Need-returns
 returns c = search (needs, pbp-file)
 
-there-requires-2 : tie.Need-there-requires-2
-there-requires-2 c κs = search needs
+is-given-requires-2 : tie.Need-is-given-requires-2
+is-given-requires-2 c κs = search needs
 
 built-requires : tie.Need-built-requires
 built-requires c κs = search needs
@@ -27,4 +27,4 @@ returns-3 c = search (needs, pbp-none)
 
 pub pbp-payload-spec : {M : Type 1} → statement M
 pbp-payload-spec =
-    tie.close (tie.spec there-requires returns there-requires-2 built-requires returns-2 returns-3)
+    tie.close (tie.spec is-given-requires returns is-given-requires-2 built-requires returns-2 returns-3)

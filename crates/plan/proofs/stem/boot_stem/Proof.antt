@@ -9,13 +9,13 @@ use Rattle.parse.proofs.front.read_front.Reads as read-front-reads
 use Rattle.parse.proofs.lent_name.Reads as lent-name-reads
 use Rattle.plan.proofs.stem.leading.Reads as leading-reads
 use Rattle.tree.proofs.fields_at.Reads as fields-at-reads
-use Rattle.validate.proofs.component.there.Reads as there-reads
+use Rattle.schema.proofs.Text.is_given.Reads as is-given-reads
 
 leading-requires : tie.Need-leading-requires
 leading-requires c κs = search needs
 
-there-requires : tie.Need-there-requires
-there-requires c κs = search needs
+is-given-requires : tie.Need-is-given-requires
+is-given-requires c κs = search needs
 
 returns : tie.Need-returns
 returns c = search (needs, boot-stem-led)
@@ -37,7 +37,7 @@ boot-stem-spec =
     tie.close
     (tie.spec
     leading-requires
-    there-requires
+    is-given-requires
     returns
     fields-at-requires
     lent-name-requires

@@ -1,3 +1,4 @@
+-- No dot stands after the first i bytes, so the last among these is the last of all.
 use borrow.Author.Needs.{needs}
 use Rattle.plan.proofs.Stemming.{Backward, dot-start, dot-hit, dot-on, dot-none}
 use Rattle.plan.proofs.stem.last_dot.Statement.{statement}

@@ -1,5 +1,5 @@
-use Rattle.plan.proofs.Stemming.{stem-stored, stem-none}
 use borrow.Author.Needs.{needs}
+use Rattle.plan.proofs.Stemming.{stem-stored, stem-none}
 use Rattle.plan.proofs.stem.stem_of.Statement.{statement}
 use Rattle.plan.proofs.stem.stem_of.Tie as tie
 use Rattle.plan.proofs.stem.stem_of.Reads as reads
@@ -20,47 +20,13 @@ stored-requires c κs = search needs
 stem-length-requires : tie.Need-stem-length-requires
 stem-length-requires c κs = search needs
 
-enum-told : tie.Need-enum-told
-enum-told c = search needs
-
-enum-told-2 : tie.Need-enum-told-2
-enum-told-2 c = search needs
-
-enum-told-3 : tie.Need-enum-told-3
-enum-told-3 c = search needs
-
-enum-told-4 : tie.Need-enum-told-4
-enum-told-4 c = search needs
-
 returns : tie.Need-returns
 returns c = search (needs, stem-stored)
 
 returns-2 : tie.Need-returns-2
 returns-2 c = search (needs, stem-none)
 
-returns-3 : tie.Need-returns-3
-returns-3 c = search (needs, stem-none)
-
-returns-4 : tie.Need-returns-4
-returns-4 c = search (needs, stem-none)
-
-returns-5 : tie.Need-returns-5
-returns-5 c = search (needs, stem-none)
-
 pub stem-of-spec : {M : Type 1} → statement M
 stem-of-spec =
     tie.close
-    (tie.spec
-    name-in-requires
-    enum-known-t
-    stored-requires
-    stem-length-requires
-    enum-told
-    enum-told-2
-    enum-told-3
-    enum-told-4
-    returns
-    returns-2
-    returns-3
-    returns-4
-    returns-5)
+    (tie.spec name-in-requires enum-known-t stored-requires stem-length-requires returns returns-2)

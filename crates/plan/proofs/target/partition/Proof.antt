@@ -7,7 +7,7 @@ use Rattle.plan.proofs.target.partition.Reads as reads
 use Rattle.plan.proofs.target.partition.Lts as lts
 use Rattle.parse.proofs.entry.read_partitions.Reads as read-partitions-reads
 use Rattle.parse.proofs.view.partition_list.Reads as partition-list-reads
-use Rattle.plan.proofs.target.aim.Reads as aim-reads
+use Rattle.layout.proofs.find_named.Reads as find-named-reads
 
 partition-list-requires : tie.Need-partition-list-requires
 partition-list-requires c κs = search needs
@@ -18,8 +18,8 @@ read-partitions-requires c κs = search (needs, partitions-among)
 returns : tie.Need-returns
 returns c = search (needs, target-none)
 
-aim-requires : tie.Need-aim-requires
-aim-requires c κs = search (needs, target-fits)
+find-named-requires : tie.Need-find-named-requires
+find-named-requires c κs = search (needs, target-fits)
 
 mul-found : tie.Need-mul-found
 mul-found c = search (needs, target-scaled)
@@ -40,7 +40,7 @@ partition-spec =
     partition-list-requires
     read-partitions-requires
     returns
-    aim-requires
+    find-named-requires
     mul-found
     array-copy-out-found
     returns-2

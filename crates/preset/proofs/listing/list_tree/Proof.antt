@@ -5,14 +5,14 @@ use Rattle.preset.proofs.listing.list_tree.Tie as tie
 use Rattle.preset.proofs.listing.list_tree.Reads as reads
 use Rattle.preset.proofs.listing.list_tree.Lts as lts
 use Rattle.preset.proofs.listing.list.Reads as list-reads
-use Rattle.plan.proofs.judge.Reads as judge-reads
+use Rattle.plan.proofs.judge_selection.Reads as judge-selection-reads
 use Rattle.preset.proofs.settle.Reads as settle-reads
 
-slice-aggregate-judge : tie.Need-slice-aggregate-judge
-slice-aggregate-judge c = search needs
+slice-aggregate-judge-selection : tie.Need-slice-aggregate-judge-selection
+slice-aggregate-judge-selection c = search needs
 
-judge-requires : tie.Need-judge-requires
-judge-requires c κs = search needs
+judge-selection-requires : tie.Need-judge-selection-requires
+judge-selection-requires c κs = search needs
 
 settle-requires : tie.Need-settle-requires
 settle-requires c κs = search needs
@@ -36,8 +36,8 @@ pub list-tree-spec : {M : Type 1} → statement M
 list-tree-spec =
     tie.close
     (tie.spec
-    slice-aggregate-judge
-    judge-requires
+    slice-aggregate-judge-selection
+    judge-selection-requires
     settle-requires
     list-requires
     same-length

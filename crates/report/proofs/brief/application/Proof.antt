@@ -1,7 +1,6 @@
--- The fields that a line says are those of the application's record.
+use borrow.Author.Needs.{needs}
 use Rattle.parse.proofs.Entering.{table-spread}
 use Rattle.report.proofs.Briefly.{application-brief}
-use borrow.Author.Needs.{needs}
 use Rattle.report.proofs.brief.application.Statement.{statement}
 use Rattle.report.proofs.brief.application.Tie as tie
 use Rattle.report.proofs.brief.application.Reads as reads
@@ -9,7 +8,7 @@ use Rattle.report.proofs.brief.application.Lts as lts
 use Rattle.parse.proofs.entry.entry_table.Reads as entry-table-reads
 use Rattle.parse.proofs.field.TextRead.or.Reads as or-reads
 use Rattle.parse.proofs.field.text.Reads as text-reads
-use Rattle.tree.proofs.key_at.Reads as key-at-reads
+use Rattle.plan.proofs.stem.key_of.Reads as key-of-reads
 use Rattle.tree.proofs.value_at.Reads as value-at-reads
 
 value-at-requires : tie.Need-value-at-requires
@@ -18,8 +17,8 @@ value-at-requires c κs = search needs
 entry-table-requires : tie.Need-entry-table-requires
 entry-table-requires c κs = search needs
 
-key-at-requires : tie.Need-key-at-requires
-key-at-requires c κs = search needs
+key-of-requires : tie.Need-key-of-requires
+key-of-requires c κs = search needs
 
 slice-aggregate-text : tie.Need-slice-aggregate-text
 slice-aggregate-text c = search needs
@@ -48,7 +47,7 @@ application-spec =
     (tie.spec
     value-at-requires
     entry-table-requires
-    key-at-requires
+    key-of-requires
     slice-aggregate-text
     text-requires
     slice-aggregate-text-2

@@ -1,4 +1,3 @@
--- The fields that a line says are those of the component's record.
 use Rattle.parse.proofs.Entering.{table-spread}
 use Rattle.report.proofs.Briefly.{component-brief}
 use borrow.Author.Needs.{needs}

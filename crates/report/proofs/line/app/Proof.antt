@@ -2,6 +2,11 @@ use borrow.Author.Needs.{needs}
 use Rattle.report.proofs.Lining.{app-line}
 use Rattle.report.proofs.line.app.Statement.{statement}
 use Rattle.report.proofs.line.app.Tie as tie
+use Rattle.report.proofs.line.app.Reads as reads
+use Rattle.report.proofs.line.app.Lts as lts
+use Rattle.page.proofs.put.Reads as put-reads
+use Rattle.page.proofs.reference.Reads as reference-reads
+use Rattle.page.proofs.text.Reads as text-reads
 
 slice-aggregate-put : tie.Need-slice-aggregate-put
 slice-aggregate-put c = search needs

@@ -2,6 +2,11 @@ use borrow.Author.Needs.{needs}
 use Rattle.report.proofs.Lining.{build-line}
 use Rattle.report.proofs.line.build.Statement.{statement}
 use Rattle.report.proofs.line.build.Tie as tie
+use Rattle.report.proofs.line.build.Reads as reads
+use Rattle.report.proofs.line.build.Lts as lts
+use Rattle.page.proofs.number.Reads as number-reads
+use Rattle.page.proofs.put.Reads as put-reads
+use Rattle.page.proofs.text.Reads as text-reads
 
 slice-aggregate-put : tie.Need-slice-aggregate-put
 slice-aggregate-put c = search needs

@@ -2,6 +2,13 @@ use borrow.Author.Needs.{needs}
 use Rattle.report.proofs.Lining.{comp-line}
 use Rattle.report.proofs.line.comp.Statement.{statement}
 use Rattle.report.proofs.line.comp.Tie as tie
+use Rattle.report.proofs.line.comp.Reads as reads
+use Rattle.report.proofs.line.comp.Lts as lts
+use Rattle.page.proofs.put.Reads as put-reads
+use Rattle.page.proofs.reference.Reads as reference-reads
+use Rattle.page.proofs.text.Reads as text-reads
+use Rattle.page.proofs.word.Reads as word-reads
+use Rattle.schema.proofs.Kind.name.Reads as name-reads
 
 slice-aggregate-put : tie.Need-slice-aggregate-put
 slice-aggregate-put c = search needs

@@ -1,10 +1,8 @@
--- The lines on the page and those of the keys not yet met are the lines of all applications.
+-- The lines of the applications met stand on the page, and with those to come they are the lines of all.
 use borrow.Author.Needs.{needs}
 use Prim.Native.Nat.{_-_}
-use Rattle.tree.specs.Steps.{key-stands}
 use Rattle.report.specs.Shown as shown
-use Rattle.report.proofs.Lining.{applications-stand}
-use Rattle.report.proofs.Listing.{Stepped, apps-start, apps-on, keys-long, keys-end, keys-past}
+use Rattle.report.proofs.Listing.{Keyed, keys-start, keys-long, keys-none, keys-past, keys-stood, apps-on, apps-list, apps-within, apps-hold}
 use Rattle.report.proofs.lists.apps.Statement.{statement}
 use Rattle.report.proofs.lists.apps.Tie as tie
 use Rattle.report.proofs.lists.apps.Reads as reads
@@ -15,16 +13,16 @@ use Rattle.tree.proofs.keys_of.Reads as keys-of-reads
 use Rattle.tree.proofs.next_key.Reads as next-key-reads
 
 abbrev Inv-loop : tie.InvT-loop
-Inv-loop out₀ at tree store name made to₀ w₀ -i₀ out to w -i = Stepped (shown.appAt tree store made name) tree store made w₀ out₀ at w -i out to
+Inv-loop out₀ at tree store name made to₀ w₀ -i₀ out to w -i = Keyed (shown.appAt tree store made name) tree store w₀ out₀ at w -i out to
 
 abbrev μ-loop : tie.MeasureT-loop
 μ-loop out₀ at tree store name made to₀ w₀ -i₀ out to w -i = 65 - -i
 
 keys-of-requires : tie.Need-keys-of-requires Inv-loop μ-loop
-keys-of-requires c κs = search (needs, applications-stand)
+keys-of-requires c κs = search (needs, apps-hold)
 
 loop-holds : tie.Need-loop-holds Inv-loop μ-loop
-loop-holds c = search (needs, apps-start)
+loop-holds c = search (needs, keys-start)
 
 next-key-requires : tie.Need-next-key-requires Inv-loop μ-loop
 next-key-requires c κs = search needs
@@ -36,13 +34,13 @@ same-length : tie.Need-same-length Inv-loop μ-loop
 same-length c = search (needs, keys-long)
 
 returns : tie.Need-returns Inv-loop μ-loop
-returns c = search (needs, keys-end)
+returns c = search (needs, keys-none, apps-list)
 
 enum-known-step : tie.Need-enum-known-step Inv-loop μ-loop
 enum-known-step c = search needs
 
 application-requires : tie.Need-application-requires Inv-loop μ-loop
-application-requires c κs = search (needs, key-stands)
+application-requires c κs = search (needs, keys-stood, apps-within)
 
 app-requires : tie.Need-app-requires Inv-loop μ-loop
 app-requires c κs = search needs
@@ -60,7 +58,7 @@ same-length-2 : tie.Need-same-length-2 Inv-loop μ-loop
 same-length-2 c = search (needs, keys-long)
 
 returns-2 : tie.Need-returns-2 Inv-loop μ-loop
-returns-2 c = search (needs, keys-past)
+returns-2 c = search (needs, keys-past, apps-list)
 
 pub apps-spec : {M : Type 1} → statement M
 apps-spec =

@@ -1,10 +1,10 @@
--- The lines on the page and those of the builds not yet met are the lines of all builds.
+-- The lines of the first i builds stand on the page, and with those of the rest they are the lines of all.
 use borrow.Author.Needs.{needs}
 use Prim.Native.Nat.{_-_}
 use lib.ListN.{drop}
 use Rattle.plan.specs.declared.choice.Choice.the-variants.{BootChain}
 use Rattle.plan.specs.Builds.{buildsOf}
-use Rattle.report.specs.Shown.{build}
+use Rattle.report.specs.Shown.{buildOf}
 use Rattle.report.proofs.Listing.{Left, left-start, left-long, builds-past, builds-on}
 use Rattle.report.proofs.lists.builds.Statement.{statement}
 use Rattle.report.proofs.lists.builds.Tie as tie
@@ -16,7 +16,7 @@ use Rattle.plan.proofs.builds.builds.Reads as builds-reads
 use Rattle.report.proofs.line.build.Reads as build-reads
 
 abbrev Inv-loop : tie.InvT-loop
-Inv-loop out₀ at tree store made name items count to₀ i₀ out to i = Left (build tree store made name) (buildsOf tree store made BootChain) (drop i (buildsOf tree store made BootChain)) out₀ at out to
+Inv-loop out₀ at tree store made name items count to₀ i₀ out to i = Left (buildOf tree store made name) (buildsOf tree store made BootChain) (drop i (buildsOf tree store made BootChain)) out₀ at out to
 
 abbrev μ-loop : tie.MeasureT-loop
 μ-loop out₀ at tree store made name items count to₀ i₀ out to i = count - i

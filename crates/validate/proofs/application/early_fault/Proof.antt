@@ -1,5 +1,5 @@
 use borrow.Author.Needs.{needs}
-use Rattle.validate.proofs.Entering.{early-empty, early-long, early-hollow, early-known, early-unknown}
+use Rattle.validate.proofs.Entering.{early-empty, early-long, early-unfiled, early-known, early-unknown}
 use Rattle.validate.proofs.application.early_fault.Statement.{statement}
 use Rattle.validate.proofs.application.early_fault.Tie as tie
 use Rattle.validate.proofs.application.early_fault.Reads as reads
@@ -7,7 +7,7 @@ use Rattle.validate.proofs.application.early_fault.Lts as lts
 use Rattle.schema.proofs.Text.length.Reads as length-reads
 use Rattle.schema.proofs.Text.start.Reads as start-reads
 use Rattle.schema.proofs.stored.Reads as stored-reads
-use Rattle.validate.proofs.application.hollow.Reads as hollow-reads
+use Rattle.validate.proofs.application.is_empty.Reads as is-empty-reads
 
 start-requires : tie.Need-start-requires
 start-requires c κs = search needs
@@ -24,11 +24,11 @@ returns c = search (needs, early-empty)
 returns-2 : tie.Need-returns-2
 returns-2 c = search (needs, early-long)
 
-hollow-requires : tie.Need-hollow-requires
-hollow-requires c κs = search needs
+is-empty-requires : tie.Need-is-empty-requires
+is-empty-requires c κs = search needs
 
 returns-3 : tie.Need-returns-3
-returns-3 c = search (needs, early-hollow)
+returns-3 c = search (needs, early-unfiled)
 
 returns-4 : tie.Need-returns-4
 returns-4 c = search (needs, early-known)
@@ -45,7 +45,7 @@ early-fault-spec =
     stored-requires
     returns
     returns-2
-    hollow-requires
+    is-empty-requires
     returns-3
     returns-4
     returns-5)

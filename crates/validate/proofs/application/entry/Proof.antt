@@ -5,18 +5,22 @@ use Rattle.validate.proofs.application.entry.Tie as tie
 use Rattle.validate.proofs.application.entry.Reads as reads
 use Rattle.validate.proofs.application.entry.Lts as lts
 use Rattle.parse.proofs.entry.application_at.Reads as application-at-reads
-use Rattle.tree.proofs.get.Reads as get-reads
+use Rattle.schema.proofs.spot.bytes_spot.Reads as bytes-spot-reads
+use Rattle.tree.proofs.key_at.Reads as key-at-reads
 use Rattle.validate.proofs.application.entry_of.Reads as entry-of-reads
-use Rattle.validate.proofs.uses.single.Reads as single-reads
+use Rattle.validate.proofs.uses.pair_of_application.Reads as pair-of-application-reads
 
 application-at-requires : tie.Need-application-at-requires
 application-at-requires c κs = search needs
 
-get-requires : tie.Need-get-requires
-get-requires c κs = search needs
+key-at-requires : tie.Need-key-at-requires
+key-at-requires c κs = search needs
 
-single-requires : tie.Need-single-requires
-single-requires c κs = search needs
+bytes-spot-requires : tie.Need-bytes-spot-requires
+bytes-spot-requires c κs = search needs
+
+pair-of-application-requires : tie.Need-pair-of-application-requires
+pair-of-application-requires c κs = search needs
 
 entry-of-requires : tie.Need-entry-of-requires
 entry-of-requires c κs = search needs
@@ -25,4 +29,12 @@ returns : tie.Need-returns
 returns c = search (needs, application-read)
 
 pub entry-spec : {M : Type 1} → statement M
-entry-spec = tie.close (tie.spec application-at-requires get-requires single-requires entry-of-requires returns)
+entry-spec =
+    tie.close
+    (tie.spec
+    application-at-requires
+    key-at-requires
+    bytes-spot-requires
+    pair-of-application-requires
+    entry-of-requires
+    returns)

@@ -4,14 +4,14 @@ use Rattle.validate.proofs.application.entry_of.Statement.{statement}
 use Rattle.validate.proofs.application.entry_of.Tie as tie
 use Rattle.validate.proofs.application.entry_of.Reads as reads
 use Rattle.validate.proofs.application.entry_of.Lts as lts
+use Rattle.layout.proofs.find_named.Reads as find-named-reads
 use Rattle.schema.proofs.Text.length.Reads as length-reads
 use Rattle.schema.proofs.Text.start.Reads as start-reads
 use Rattle.validate.proofs.application.address_fault.Reads as address-fault-reads
-use Rattle.validate.proofs.application.aim.Reads as aim-reads
 use Rattle.validate.proofs.application.early_fault.Reads as early-fault-reads
 
-aim-requires : tie.Need-aim-requires
-aim-requires c κs = search needs
+find-named-requires : tie.Need-find-named-requires
+find-named-requires c κs = search needs
 
 start-requires : tie.Need-start-requires
 start-requires c κs = search needs
@@ -32,7 +32,7 @@ pub entry-of-spec : {M : Type 1} → statement M
 entry-of-spec =
     tie.close
     (tie.spec
-    aim-requires
+    find-named-requires
     start-requires
     length-requires
     early-fault-requires

@@ -4,21 +4,21 @@ use Rattle.validate.proofs.component.boot_fault.Statement.{statement}
 use Rattle.validate.proofs.component.boot_fault.Tie as tie
 use Rattle.validate.proofs.component.boot_fault.Reads as reads
 use Rattle.validate.proofs.component.boot_fault.Lts as lts
-use Rattle.validate.proofs.component.counted.Reads as counted-reads
+use Rattle.validate.proofs.component.number_given.Reads as number-given-reads
 use Rattle.validate.proofs.component.ram_fault.Reads as ram-fault-reads
-use Rattle.validate.proofs.component.there.Reads as there-reads
+use Rattle.schema.proofs.Text.is_given.Reads as is-given-reads
 
-counted-requires : tie.Need-counted-requires
-counted-requires c κs = search needs
+number-given-requires : tie.Need-number-given-requires
+number-given-requires c κs = search needs
 
 ram-fault-requires : tie.Need-ram-fault-requires
 ram-fault-requires c κs = search needs
 
-there-requires : tie.Need-there-requires
-there-requires c κs = search needs
+is-given-requires : tie.Need-is-given-requires
+is-given-requires c κs = search needs
 
-there-requires-2 : tie.Need-there-requires-2
-there-requires-2 c κs = search needs
+is-given-requires-2 : tie.Need-is-given-requires-2
+is-given-requires-2 c κs = search needs
 
 returns : tie.Need-returns
 returns c = search (needs, boot-both)
@@ -33,10 +33,10 @@ pub boot-fault-spec : {M : Type 1} → statement M
 boot-fault-spec =
     tie.close
     (tie.spec
-    counted-requires
+    number-given-requires
     ram-fault-requires
-    there-requires
-    there-requires-2
+    is-given-requires
+    is-given-requires-2
     returns
     returns-2
     returns-3)

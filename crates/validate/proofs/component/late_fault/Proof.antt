@@ -13,7 +13,7 @@ use Rattle.validate.proofs.component.name_fault.Reads as name-fault-rea
 use Rattle.validate.proofs.component.reserve_fault.Reads as reserve-fault-reads
 use Rattle.validate.proofs.component.source_fault.Reads as source-fault-reads
 use Rattle.validate.proofs.component.target_fault.Reads as target-fault-reads
-use Rattle.validate.proofs.component.there.Reads as there-reads
+use Rattle.schema.proofs.Text.is_given.Reads as is-given-reads
 
 start-requires : tie.Need-start-requires
 start-requires c κs = search needs
@@ -42,11 +42,11 @@ first-fault-requires-2 c κs = search needs
 name-fault-requires : tie.Need-name-fault-requires
 name-fault-requires c κs = search needs
 
-there-requires : tie.Need-there-requires
-there-requires c κs = search needs
+is-given-requires : tie.Need-is-given-requires
+is-given-requires c κs = search needs
 
-there-requires-2 : tie.Need-there-requires-2
-there-requires-2 c κs = search needs
+is-given-requires-2 : tie.Need-is-given-requires-2
+is-given-requires-2 c κs = search needs
 
 source-fault-requires : tie.Need-source-fault-requires
 source-fault-requires c κs = search needs
@@ -73,8 +73,8 @@ late-fault-spec =
     first-fault-requires
     first-fault-requires-2
     name-fault-requires
-    there-requires
-    there-requires-2
+    is-given-requires
+    is-given-requires-2
     source-fault-requires
     first-fault-requires-3
     first-fault-requires-4

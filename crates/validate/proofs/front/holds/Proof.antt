@@ -1,3 +1,4 @@
+-- The word starts at no place before number i, so it stands in the text where it stands in the rest.
 use borrow.Author.Needs.{needs}
 use Prim.Native.Nat.{_-_}
 use lib.ListN.{length}

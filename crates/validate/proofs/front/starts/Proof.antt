@@ -1,3 +1,4 @@
+-- The first i bytes are the same, so the text begins with the word where the rest of it begins with the rest of the word.
 use borrow.Author.Needs.{needs}
 use Prim.Native.Nat.{_-_}
 use lib.ListN.{length}

@@ -1,30 +1,29 @@
+-- Marks and packages of the components met stand in the arrays, and with those to come they are those of all.
 use borrow.Author.Needs.{needs}
-use Prim.Native.Nat.{_-_}
 use mathlib.Core.List.{map}
 use mathlib.Core.Logic.{⊎-elim}
-use lib.ListN.{take}
-use Rattle.parse.proofs.Entering.{holds-end, item-fits, item-less, item-stood}
+use lib.ListN.{length, take}
+use Rattle.tree.specs.Steps.{toCome, item-room, item-stands, item-fewer}
 use Rattle.layout.specs.Parts.{partName}
-use Rattle.validate.proofs.Gathering.{Composed, comps-end, comps-marked, comps-none, comps-not, comps-on, comps-room, comps-start}
+use Rattle.validate.proofs.Gathering.{Composed, comps-start, comps-within, comps-marked, comps-none, comps-room, comps-not, comps-on}
 use Rattle.validate.proofs.gather.each_component.Statement.{statement}
 use Rattle.validate.proofs.gather.each_component.Tie as tie
 use Rattle.validate.proofs.gather.each_component.Reads as reads
 use Rattle.validate.proofs.gather.each_component.Lts as lts
-use Rattle.layout.proofs.judge.Reads as judge-reads
-use Rattle.layout.proofs.no_marks.Reads as no-marks-reads
+use Rattle.turns.proofs.judge_marks.Reads as judge-marks-reads
+use Rattle.turns.proofs.no_marks.Reads as no-marks-reads
 use Rattle.parse.proofs.refusal_at.Reads as refusal-at-reads
-use Rattle.tree.proofs.child.Reads as child-reads
 use Rattle.validate.proofs.component.entry.Reads as entry-reads
 use Rattle.validate.proofs.gather.either.Reads as either-reads
 use Rattle.validate.proofs.gather.no_pairs.Reads as no-pairs-reads
+use Rattle.tree.proofs.items_of.Reads as items-of-reads
+use Rattle.tree.proofs.next_item.Reads as next-item-reads
 
 abbrev Inv-loop : tie.InvT-loop
-Inv-loop tree store made place end items count marks₀ pairs₀ fault₀ first₀ i₀ from₀ marks pairs fault first i from =
-    Composed tree store made (map (partName store) (take count items)) place end marks pairs fault first i from
+Inv-loop tree store made items count marks₀ pairs₀ fault₀ first₀ i₀ w₀ marks pairs fault first i w = Composed tree store made (map (partName store) (take count items)) w₀ marks pairs fault first i w
 
 abbrev μ-loop : tie.MeasureT-loop
-μ-loop tree store made place end items count marks₀ pairs₀ fault₀ first₀ i₀ from₀ marks pairs fault first i from =
-    end - from
+μ-loop tree store made items count marks₀ pairs₀ fault₀ first₀ i₀ w₀ marks pairs fault first i w = length (toCome tree w)
 
 no-marks-requires : tie.Need-no-marks-requires Inv-loop μ-loop
 no-marks-requires c κs = search needs
@@ -35,20 +34,23 @@ no-pairs-requires c κs = search needs
 refusal-at-requires : tie.Need-refusal-at-requires Inv-loop μ-loop
 refusal-at-requires c κs = search needs
 
+items-of-requires : tie.Need-items-of-requires Inv-loop μ-loop
+items-of-requires c κs = search needs
+
 loop-holds : tie.Need-loop-holds Inv-loop μ-loop
 loop-holds c = search (needs, comps-start)
 
-child-requires : tie.Need-child-requires Inv-loop μ-loop
-child-requires c κs = search (needs, holds-end)
+next-item-requires : tie.Need-next-item-requires Inv-loop μ-loop
+next-item-requires c κs = search (needs, item-room)
 
 enum-told : tie.Need-enum-told Inv-loop μ-loop
 enum-told c = search needs
 
-enum-known-found : tie.Need-enum-known-found Inv-loop μ-loop
-enum-known-found c = search needs
+enum-known-step : tie.Need-enum-known-step Inv-loop μ-loop
+enum-known-step c = search needs
 
 entry-requires : tie.Need-entry-requires Inv-loop μ-loop
-entry-requires c κs = search (needs, item-stood)
+entry-requires c κs = search (needs, item-stands)
 
 refusal-at-requires-2 : tie.Need-refusal-at-requires-2 Inv-loop μ-loop
 refusal-at-requires-2 c κs = search needs
@@ -71,21 +73,17 @@ either-requires c κs = search needs
 add-i : tie.Need-add-i Inv-loop μ-loop
 add-i c = search (needs, comps-room)
 
-add-from : tie.Need-add-from Inv-loop μ-loop
-add-from c = let d = c .before .before .before .before .before .before .before .before .before in
-    search (needs, item-fits, d .child .ensures)
-
 loop-less : tie.Need-loop-less Inv-loop μ-loop
-loop-less c = search (needs, item-less)
+loop-less c = search (needs, item-fewer)
 
 loop-again : tie.Need-loop-again Inv-loop μ-loop
 loop-again c = search (needs, comps-on)
 
-judge-requires : tie.Need-judge-requires Inv-loop μ-loop
-judge-requires c κs = search (needs, comps-marked)
+judge-marks-requires : tie.Need-judge-marks-requires Inv-loop μ-loop
+judge-marks-requires c κs = search (needs, comps-marked)
 
 returns : tie.Need-returns Inv-loop μ-loop
-returns c = ⊎-elim (λ w. search (needs, comps-end)) (⊎-elim (λ w. search (needs, comps-none)) (λ w. search (needs, comps-not))) (c .before .loop-test .came)
+returns c = ⊎-elim (λ w. search (needs, comps-none)) (λ w. search (needs, comps-not)) (c .before .match .came)
 
 pub each-component-spec : {M : Type 1} → statement M
 each-component-spec =
@@ -96,10 +94,11 @@ each-component-spec =
     no-marks-requires
     no-pairs-requires
     refusal-at-requires
+    items-of-requires
     loop-holds
-    child-requires
+    next-item-requires
     enum-told
-    enum-known-found
+    enum-known-step
     entry-requires
     refusal-at-requires-2
     mul-marks
@@ -108,8 +107,7 @@ each-component-spec =
     array-set-from-pairs
     either-requires
     add-i
-    add-from
     loop-less
     loop-again
-    judge-requires
+    judge-marks-requires
     returns)

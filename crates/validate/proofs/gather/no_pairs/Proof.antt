@@ -4,7 +4,7 @@ use Rattle.validate.proofs.gather.no_pairs.Statement.{statement}
 use Rattle.validate.proofs.gather.no_pairs.Tie as tie
 use Rattle.validate.proofs.gather.no_pairs.Reads as reads
 use Rattle.validate.proofs.gather.no_pairs.Lts as lts
-use Rattle.validate.proofs.uses.no_spot.Reads as no-spot-reads
+use Rattle.schema.proofs.spot.no_spot.Reads as no-spot-reads
 
 no-spot-requires : tie.Need-no-spot-requires
 no-spot-requires c κs = search needs

@@ -5,11 +5,11 @@ use Rattle.validate.proofs.uses.differ.Tie as tie
 use Rattle.validate.proofs.uses.differ.Reads as reads
 use Rattle.validate.proofs.uses.differ.Lts as lts
 use Rattle.features.proofs.equal.Reads as equal-reads
-use Rattle.validate.proofs.uses.agree.Reads as agree-reads
-use Rattle.validate.proofs.uses.list_at.Reads as list-at-reads
+use Rattle.schema.proofs.spot.same_text.Reads as same-text-reads
+use Rattle.schema.proofs.spot.list_at.Reads as list-at-reads
 
-agree-requires : tie.Need-agree-requires
-agree-requires c κs = search needs
+same-text-requires : tie.Need-same-text-requires
+same-text-requires c κs = search needs
 
 list-at-requires : tie.Need-list-at-requires
 list-at-requires c κs = search needs
@@ -27,4 +27,4 @@ returns-2 : tie.Need-returns-2
 returns-2 c = search (needs, differ-not)
 
 pub differ-spec : {M : Type 1} → statement M
-differ-spec = tie.close (tie.spec agree-requires list-at-requires list-at-requires-2 equal-requires returns returns-2)
+differ-spec = tie.close (tie.spec same-text-requires list-at-requires list-at-requires-2 equal-requires returns returns-2)

@@ -1,7 +1,8 @@
+-- The entries before number i agree with each other, so what is left of an entry after one of them clashes with another where the entry itself does.
 use borrow.Author.Needs.{needs}
 use Prim.Native.Nat.{_-_}
 use lib.ListN.{getD}
-use Rattle.layout.specs.Hits.{later-start}
+use Rattle.turns.specs.Hits.{later-start}
 use Rattle.validate.specs.Gathered.{blank}
 use Rattle.validate.proofs.Settling.{Agreed, Rest, agreed-end, agreed-on, before-start, rest-hit, rest-not, rest-on, rest-start}
 use Rattle.validate.proofs.uses.first_clash.Statement.{statement}
@@ -9,8 +10,8 @@ use Rattle.validate.proofs.uses.first_clash.Tie as tie
 use Rattle.validate.proofs.uses.first_clash.Reads as reads
 use Rattle.validate.proofs.uses.first_clash.Lts as lts
 use Rattle.validate.proofs.uses.clash.Reads as clash-reads
-use Rattle.validate.proofs.uses.left.Reads as left-reads
-use Rattle.validate.proofs.uses.meet.Reads as meet-reads
+use Rattle.validate.proofs.uses.uses_beyond.Reads as uses-beyond-reads
+use Rattle.validate.proofs.uses.share_package.Reads as share-package-reads
 
 abbrev Inv-loop : tie.InvT-loop
 Inv-loop tree store made count pairs found₀ i rest₀ j₀ found rest j = Rest tree store made pairs count (getD pairs i blank) rest i j found
@@ -42,8 +43,8 @@ mul-b c = search needs
 array-copy-out-b : tie.Need-array-copy-out-b Inv-loop μ-loop Inv-later μ-later
 array-copy-out-b c = search needs
 
-meet-requires : tie.Need-meet-requires Inv-loop μ-loop Inv-later μ-later
-meet-requires c κs = search needs
+share-package-requires : tie.Need-share-package-requires Inv-loop μ-loop Inv-later μ-later
+share-package-requires c κs = search needs
 
 add-j : tie.Need-add-j Inv-loop μ-loop Inv-later μ-later
 add-j c = search needs
@@ -57,8 +58,8 @@ loop-again c = search (needs, rest-not)
 clash-requires : tie.Need-clash-requires Inv-loop μ-loop Inv-later μ-later
 clash-requires c κs = search needs
 
-left-requires : tie.Need-left-requires Inv-loop μ-loop Inv-later μ-later
-left-requires c κs = search needs
+uses-beyond-requires : tie.Need-uses-beyond-requires Inv-loop μ-loop Inv-later μ-later
+uses-beyond-requires c κs = search needs
 
 add-j-2 : tie.Need-add-j-2 Inv-loop μ-loop Inv-later μ-later
 add-j-2 c = search needs
@@ -98,12 +99,12 @@ first-clash-spec =
     loop-holds
     mul-b
     array-copy-out-b
-    meet-requires
+    share-package-requires
     add-j
     loop-less
     loop-again
     clash-requires
-    left-requires
+    uses-beyond-requires
     add-j-2
     loop-less-2
     loop-again-2

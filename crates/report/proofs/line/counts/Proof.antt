@@ -1,0 +1,50 @@
+use borrow.Author.Needs.{needs}
+use Rattle.report.proofs.Lining.{counts-line}
+use Rattle.report.proofs.line.counts.Statement.{statement}
+use Rattle.report.proofs.line.counts.Tie as tie
+use Rattle.report.proofs.line.counts.Reads as reads
+use Rattle.report.proofs.line.counts.Lts as lts
+use Rattle.page.proofs.number.Reads as number-reads
+use Rattle.page.proofs.put.Reads as put-reads
+use Rattle.parse.proofs.view.counts_in.Reads as counts-in-reads
+
+counts-in-requires : tie.Need-counts-in-requires
+counts-in-requires c κs = search needs
+
+number-requires : tie.Need-number-requires
+number-requires c κs = search needs
+
+number-requires-2 : tie.Need-number-requires-2
+number-requires-2 c κs = search needs
+
+number-requires-3 : tie.Need-number-requires-3
+number-requires-3 c κs = search needs
+
+number-requires-4 : tie.Need-number-requires-4
+number-requires-4 c κs = search needs
+
+slice-aggregate-put : tie.Need-slice-aggregate-put
+slice-aggregate-put c = search needs
+
+put-requires : tie.Need-put-requires
+put-requires c κs = search needs
+
+same-length : tie.Need-same-length
+same-length c = search needs
+
+returns : tie.Need-returns
+returns c = search (needs, counts-line)
+
+pub counts-spec : {M : Type 1} → statement M
+counts-spec =
+    tie.close
+    (tie.spec
+    counts-in-requires
+    number-requires
+    number-requires-2
+    number-requires-3
+    number-requires-4
+    slice-aggregate-put
+    put-requires
+    same-length
+    returns)
