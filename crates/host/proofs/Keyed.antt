@@ -21,8 +21,9 @@ use Rattle.laws.specs.Cases.{on}
 use Rattle.scalar.proofs.Splitting.{ends-size}
 use Rattle.scalar.proofs.Keying.{Accepted, accepted, refused-7, refused-8, refused-9, refused-15}
 use Rattle.host.specs.declared.values.Segments.{Segments}
-use Rattle.host.specs.Values.{faultOf, segmentsOf, splitBy, endBy, Split, Ends}
-use Rattle.host.proofs.Exports.{length-zeros}
+use Rattle.toml_lite.specs.Rooms.{verdictNumber}
+use Rattle.host.specs.Values.{segmentsOf, splitBy, endBy, Split, Ends}
+use Rattle.slices.proofs.Zeroing.{length-zeros}
 
 zeros-at : (n i : ℕ) → getD (zeros n) i 0 ≡ 0
 zeros-at zero i = refl
@@ -57,27 +58,27 @@ module _ (s room z : List ℕ) (ez : z ≡ zeros (length room)) where
     asks = record { top = omega arith; room = omega (arith, h) }
 
     module _ (store : List ℕ) (k : Key) (t : Splits 16 s z 0 store k) where
-      fine-keys : faultOf (k .verdict) ≡ 0 → Accepted 16 s z 0 store (takes 16 s .segs) k
+      fine-keys : verdictNumber (k .verdict) ≡ 0 → Accepted 16 s z 0 store (takes 16 s .segs) k
       fine-keys e = accepted 16 s z 0 store k t (go (k .verdict) e)
         where
-          go : (v : Verdict) → faultOf v ≡ 0 → v ≡ Fine
+          go : (v : Verdict) → verdictNumber v ≡ 0 → v ≡ Fine
           go Fine e = refl
           go Malformed e = absurd (omega arith)
           go Escape e = absurd (omega arith)
           go Unended e = absurd (omega arith)
           go TooMany e = absurd (omega arith)
 
-      bad-keys : (faultOf (k .verdict) ≡ 0 → ⊥) → keys 16 s ≡ bad (faultOf (k .verdict))
+      bad-keys : (verdictNumber (k .verdict) ≡ 0 → ⊥) → keys 16 s ≡ bad (verdictNumber (k .verdict))
       bad-keys e = go (k .verdict) refl
         where
-          go : (v : Verdict) → k .verdict ≡ v → keys 16 s ≡ bad (faultOf (k .verdict))
-          go Fine q = absurd (e (ap faultOf q))
+          go : (v : Verdict) → k .verdict ≡ v → keys 16 s ≡ bad (verdictNumber (k .verdict))
+          go Fine q = absurd (e (ap verdictNumber q))
           go Malformed q = refused-7 16 s z 0 store k t q ∙ rw q
           go Escape q = refused-8 16 s z 0 store k t q ∙ rw q
           go Unended q = refused-9 16 s z 0 store k t q ∙ rw q
           go TooMany q = refused-15 16 s z 0 store k t q ∙ rw q
 
-      module _ (n : ℕ) (en : n ≡ faultOf (k .verdict)) where
+      module _ (n : ℕ) (en : n ≡ verdictNumber (k .verdict)) where
         pub key-out : n ≡ 0 → Split s room store (record { number = 0; count = k .n; used = k .used })
         unfolding stored
         key-out e =

@@ -31,8 +31,8 @@ use Rattle.toml_lite.specs.declared.Read.the-variants.{Fine, Fault}
 use Rattle.toml_lite.specs.Rooms.{readOf, Small, Cleared, suffice, judged, treeOf}
 use Rattle.host.specs.declared.documents.Outcome.{Outcome}
 use Rattle.host.specs.declared.documents.At.{At}
-use Rattle.host.specs.Documents.{outcomeOf, storeOf, Presented, atOf, within, behindOf, walking}
-use Rattle.host.proofs.Exports.{length-zeros}
+use Rattle.host.specs.Documents.{outcomeOf, storeOf, Presented, atOf, within, lastVisited, walking}
+use Rattle.slices.proofs.Zeroing.{length-zeros}
 
 -- both levels judge the rooms alike
 pub judged-agrees : (s : List ℕ) (n m : ℕ) → Doc-agrees [] (inRooms of01 32 n m s) (judged s n m)
@@ -112,12 +112,12 @@ module _ (tree : List ℕ) (made takes : ℕ) (e : takes ≡ length tree / 32) w
   pub found-there : (low : ℕ) (m f : Found) (r : At) → made ≤ takes → Finds low made m f → r ≡ atOf f → r ≡ within tree made m
   found-there low m f r h k q = rw (← e, le-ltb takes made h) (q ∙ ap atOf (k .is))
 
-  pub next-there : (store : List ℕ) (parent begun after : ℕ) (b f : Found) (r : At) → made ≤ takes → b ≡ behindOf begun after
+  pub next-there : (store : List ℕ) (parent begun after : ℕ) (b f : Found) (r : At) → made ≤ takes → b ≡ lastVisited begun after
       → Finds 0 made (next (slotAt tree) store made parent b) f → r ≡ atOf f → r ≡ walking tree store made parent begun after
-  next-there store parent begun after b f r h d k q = found-there 0 (next (slotAt tree) store made parent (behindOf begun after)) f r h (rw (← d) k) q
+  next-there store parent begun after b f r h d k q = found-there 0 (next (slotAt tree) store made parent (lastVisited begun after)) f r h (rw (← d) k) q
 
-pub behind-start : (begun after : ℕ) → begun ≡ 0 → Nothing ≡ behindOf begun after
-behind-start begun after e = rw (eq-eqb begun 0 e)
+pub visited-none : (begun after : ℕ) → begun ≡ 0 → Nothing ≡ lastVisited begun after
+visited-none begun after e = rw (eq-eqb begun 0 e)
 
-pub behind-value : (begun after : ℕ) → (begun ≡ 0 → ⊥) → founds.At after ≡ behindOf begun after
-behind-value begun after e = rw (ne-eqb begun 0 e)
+pub visited-last : (begun after : ℕ) → (begun ≡ 0 → ⊥) → founds.At after ≡ lastVisited begun after
+visited-last begun after e = rw (ne-eqb begun 0 e)

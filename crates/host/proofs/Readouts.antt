@@ -18,8 +18,8 @@ use Rattle.values.specs.Out.{Out, moved, replyOf, cells, Ready, Filled}
 use Rattle.toml_lite.specs.Rooms.{suffice}
 use Rattle.toml_lite.proofs.Reading.{suffices}
 use Rattle.host.specs.declared.values.ValueRead.{ValueRead}
-use Rattle.host.specs.Values.{sizedOf, outOf, told, Readout}
-use Rattle.host.proofs.Exports.{length-zeros}
+use Rattle.host.specs.Values.{sizeFault, outOf, told, Readout}
+use Rattle.slices.proofs.Zeroing.{length-zeros}
 
 -- what the sizes say where they are 01's
 record Sizes (s store tree : List ℕ) : Type 0 where
@@ -27,8 +27,8 @@ record Sizes (s store tree : List ℕ) : Type 0 where
   slots : 65536 ≤ length tree
   text : length s ≤ 32768
 
-sizes : (s store tree : List ℕ) → sizedOf s store tree ≡ 0 → Sizes s store tree
-unfolding sizedOf
+sizes : (s store tree : List ℕ) → sizeFault s store tree ≡ 0 → Sizes s store tree
+unfolding sizeFault
 sizes s store tree e =
     on (suffice (length store) (length tree))
     (λ p. on (ltb 32768 (length s)) (λ r. absurd (omega (arith, rw (p, r) at e)))
@@ -36,26 +36,26 @@ sizes s store tree e =
     (λ p. absurd (omega (arith, rw p at e)))
 
 module _ (s store tree : List ℕ) (b : Bool) (e : b ≡ suffice (length store) (length tree)) where
-  pub sized-large : b ≡ true → 32768 < length s → 1 ≡ sizedOf s store tree
-  unfolding sizedOf
+  pub sized-large : b ≡ true → 32768 < length s → 1 ≡ sizeFault s store tree
+  unfolding sizeFault
   sized-large t h = rw (← e, t, lt-ltb 32768 (length s) h)
 
-  pub sized-well : b ≡ true → length s ≤ 32768 → 0 ≡ sizedOf s store tree
-  unfolding sizedOf
+  pub sized-well : b ≡ true → length s ≤ 32768 → 0 ≡ sizeFault s store tree
+  unfolding sizeFault
   sized-well t h = rw (← e, t, le-ltb 32768 (length s) h)
 
-  pub sized-small : b ≡ false → 17 ≡ sizedOf s store tree
-  unfolding sizedOf
+  pub sized-small : b ≡ false → 17 ≡ sizeFault s store tree
+  unfolding sizeFault
   sized-small f = rw (← e, f)
 
-pub ready : (s z t : List ℕ) (n : ℕ) → n ≡ sizedOf s z t → n ≡ 0 → Ready 2048 s z t (record { used = 0; made = 0 })
+pub ready : (s z t : List ℕ) (n : ℕ) → n ≡ sizeFault s z t → n ≡ 0 → Ready 2048 s z t (record { used = 0; made = 0 })
 ready s z t n e h =
     let k : Sizes s z t = sizes s z t (sym e ∙ h) in
     record { room = omega (arith, k .bytes, k .text); low = omega (arith, k .text); slots = omega (arith, k .slots); few = omega arith; made = omega arith }
 
-module _ (s store tree z t : List ℕ) (ez : z ≡ zeros (length store)) (et : t ≡ zeros (length tree)) (n : ℕ) (en : n ≡ sizedOf s z t) where
-  same-sizes : n ≡ sizedOf s store tree
-  unfolding sizedOf
+module _ (s store tree z t : List ℕ) (ez : z ≡ zeros (length store)) (et : t ≡ zeros (length tree)) (n : ℕ) (en : n ≡ sizeFault s z t) where
+  same-sizes : n ≡ sizeFault s store tree
+  unfolding sizeFault
   same-sizes =
       let a : length z ≡ length store = ap length ez ∙ length-zeros (length store) in
       let b : length t ≡ length tree = ap length et ∙ length-zeros (length tree) in

@@ -22,7 +22,7 @@ use Rattle.tree.specs.declared.Slot.{Slot}
 use Rattle.tree.specs.Room.{slotAt, Holds}
 use Rattle.host.specs.declared.values.Spelling.{Spelling}
 use Rattle.host.specs.Values.{numberOf, spellingBy, spellBy, Spelled, valueOf, slotOf}
-use Rattle.host.proofs.Exports.{length-zeros}
+use Rattle.slices.proofs.Zeroing.{length-zeros}
 
 module _ (s : List ℕ) (r : Int) (e : intOf r ≡ signed s) where
   pub int-told : (x : Signed) → r ≡ ints.Value x → numberOf (intOf (ints.Value x)) ≡ numberOf (signed s)

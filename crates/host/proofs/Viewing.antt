@@ -41,8 +41,8 @@ use Rattle.host.specs.declared.records.BootView.{BootView}
 use Rattle.host.specs.declared.records.LoadView.{LoadView}
 use Rattle.host.specs.declared.records.ApplicationView.{ApplicationView}
 use Rattle.host.specs.declared.records.FeatureView.{FeatureView}
-use Rattle.host.proofs.Exports.{length-zeros}
-use Rattle.host.specs.Records.{wordNumber, bytesOf, amountOf, listOf, chipNumber, mediaNumber, kindNumber, flagNumber, none, unset, bare, noBoard, noImage, noApplication, partitionOf, headOf, roleOf, bootOf, loadOf, applicationOf, front, partitionShown, applicationShown, boardView, imageView, countsOf, featuresBy, behindItem, featureOf, featureShown, wordBy, wordSize, wordRoom, Worded}
+use Rattle.slices.proofs.Zeroing.{length-zeros}
+use Rattle.host.specs.Records.{wordNumber, bytesOf, amountOf, listOf, chipNumber, mediaNumber, kindNumber, flagNumber, none, unset, bare, noBoard, noImage, noApplication, partitionOf, headOf, roleOf, bootOf, loadOf, applicationOf, front, partitionShown, applicationShown, boardView, imageView, countsOf, featuresBy, lastItem, featureOf, featureShown, wordBy, wordSize, wordRoom, Worded}
 
 -- ---- fields as numbers
 pub word-told : (w v : Word) → w ≡ v → wordNumber v ≡ wordNumber w
@@ -182,10 +182,10 @@ pub item-told : (f g : Feature) → f ≡ g → featureOf g ≡ featureOf f
 item-told f g e = ap featureOf (sym e)
 
 pub feature-shown : (room store : List ℕ) (made kind from len begun last size : ℕ) (s : Bool) (f : Features) (b g : Feature) (r : FeatureView)
-    → s ≡ sound room made → s ≡ true → f ≡ featuresBy kind from len → b ≡ behindItem begun last size → g ≡ nextOf store b items.Nothing (pieces room store made f)
+    → s ≡ sound room made → s ≡ true → f ≡ featuresBy kind from len → b ≡ lastItem begun last size → g ≡ nextOf store b items.Nothing (pieces room store made f)
     → r ≡ featureOf g → r ≡ featureShown room store made kind from len begun last size
 feature-shown room store made kind from len begun last size s f b g r es p ef eb eg h =
-    let k : g ≡ nextOf store (behindItem begun last size) items.Nothing (pieces room store made (featuresBy kind from len)) = rw (← ef, ← eb) eg in
+    let k : g ≡ nextOf store (lastItem begun last size) items.Nothing (pieces room store made (featuresBy kind from len)) = rw (← ef, ← eb) eg in
     rw (← es, p) (h ∙ ap featureOf k)
 
 -- ---- words

@@ -65,9 +65,9 @@ finding tree store made parent key = within tree made (look tree store made pare
 abbrev pub stepping : List ℕ → ℕ → ℕ → ℕ → At
 stepping tree made parent from = within tree made (child tree made parent from)
 
-abbrev pub behindOf : ℕ → ℕ → Found
-behindOf begun after = pick (eqb begun 0) Nothing (founds.At after)
+abbrev pub lastVisited : ℕ → ℕ → Found
+lastVisited begun after = pick (eqb begun 0) Nothing (founds.At after)
 
 -- children in byte order of key
 abbrev pub walking : List ℕ → List ℕ → ℕ → ℕ → ℕ → ℕ → At
-walking tree store made parent begun after = within tree made (next (slotAt tree) store made parent (behindOf begun after))
+walking tree store made parent begun after = within tree made (next (slotAt tree) store made parent (lastVisited begun after))

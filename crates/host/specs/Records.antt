@@ -254,8 +254,8 @@ countsOf c = record { partitions = c .partitions; components = c .components; ap
 unfoldable pub featuresBy : ℕ → ℕ → ℕ → Features
 featuresBy kind from len = pick (eqb kind 1) (lists.Words from len) (pick (eqb kind 2) (pick (ltb from 65536) (lists.Items from) lists.Absent) lists.Absent)
 
-unfoldable pub behindItem : ℕ → ℕ → ℕ → Feature
-behindItem begun last size = pick (eqb begun 0) items.Nothing (items.At (record { from = last; len = size }))
+unfoldable pub lastItem : ℕ → ℕ → ℕ → Feature
+lastItem begun last size = pick (eqb begun 0) items.Nothing (items.At (record { from = last; len = size }))
 
 abbrev pub featureOf : Feature → FeatureView
 featureOf items.Nothing = record { found = 0; from = 0; len = 0 }
@@ -263,7 +263,7 @@ featureOf (items.At p) = record { found = 1; from = p .from; len = p .len }
 
 abbrev pub featureShown : List ℕ → List ℕ → ℕ → ℕ → ℕ → ℕ → ℕ → ℕ → ℕ → FeatureView
 featureShown room store made kind from len begun last size =
-    pick (sound room made) (featureOf (nextOf store (behindItem begun last size) items.Nothing (pieces room store made (featuresBy kind from len)))) (featureOf items.Nothing)
+    pick (sound room made) (featureOf (nextOf store (lastItem begun last size) items.Nothing (pieces room store made (featuresBy kind from len)))) (featureOf items.Nothing)
 
 -- ---- words
 

@@ -10,8 +10,6 @@ use Rattle.meaning.specs.Refusal.{R, ok, bad}
 use Rattle.meaning.specs.declared.Signed.{Signed}
 use Rattle.meaning.specs.Strings.{Ending, closed, escape, unended, Said, decode}
 use Rattle.meaning.specs.Keys.{keys}
-use Rattle.scalar.specs.declared.key.Verdict.{Verdict}
-use Rattle.scalar.specs.declared.key.Verdict.the-variants.{Fine, Malformed, Escape, Unended, TooMany}
 use Rattle.scalar.specs.Splits.{flat, endsOf}
 use Rattle.tree.specs.declared.Slot.{Slot}
 use Rattle.tree.specs.Room.{slotAt}
@@ -54,15 +52,7 @@ valueOf v = record { kind = v .kind; parent = v .parent; key = v .key; len = v .
 abbrev pub slotOf : List ℕ → ℕ → Value
 slotOf room n = pick (ltb n (length room / 32)) (valueOf (slotAt room n)) (record { kind = 0; parent = 0; key = 0; len = 0; «data» = 0 })
 
--- 01's number of a key's verdict
-abbrev pub faultOf : Verdict → ℕ
-faultOf Fine = 0
-faultOf Malformed = 7
-faultOf Escape = 8
-faultOf Unended = 9
-faultOf TooMany = 15
-
--- a key's answer, and what stands in a room of zeros then: its segments one behind the other, or nothing
+-- a key's answer, and what stands in a room of zeros then: its segments one after the other, or nothing
 abbrev pub segmentsOf : R (List (List ℕ)) → Segments
 segmentsOf (ok ks) = record { number = 0; count = length ks; used = length (flat ks) }
 segmentsOf (bad n) = record { number = n; count = 0; used = 0 }
@@ -85,8 +75,8 @@ pub record Ends (s room room' : List ℕ) (i r : ℕ) : Type 0 where
   pub left : room' ≡ zeros (length room)
 
 -- 17 where a room is too small, then 1 where the text is too long
-unfoldable pub sizedOf : List ℕ → List ℕ → List ℕ → ℕ
-sizedOf s store tree = pick (suffice (length store) (length tree)) (pick (ltb 32768 (length s)) 1 0) 17
+unfoldable pub sizeFault : List ℕ → List ℕ → List ℕ → ℕ
+sizeFault s store tree = pick (suffice (length store) (length tree)) (pick (ltb 32768 (length s)) 1 0) 17
 
 -- what a value leaves under 01's limits in empty rooms
 abbrev pub outOf : List ℕ → Out
@@ -94,7 +84,7 @@ outOf s = valueOut 2048 16 0 0 0 s
 
 -- the number that is told, 0 for none
 abbrev pub told : List ℕ → List ℕ → List ℕ → ℕ
-told s store tree = pick (eqb (sizedOf s store tree) 0) (outOf s .fault) (sizedOf s store tree)
+told s store tree = pick (eqb (sizeFault s store tree) 0) (outOf s .fault) (sizeFault s store tree)
 
 pub record Readout (s store tree store' tree' : List ℕ) (r : ValueRead) : Type 0 where
   pub says : r ≡ pick (eqb (told s store tree) 0) (record { number = 0; used = length (outOf s .bytes); made = length (outOf s .slots) }) (record { number = told s store tree; used = 0; made = 0 })

@@ -3,7 +3,7 @@
 use toml_lite::Read;
 use tree::Found;
 ghost use mathlib.Core.Path.{_≡_};
-ghost use Rattle.host.specs.Documents.{Presented, atOf, finding, stepping, behindOf, walking};
+ghost use Rattle.host.specs.Documents.{Presented, atOf, finding, stepping, lastVisited, walking};
 
 // number 0: accepted, and then made counts the values; else 01's number, section and place.
 #[repr(C)]
@@ -51,7 +51,8 @@ pub extern "C" fn document_read(text: &[u8], store: &mut [u8], tree: &mut [u8]) 
     }
 }
 
-fn told(f: Found) -> At
+// The answer of a search.
+fn at_of(f: Found) -> At
     ensures { λ r. ⌜ r ≡ atOf f ⌝ }
 {
     match f {
@@ -72,9 +73,9 @@ pub extern "C" fn tree_find(tree: &[u8], store: &[u8], made: usize, parent: u16,
     ensures { λ r. ⌜ r ≡ finding (now (tree .entry)) (now (store .entry)) made parent (now (key .entry)) ⌝ }
 {
     if tree::capacity(tree) < made {
-        return told(Found::Nothing);
+        return at_of(Found::Nothing);
     }
-    told(tree::find(tree, store, made, parent, key))
+    at_of(tree::find(tree, store, made, parent, key))
 }
 
 // The first of the values made, from a number on, that hangs under the parent; nothing where the room has fewer values.
@@ -83,14 +84,14 @@ pub extern "C" fn tree_child(tree: &[u8], made: usize, parent: u16, from: usize)
     ensures { λ r. ⌜ r ≡ stepping (now (tree .entry)) made parent from ⌝ }
 {
     if tree::capacity(tree) < made {
-        return told(Found::Nothing);
+        return at_of(Found::Nothing);
     }
-    told(tree::child(tree, made, parent, from))
+    at_of(tree::child(tree, made, parent, from))
 }
 
-// Where a walk in byte order stands: at its start, or behind a value.
-fn behind(begun: u32, after: usize) -> Found
-    ensures { λ r. ⌜ r ≡ behindOf begun after ⌝ }
+// Where a walk in byte order stands: at its start, or after a value.
+fn last_visited(begun: u32, after: usize) -> Found
+    ensures { λ r. ⌜ r ≡ lastVisited begun after ⌝ }
 {
     if begun == 0 {
         return Found::Nothing;
@@ -111,8 +112,8 @@ pub extern "C" fn tree_next(
     ensures { λ r. ⌜ r ≡ walking (now (tree .entry)) (now (store .entry)) made parent begun after ⌝ }
 {
     if tree::capacity(tree) < made {
-        return told(Found::Nothing);
+        return at_of(Found::Nothing);
     }
     let low = tree::skip_up(tree, made, parent, 0);
-    told(tree::next(tree, store, low, made, parent, behind(begun, after)))
+    at_of(tree::next(tree, store, low, made, parent, last_visited(begun, after)))
 }

@@ -11,7 +11,7 @@ pub struct Listed {
     pub written: u32,
 }
 
-// Reads a preset into the two rooms, holds it to the rules and writes the listing of its boot chain to out, which stays as it is behind the lines. A refusal leaves all three all zero.
+// Reads a preset into the two rooms, holds it to the rules and writes the listing of its boot chain to out, which stays as it is after the lines. A refusal leaves all three all zero.
 #[no_mangle]
 pub extern "C" fn preset_listing(
     text: &[u8],

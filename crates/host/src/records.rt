@@ -19,7 +19,10 @@ ghost use Rattle.parse.specs.Views as views;
 ghost use Rattle.host.specs.Records as records;
 ghost use Rattle.host.specs.Records.{Worded};
 
-// Where a text's bytes are. kind 0: absent; 1: in the store; 2: the lent name; 3: a fixed word; 4: in the store, with `.aic` behind them.
+// A place of the tree room is told in two bytes.
+const PLACES: usize = 65536;
+
+// Where a text's bytes are. kind 0: absent; 1: in the store; 2: the lent name; 3: a fixed word; 4: in the store, with `.aic` after them.
 #[repr(C)]
 pub struct Bytes {
     pub kind: u32,
@@ -679,7 +682,7 @@ fn features_by(kind: u32, from: usize, len: usize) -> Features
         return Features::Words { from, len };
     }
     if kind == 2 {
-        if from < 65536 {
+        if from < PLACES {
             return Features::Items(from as u16);
         }
         return Features::Absent;
@@ -687,8 +690,9 @@ fn features_by(kind: u32, from: usize, len: usize) -> Features
     Features::Absent
 }
 
-fn behind_item(begun: u32, last: usize, size: usize) -> Feature
-    ensures { λ r. ⌜ r ≡ records.behindItem begun last size ⌝ }
+// Where a walk of a feature list stands: at its start, or after an item.
+fn last_item(begun: u32, last: usize, size: usize) -> Feature
+    ensures { λ r. ⌜ r ≡ records.lastItem begun last size ⌝ }
 {
     if begun == 0 {
         return Feature::Nothing;
@@ -733,7 +737,7 @@ pub extern "C" fn preset_feature(
 {
     if parse::view::sound(tree, made) {
         let f = features_by(kind, from, len);
-        return feature_of(features::next(tree, store, made, f, behind_item(begun, last, size)));
+        return feature_of(features::next(tree, store, made, f, last_item(begun, last, size)));
     }
     feature_of(Feature::Nothing)
 }
@@ -763,7 +767,7 @@ fn word_by(n: u32) -> Word
     }
 }
 
-// Writes a word's bytes at the head of a room and zeros behind them, and says how many; 0 where there is no such word or the room is shorter.
+// Writes a word's bytes at the head of a room and zeros after them, and says how many; 0 where there is no such word or the room is shorter.
 #[no_mangle]
 pub extern "C" fn preset_word(word: u32, out: &mut [u8]) -> usize
     ensures { λ r. ⌜ Worded word (now (out .entry)) (now (out .exit)) r ⌝ }

@@ -9,7 +9,9 @@ use preset::listing::Listed;
 const NAME: &[u8; 5] = b"board";
 // One byte more than a text may have, so that a longer one is told from it.
 const INPUT_BYTES: usize = TEXT_BYTES + 1;
+
 const TREE_BYTES: usize = tree::VALUE_BYTES * meaning::VALUES;
+
 const OUTPUT_BYTES: usize = preset::listing::LISTING_BYTES + 5;
 // `refused` and three numbers need no more.
 const REFUSAL_BYTES: usize = 96;

@@ -7,7 +7,7 @@ use Rattle.host.proofs.records.preset_feature.Tie as tie
 use Rattle.host.proofs.records.preset_feature.Reads as reads
 use Rattle.host.proofs.records.preset_feature.Lts as lts
 use Rattle.features.proofs.next.Reads as next-reads
-use Rattle.host.proofs.records.behind_item.Reads as behind-item-reads
+use Rattle.host.proofs.records.last_item.Reads as last-item-reads
 use Rattle.host.proofs.records.feature_of.Reads as feature-of-reads
 use Rattle.host.proofs.records.features_by.Reads as features-by-reads
 use Rattle.parse.proofs.view.sound.Reads as sound-reads
@@ -18,8 +18,8 @@ sound-requires c κs = search needs
 features-by-requires : tie.Need-features-by-requires
 features-by-requires c κs = search needs
 
-behind-item-requires : tie.Need-behind-item-requires
-behind-item-requires c κs = search needs
+last-item-requires : tie.Need-last-item-requires
+last-item-requires c κs = search needs
 
 next-requires : tie.Need-next-requires
 next-requires c κs = search (needs, sound-rooms)
@@ -42,7 +42,7 @@ preset-feature-spec =
     (tie.spec
     sound-requires
     features-by-requires
-    behind-item-requires
+    last-item-requires
     next-requires
     feature-of-requires
     returns

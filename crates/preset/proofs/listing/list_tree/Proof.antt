@@ -6,7 +6,7 @@ use Rattle.preset.proofs.listing.list_tree.Reads as reads
 use Rattle.preset.proofs.listing.list_tree.Lts as lts
 use Rattle.preset.proofs.listing.list.Reads as list-reads
 use Rattle.plan.proofs.judge.Reads as judge-reads
-use Rattle.preset.proofs.settle.Reads as settle-reads
+use Rattle.preset.proofs.clear_if_refused.Reads as clear-if-refused-reads
 
 slice-aggregate-judge : tie.Need-slice-aggregate-judge
 slice-aggregate-judge c = search needs
@@ -14,8 +14,8 @@ slice-aggregate-judge c = search needs
 judge-requires : tie.Need-judge-requires
 judge-requires c κs = search needs
 
-settle-requires : tie.Need-settle-requires
-settle-requires c κs = search needs
+clear-if-refused-requires : tie.Need-clear-if-refused-requires
+clear-if-refused-requires c κs = search needs
 
 list-requires : tie.Need-list-requires
 list-requires c κs = search (needs, tree-ready)
@@ -38,7 +38,7 @@ list-tree-spec =
     (tie.spec
     slice-aggregate-judge
     judge-requires
-    settle-requires
+    clear-if-refused-requires
     list-requires
     same-length
     same-length-2
