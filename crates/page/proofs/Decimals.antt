@@ -33,7 +33,7 @@ digit-fits n = record { fits = omega (arith, mod-lt n {m = 10} (omega arith)) }
 pub digit-shown : (n : ℕ) → Fits w8 (48 + n % 10)
 digit-shown n = record { fits = omega (arith, mod-lt n {m = 10} (omega arith)) }
 
--- a byte set, and those behind it
+-- a byte set, and those after it
 from-set : (room : List ℕ) (i v : ℕ) → i < length room → drop i (set room i v) ≡ v ∷ drop (i + 1) room
 from-set room i v h =
     let e : suc i ≡ i + 1 = omega arith in
@@ -42,9 +42,9 @@ from-set room i v h =
 
 module _ (number : ℕ) (room : List ℕ) (n i : ℕ) where
   -- a digit with those before it still to come
-  more : (i : ℕ) (behind : List ℕ) → (i ≡ 0 → ⊥) → 10 ≤ n → digits i n behind ≡ digits (i - 1) (n / 10) ((48 + n % 10) ∷ behind)
-  more zero behind z h = absurd (z refl)
-  more (suc i) behind z h = let e : suc i - 1 ≡ i = omega arith in rw (e, le-ltb n 10 h)
+  more : (i : ℕ) (after : List ℕ) → (i ≡ 0 → ⊥) → 10 ≤ n → digits i n after ≡ digits (i - 1) (n / 10) ((48 + n % 10) ∷ after)
+  more zero after z h = absurd (z refl)
+  more (suc i) after z h = let e : suc i - 1 ≡ i = omega arith in rw (e, le-ltb n 10 h)
 
   pub spell-on : Spelling number room n i → 10 ≤ n → (i ≡ 0 → ⊥) → Spelling number (set room i (48 + n % 10)) (n / 10) (i - 1)
   spell-on s h z =
@@ -56,9 +56,9 @@ module _ (number : ℕ) (room : List ℕ) (n i : ℕ) where
       }
 
   -- the first digit: none is left before it
-  last : (i : ℕ) (behind : List ℕ) → n < 10 → digits i n behind ≡ (48 + n % 10) ∷ behind
-  last zero behind h = refl
-  last (suc i) behind h = rw (lt-ltb n 10 h, mod-eq-of-lt {n = n} {m = 10} h)
+  last : (i : ℕ) (after : List ℕ) → n < 10 → digits i n after ≡ (48 + n % 10) ∷ after
+  last zero after h = refl
+  last (suc i) after h = rw (lt-ltb n 10 h, mod-eq-of-lt {n = n} {m = 10} h)
 
   said : Spelling number room n i → digits i n (drop (i + 1) room) ≡ (48 + n % 10) ∷ drop (i + 1) room → Digits number (set room i (48 + n % 10)) i
   said s e =

@@ -1,4 +1,4 @@
--- One piece behind the other on a lent page.
+-- One piece after the other on a lent page.
 use Prim.Native.Nat.{ℕ, _+_}
 use mathlib.Core.List.{List, [], _++_}
 use mathlib.Core.Path.{_≡_, refl, sym, ap, _∙_}

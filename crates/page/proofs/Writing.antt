@@ -103,9 +103,9 @@ word-some words.Pbp = refl
 word-some words.Raw = refl
 word-some words.Aic = refl
 
-some-behind : (s : List ℕ) (b : ℕ) (bs : List ℕ) → nil? (s ++ (b ∷ bs)) ≡ false
-some-behind [] b bs = refl
-some-behind (a ∷ s) b bs = refl
+some-after : (s : List ℕ) (b : ℕ) (bs : List ℕ) → nil? (s ++ (b ∷ bs)) ≡ false
+some-after [] b bs = refl
+some-after (a ∷ s) b bs = refl
 
 module _ (store name : List ℕ) (t : Text) where
   pub blank-by : (s : List ℕ) → s ≡ spelled store name t → eqb (length s) 0 ≡ nil? (spelled store name t)
@@ -115,4 +115,4 @@ module _ (store name : List ℕ) (t : Text) where
   blank-fixed w e = rw e (sym (word-some w))
 
   pub blank-aic : (from len : ℕ) → t ≡ texts.WithAic from len → false ≡ nil? (spelled store name t)
-  blank-aic from len e = rw e (sym (some-behind (clip from len store) 46 (ascii "aic")))
+  blank-aic from len e = rw e (sym (some-after (clip from len store) 46 (ascii "aic")))

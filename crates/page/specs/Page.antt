@@ -6,7 +6,7 @@ use lib.ListN.{length, drop}
 use Rattle.meaning.specs.Listing.{decimal}
 use Rattle.laws.specs.Stored.{stored}
 
--- bytes behind what stands on a page, and the place behind them; of bytes that do not fit nothing is promised but the page's length
+-- bytes after what stands on a page, and the place after them; of bytes that do not fit nothing is promised but the page's length
 pub record Wrote (s out : List ℕ) (at : ℕ) (out' : List ℕ) (at' : ℕ) : Type 0 where
   pub long : length out' ≡ length out
   pub fits : at + length s ≤ length out → (out' ≡ stored out at s) × (at' ≡ at + length s)

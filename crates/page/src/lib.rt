@@ -1,4 +1,4 @@
-// One writer for all that is printed: bytes, numbers, words and texts behind what stands on a lent page.
+// One writer for all that is printed: bytes, numbers, words and texts after what stands on a lent page.
 
 use schema::Text;
 use schema::Word;
@@ -11,7 +11,7 @@ ghost use Rattle.schema.specs.Words as words;
 ghost use Rattle.schema.specs.Texts.{spelled};
 ghost use Rattle.page.specs.Page.{Wrote, Digits};
 
-// Bytes at a place of the page, and the place behind them; nothing where they do not fit.
+// Bytes at a place of the page, and the place after them; nothing where they do not fit.
 pub fn put(out: &mut [u8], at: usize, s: &[u8]) -> usize
     ensures { λ r. ⌜ Wrote (now (s .entry)) (now (out .entry)) at (now (out .exit)) r ⌝ }
 {
@@ -81,7 +81,7 @@ pub fn word(out: &mut [u8], at: usize, w: Word) -> usize
     bare(out, a, w)
 }
 
-// Bytes of the store with `.aic` behind them.
+// Bytes of the store with `.aic` after them.
 fn with_aic(out: &mut [u8], at: usize, s: &[u8]) -> usize
     ensures { λ r. ⌜ Wrote (32 ∷ (now (s .entry) ++ ascii ".aic")) (now (out .entry)) at (now (out .exit)) r ⌝ }
 {

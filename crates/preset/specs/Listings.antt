@@ -33,7 +33,7 @@ pub record Listing (tree : List ℕ) (o : Outcome) : Type 0 where
   pub rooms : o .number ≡ 0 → Rooms tree (o .made)
   pub low : o .place ≤ 70000
 
--- the lines of a plan's rooms, where they fit, and the output behind them as it was; a refusal leaves none
+-- the lines of a plan's rooms, where they fit, and the output after them as it was; a refusal leaves none
 pub record Lined (name store' tree' out out' : List ℕ) (o : Outcome) (r : Listed) : Type 0 where
   pub not : (o .number ≡ 0 → ⊥) → Emptied out out' o r
   pub low : r .place ≤ 70000

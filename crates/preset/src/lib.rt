@@ -28,7 +28,7 @@ pub enum Way {
 }
 
 // A text that has no tree.
-pub fn unread(number: u32, line: usize) -> Outcome
+pub fn refused_at_line(number: u32, line: usize) -> Outcome
     ensures { λ r. ⌜ r ≡ record { number = number; section = 0; place = line; made = 0 } ⌝ }
 {
     Outcome {
@@ -40,7 +40,7 @@ pub fn unread(number: u32, line: usize) -> Outcome
 }
 
 // What a judgement leaves: the rooms as they are; a refusal, all zero.
-pub fn settle(v: Refusal, store: &mut [u8], tree: &mut [u8], made: usize) -> Outcome
+pub fn clear_if_refused(v: Refusal, store: &mut [u8], tree: &mut [u8], made: usize) -> Outcome
     requires { ⌜ Settling v made ⌝ }
     ensures { λ r. ⌜ Kept v (now (store .entry)) (now (tree .entry)) made (now (store .exit)) (now (tree .exit)) r ⌝ }
 {
@@ -89,8 +89,8 @@ pub fn judge_text(
     match r {
         Read::Fine(st) => {
             let v = judge_rooms(way, tree, store, st.made, name, key);
-            settle(v, store, tree, st.made)
+            clear_if_refused(v, store, tree, st.made)
         }
-        Read::Fault { number, line } => unread(number, line),
+        Read::Fault { number, line } => refused_at_line(number, line),
     }
 }

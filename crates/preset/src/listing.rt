@@ -48,7 +48,7 @@ fn unlisted(o: Outcome, out: &mut [u8]) -> Listed
     }
 }
 
-// The lines of an accepted plan; the output behind them stays as it is.
+// The lines of an accepted plan; the output after them stays as it is.
 fn list(o: Outcome, store: &[u8], tree: &[u8], out: &mut [u8], name: &[u8]) -> Listed
     requires { ⌜ listings.Listing (now tree) o ⌝ }
     ensures { λ r. ⌜ Lined (now (name .entry)) (now (store .entry)) (now (tree .entry)) (now (out .entry)) (now (out .exit)) o r ⌝ }
@@ -86,7 +86,7 @@ fn list_tree(name: &[u8], store: &mut [u8], tree: &mut [u8], out: &mut [u8], mad
     ensures { λ r. ⌜ listings.TreeListed (now (name .entry)) (now (store .entry)) (now (tree .entry)) made (now (out .entry)) (now (store .exit)) (now (tree .exit)) (now (out .exit)) r ⌝ }
 {
     let v = plan::judge_selection(tree, store, made, name, 0, b"");
-    let o = crate::settle(v, store, tree, made);
+    let o = crate::clear_if_refused(v, store, tree, made);
     list(o, store, tree, out, name)
 }
 
@@ -97,11 +97,11 @@ fn list_text(text: &[u8], name: &[u8], store: &mut [u8], tree: &mut [u8], out: &
     let r = toml_lite::read_tree(text, store, tree);
     match r {
         Read::Fine(st) => list_tree(name, store, tree, out, st.made),
-        Read::Fault { number, line } => unlisted(crate::unread(number, line), out),
+        Read::Fault { number, line } => unlisted(crate::refused_at_line(number, line), out),
     }
 }
 
-// The listing of a preset's boot chain, the output behind it as it was, and the rooms as `plan` leaves them. A refusal leaves all three rooms all zero.
+// The listing of a preset's boot chain, the output after it as it was, and the rooms as `plan` leaves them. A refusal leaves all three rooms all zero.
 pub fn listing(
     text: &[u8],
     name: &[u8],

@@ -1,3 +1,4 @@
+-- It ends because it counts down; nothing else is promised.
 use borrow.Author.Needs.{needs}
 use Rattle.listing.proofs.drain.Statement.{statement}
 use Rattle.listing.proofs.drain.Tie as tie

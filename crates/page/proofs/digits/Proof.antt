@@ -1,3 +1,4 @@
+-- The digits laid so far, after those of what is left of the number, are the digits of the number.
 use mathlib.Core.Logic.{⊎-elim}
 use native.Mathlib.Omega.{arith}
 use lib.ListN.{length-set}

@@ -5,8 +5,8 @@ use Rattle.preset.proofs.judge_text.Tie as tie
 use Rattle.preset.proofs.judge_text.Reads as reads
 use Rattle.preset.proofs.judge_text.Lts as lts
 use Rattle.toml_lite.proofs.read_tree.Reads as read-tree-reads
-use Rattle.preset.proofs.settle.Reads as settle-reads
-use Rattle.preset.proofs.unread.Reads as unread-reads
+use Rattle.preset.proofs.clear_if_refused.Reads as clear-if-refused-reads
+use Rattle.preset.proofs.refused_at_line.Reads as refused-at-line-reads
 use Rattle.preset.proofs.judge_rooms.Reads as judge-rooms-reads
 
 read-tree-requires : tie.Need-read-tree-requires
@@ -18,14 +18,14 @@ enum-known-r c = search needs
 judge-rooms-requires : tie.Need-judge-rooms-requires
 judge-rooms-requires c κs = search (needs, read-rooms)
 
-settle-requires : tie.Need-settle-requires
-settle-requires c κs = search (needs, read-settles)
+clear-if-refused-requires : tie.Need-clear-if-refused-requires
+clear-if-refused-requires c κs = search (needs, read-settles)
 
 enum-known-r-2 : tie.Need-enum-known-r-2
 enum-known-r-2 c = search needs
 
-unread-requires : tie.Need-unread-requires
-unread-requires c κs = search needs
+refused-at-line-requires : tie.Need-refused-at-line-requires
+refused-at-line-requires c κs = search needs
 
 same-length : tie.Need-same-length
 same-length c = search needs
@@ -52,9 +52,9 @@ judge-text-spec =
     read-tree-requires
     enum-known-r
     judge-rooms-requires
-    settle-requires
+    clear-if-refused-requires
     enum-known-r-2
-    unread-requires
+    refused-at-line-requires
     same-length
     same-length-2
     returns

@@ -8,7 +8,7 @@ use Rattle.preset.proofs.listing.list_text.Lts as lts
 use Rattle.toml_lite.proofs.read_tree.Reads as read-tree-reads
 use Rattle.preset.proofs.listing.list_tree.Reads as list-tree-reads
 use Rattle.preset.proofs.listing.unlisted.Reads as unlisted-reads
-use Rattle.preset.proofs.unread.Reads as unread-reads
+use Rattle.preset.proofs.refused_at_line.Reads as refused-at-line-reads
 
 read-tree-requires : tie.Need-read-tree-requires
 read-tree-requires c κs = search needs
@@ -22,8 +22,8 @@ list-tree-requires c κs = search (needs, read-rooms)
 enum-known-r-2 : tie.Need-enum-known-r-2
 enum-known-r-2 c = search needs
 
-unread-requires : tie.Need-unread-requires
-unread-requires c κs = search needs
+refused-at-line-requires : tie.Need-refused-at-line-requires
+refused-at-line-requires c κs = search needs
 
 unlisted-requires : tie.Need-unlisted-requires
 unlisted-requires c κs = search needs
@@ -60,7 +60,7 @@ list-text-spec =
     enum-known-r
     list-tree-requires
     enum-known-r-2
-    unread-requires
+    refused-at-line-requires
     unlisted-requires
     same-length
     same-length-2

@@ -6,7 +6,7 @@ use Rattle.preset.proofs.listing.list_tree.Reads as reads
 use Rattle.preset.proofs.listing.list_tree.Lts as lts
 use Rattle.preset.proofs.listing.list.Reads as list-reads
 use Rattle.plan.proofs.judge_selection.Reads as judge-selection-reads
-use Rattle.preset.proofs.settle.Reads as settle-reads
+use Rattle.preset.proofs.clear_if_refused.Reads as clear-if-refused-reads
 
 slice-aggregate-judge-selection : tie.Need-slice-aggregate-judge-selection
 slice-aggregate-judge-selection c = search needs
@@ -14,8 +14,8 @@ slice-aggregate-judge-selection c = search needs
 judge-selection-requires : tie.Need-judge-selection-requires
 judge-selection-requires c κs = search needs
 
-settle-requires : tie.Need-settle-requires
-settle-requires c κs = search needs
+clear-if-refused-requires : tie.Need-clear-if-refused-requires
+clear-if-refused-requires c κs = search needs
 
 list-requires : tie.Need-list-requires
 list-requires c κs = search (needs, tree-ready)
@@ -38,7 +38,7 @@ list-tree-spec =
     (tie.spec
     slice-aggregate-judge-selection
     judge-selection-requires
-    settle-requires
+    clear-if-refused-requires
     list-requires
     same-length
     same-length-2
