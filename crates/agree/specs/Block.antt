@@ -1,4 +1,4 @@
--- A value's slots, one behind the other, show the value and all that is in it.
+-- A value's slots, one after the other, show the value and all that is in it.
 use Prim.Native.Nat.{ℕ, zero, suc, _+_, _-_, _≤_, _<_}
 use mathlib.Core.List.{List, [], _∷_}
 use mathlib.Core.Bool.{Bool, true, false}
@@ -18,7 +18,7 @@ use Rattle.agree.specs.Finds.{get, find, nth}
 use Rattle.agree.specs.Meets.{Shows, Meets, Under, slotOf}
 use Rattle.agree.specs.Slots.{count-up}
 
--- the value stands at the numbers n to before e: an array before its items, which hang under it and stand one behind the other
+-- the value stands at the numbers n to before e: an array before its items, which hang under it and stand one after the other
 abbrev mutual
   pub Laid : List ℕ → (ℕ → Slot) → ℕ → Value → ℕ → Type 0
   Laid bytes at n (str s) e = (e ≡ n + 1) × Shows bytes (at n) (str s)

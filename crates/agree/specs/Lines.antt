@@ -29,7 +29,7 @@ use Rattle.agree.specs.Here.{init, last, onto-last, toLast-is, Held}
 
 -- ---- what is asked of values
 
--- a value that was read, and what it left in the rooms: its bytes behind any store of used bytes, and its slots, made from number made on
+-- a value that was read, and what it left in the rooms: its bytes after any store of used bytes, and its slots, made from number made on
 pub record Value-laid (used made : ℕ) (v : Value) (bs : List ℕ) (m : ℕ) (o : Out) : Type 0 where
   pub fault : o .fault ≡ 0
   pub bytes : o .bytes ≡ bs

@@ -51,13 +51,13 @@ pub record Entry (bytes : List ℕ) (vs : List Slot) (x : Value) (g : List Key) 
   pub leads : to bytes vs (name k ∷ g) ≡ n + 2
   pub place : Place bytes vs x (n + 2) v
 
--- the entries u of the table t are left behind the value found before
+-- the entries u of the table t are left after the value found before
 pub record Left (bytes : List ℕ) (vs : List Slot) (t : Table) (after : Found) (u : Table) : Type 0 where
   pub made : isMade (length vs) after ≡ true
   pub rises : Rises u
   pub is : (k : List ℕ) → lookup u k ≡ pick (over bytes vs after k) (lookup t k) none
 
--- value number n stands for the first of the entries u, and the others are left behind it
+-- value number n stands for the first of the entries u, and the others are left after it
 pub record Stepped (bytes : List ℕ) (vs : List Slot) (x : Value) (g : List Key) (t u : Table) (n : ℕ) : Type 0 where
   pub key : List ℕ
   pub value : Value
@@ -66,7 +66,7 @@ pub record Stepped (bytes : List ℕ) (vs : List Slot) (x : Value) (g : List Key
   pub stands : Entry bytes vs x g n key value
   pub left : Left bytes vs t (At n) rest
 
--- at first all are left, in byte order, and behind a key those above it
+-- at first all are left, in byte order, and after a key those above it
 pub left-first : (bytes : List ℕ) (vs : List Slot) (t : Table) → Left bytes vs t Nothing (sorted t)
 left-first bytes vs t = record { made = refl; rises = sorted-rises t; is = sorted-lookup t }
 

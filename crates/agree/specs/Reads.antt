@@ -147,7 +147,7 @@ module _ (bytes : List ℕ) (vs : List Slot) (x : Value) (a : Agree bytes vs x) 
           let w : count (logOf vs) (g .number) p ≡ i = ap (count (logOf vs) (g .number)) (sym (h .leads)) ∙ test-count bytes (logOf vs) q i (g .number) (g .holds) in
           absurd (omega (arith, count-up (logOf vs) p (g .number) (length vs) (g .below) u))
 
-      -- behind i items the next one found stands for item i
+      -- after i items the next one found stands for item i
       pub place-item : (v : Value) → nth is i ≡ some v
           → (n : ℕ) × (nextS vs p from ≡ At n) × (from ≤ n) × (n < length vs) × (count (logOf vs) (n + 1) p ≡ i + 1) × Place bytes vs x (n + 2) v
       place-item v d = item-by (nextS vs p from) says v d
@@ -157,6 +157,6 @@ module _ (bytes : List ℕ) (vs : List Slot) (x : Value) (a : Agree bytes vs x) 
           absurd (omega (arith, count-up (logOf vs) p n (length vs) (s .1) (s .2), s .3, place-count))
       no-item-by Nothing s l = refl
 
-      -- behind the last item none is found
+      -- after the last item none is found
       pub place-no-item : many is ≤ i → nextS vs p from ≡ Nothing
       place-no-item l = no-item-by (nextS vs p from) says l

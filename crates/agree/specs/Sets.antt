@@ -29,7 +29,7 @@ onto-long : (q : List Key) (ks : List (List ℕ)) → length q ≤ length (onto 
 onto-long q [] = omega arith
 onto-long q (k ∷ ks) = omega (arith, onto-long (name k ∷ q) ks)
 
--- the values behind those that stand are as they were
+-- the values after those that stand are as they were
 front-same : (vs ws us : List Slot) → us ≡ vs ++ ws → (i : ℕ) → i < length vs → getD us i void ≡ getD vs i void
 front-same vs ws us e i l = ap (λ (z : List Slot). getD z i void) e ∙ List·getD-append vs ws void i l
 

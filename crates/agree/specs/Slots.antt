@@ -55,7 +55,7 @@ kind-more vs s zero d = refl
 kind-more vs s (suc zero) d = refl
 kind-more vs s (suc (suc m)) d = ap (λ (v : Slot). v .kind) (getD-more vs s m (λ e. d (omega arith)))
 
--- the slot may hang under p with the key: a table and the key's bytes, or an array and the place behind its items
+-- the slot may hang under p with the key: a table and the key's bytes, or an array and the place after its items
 abbrev pub Fit : List ℕ → List Slot → Slot → ℕ → Key → Type 0
 Fit bytes vs s p (name k) = (kindAt (logOf vs) p ≡ 5) × (keyed bytes s k ≡ true)
 Fit bytes vs s p (index i) = (kindAt (logOf vs) p ≡ 4) × (i ≡ count (logOf vs) (length vs) p)

@@ -118,7 +118,7 @@ module _ (bytes : List ℕ) (vs : List Slot) (x : Value) (a : Agree bytes vs x) 
         low = λ n. omega (arith, more-low n, length-more vs s);
       }
 
-  -- the new path leads to it, and nothing is reached behind it
+  -- the new path leads to it, and nothing is reached after it
   pub leads-more : (r : List Key) → to bytes (vs ++ (s ∷ [])) (r ++ (k ∷ g)) ≡ walk bytes (logOf (vs ++ (s ∷ []))) (length vs + 2) r
   leads-more r =
       walk-new bytes (logOf vs) (logOf (vs ++ (s ∷ []))) (length vs) (to bytes vs g) k

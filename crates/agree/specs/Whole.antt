@@ -64,7 +64,7 @@ module _ (values : Values-agree) (lim : Limits) where
         (agree-bytes (r .bytes) (flat (k ∷ ks)) (r .slots) (table (d .root))) (ap (λ (b : List ℕ). r .bytes ++ b) (flat-is (k ∷ ks)))
     pushes-by (bad n) h = refl
 
-    -- the key behind a value that was read
+    -- the key after a value that was read
     key-by : (v : Value) (bs : List ℕ) (n : ℕ) (o : Out) → Value-laid (length (r .bytes)) m v bs n o → (ks : R (List (List ℕ))) → Reads NonEmpty ks
         → Line-agrees (r .bytes) (adding bs (okThenGot ks (λ p. storing (concat p) (growMap (λ t. record { root = t; under = d .under }) (underHeader (d .under) (assign (lim .values) p v) (d .root) n)))))
         (pathBy (r .bytes ++ o .bytes) ks (λ bytes gs. settleS bytes (toLastS (lim .values) bytes (hangS m) gs (r .slots ++ o .slots) (r .here)) (λ _. r .here)))

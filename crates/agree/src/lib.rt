@@ -1,4 +1,5 @@
-// Theorems about the definitions stand in specs/. There is no code here but one function, since a crate has at least one.
+// Theorems about the definitions stand in specs/. There is no code here but one function, since a crate has at least
+// one.
 
 ghost use mathlib.Core.Path.{_≡_};
 

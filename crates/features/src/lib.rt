@@ -48,7 +48,8 @@ pub struct FeaturesRead {
 
 // The first word of a stored text from a position on.
 fn raw_word(store: &[u8], from: usize, len: usize, at: usize) -> Raw
-    ensures { λ r. ⌜ piece.Steps (piece.wordsFrom (now (store .entry)) from len) (length (clip from len (now (store .entry)))) at r ⌝ }
+    ensures { λ r. ⌜ piece.Steps (piece.wordsFrom (now (store .entry)) from len)
+        (length (clip from len (now (store .entry)))) at r ⌝ }
 {
     let s = schema::stored(store, from, len);
     let word = reader::first(s, at);
@@ -372,7 +373,8 @@ fn most(store: &[u8], made: usize, f: Features) -> usize
     }
 }
 
-// Among which values all items of a list stand: an array's between its first item and its newest, so that a walk looks at no others.
+// Among which values all items of a list stand: an array's between its first item and its newest, so that a walk
+// looks at no others.
 fn span(tree: &[u8], made: usize, f: Features) -> Fields
     requires { ⌜ Rooms (now tree) made ⌝ }
     ensures { λ r. ⌜ r ≡ piece.span (now (tree .entry)) made f ⌝ }

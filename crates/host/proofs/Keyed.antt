@@ -29,7 +29,7 @@ zeros-at zero i = refl
 zeros-at (suc n) zero = refl
 zeros-at (suc n) (suc i) = zeros-at n i
 
--- behind a list there are only zeros
+-- after a list there are only zeros
 past : (l : List ℕ) (n i : ℕ) → length l ≤ i → getD (l ++ zeros n) i 0 ≡ getD l i 0
 past [] n i h = zeros-at n i
 past (b ∷ l) n zero h = refl

@@ -254,7 +254,7 @@ pub preset-is : (text name store tree store' tree' : List ℕ) (o : parsed.Outco
 unfolding read
 preset-is text name store tree store' tree' o q r e = rw e (answered-is (verdicts.reading name) (presetOf of01 name) text name store tree store' tree' o (reading-judges name) r)
 
--- ---- one judge behind another
+-- ---- one judge after another
 
 -- a root's preset, where what is asked of it is not refused
 abbrev held : {X : Type 0} → (meant.Preset → Answer X) → (Table → Answer meant.Preset) → Table → Answer meant.Preset

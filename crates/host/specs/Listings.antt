@@ -17,7 +17,7 @@ abbrev pub listedBy : Answer meant.Listed → Listed
 listedBy (accepted l) = record { number = 0; section = 0; place = 0; written = length (l .lines) }
 listedBy (refused f section place) = record { number = numberOf f; section = section; place = place; written = 0 }
 
--- the lines, and the output behind them as it was; "all lent rooms then hold zero"
+-- the lines, and the output after them as it was; "all lent rooms then hold zero"
 abbrev pub outBy : List ℕ → Answer meant.Listed → List ℕ
 outBy out (accepted l) = over (l .lines) out
 outBy out (refused f section place) = zeros (length out)

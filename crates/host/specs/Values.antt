@@ -63,7 +63,7 @@ faultOf Escape = 8
 faultOf Unended = 9
 faultOf TooMany = 15
 
--- a key's answer, and what stands in a room of zeros then: its segments one behind the other, or nothing
+-- a key's answer, and what stands in a room of zeros then: its segments one after the other, or nothing
 abbrev pub segmentsOf : R (List (List ℕ)) → Segments
 segmentsOf (ok ks) = record { number = 0; count = length ks; used = length (flat ks) }
 segmentsOf (bad n) = record { number = n; count = 0; used = 0 }

@@ -34,7 +34,8 @@ pub extern "C" fn preset_value_size() -> u32
 // Reads a text's tree into the two rooms, whatever its records are. A refusal leaves both rooms all zero.
 #[no_mangle]
 pub extern "C" fn document_read(text: &[u8], store: &mut [u8], tree: &mut [u8]) -> Outcome
-    ensures { λ r. ⌜ Presented (now (text .entry)) (now (store .entry)) (now (tree .entry)) (now (store .exit)) (now (tree .exit)) r ⌝ }
+    ensures { λ r. ⌜ Presented (now (text .entry)) (now (store .entry)) (now (tree .entry)) (now (store .exit))
+        (now (tree .exit)) r ⌝ }
 {
     let r = toml_lite::read_tree(text, store, tree);
     match r {
@@ -94,7 +95,7 @@ pub extern "C" fn tree_child(tree: &[u8], made: usize, parent: u16, from: usize)
     }
 }
 
-// Where a walk in byte order stands: at its start, or behind a value.
+// Where a walk in byte order stands: at its start, or after a value.
 fn behind(begun: u32, after: usize) -> Found
     ensures { λ r. ⌜ r ≡ behindOf begun after ⌝ }
 {
@@ -104,7 +105,8 @@ fn behind(begun: u32, after: usize) -> Found
     Found::At(after)
 }
 
-// The value under the parent with the least key of all (begun 0), or with the least key above that of value number after; nothing where the room has fewer values.
+// The value under the parent with the least key of all (begun 0), or with the least key above that of value number
+// after; nothing where the room has fewer values.
 #[no_mangle]
 pub extern "C" fn tree_next(
     tree: &[u8],

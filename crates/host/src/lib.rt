@@ -17,14 +17,15 @@ ghost use Rattle.chars.specs.Trimmed.{Trimmed};
 ghost use Rattle.text.specs.Walk as walk;
 ghost use Rattle.host.specs.Text.{spanOf, stateNumber, scanned, refusedAt, lineOf, Exported};
 
-// A part of a byte string, by its first byte and the byte behind its last.
+// A part of a byte string, by its first byte and the byte after its last.
 #[repr(C)]
 pub struct Span {
     pub from: usize,
     pub end: usize,
 }
 
-// The string state behind a text (0 outside a string, 1 inside, 2 behind a backslash inside) and the brackets outside strings.
+// The string state after a text (0 outside a string, 1 inside, 2 after a backslash inside) and the brackets outside
+// strings.
 #[repr(C)]
 pub struct Scanned {
     pub state: u8,
@@ -42,7 +43,8 @@ pub struct Lines {
     pub used: usize,
 }
 
-// kind 0: no line is left; 1: the joined line from..end of number line, and the place behind it; 3 or 4: that refusal at line.
+// kind 0: no line is left; 1: the joined line from..end of number line, and the place after it; 3 or 4: that refusal
+// at line.
 #[repr(C)]
 pub struct Line {
     pub kind: u32,

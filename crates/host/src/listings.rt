@@ -11,7 +11,8 @@ pub struct Listed {
     pub written: u32,
 }
 
-// Reads a preset into the two rooms, holds it to the rules and writes the listing of its boot chain to out, which stays as it is behind the lines. A refusal leaves all three all zero.
+// Reads a preset into the two rooms, holds it to the rules and writes the listing of its boot chain to out, which
+// stays as it is after the lines. A refusal leaves all three all zero.
 #[no_mangle]
 pub extern "C" fn preset_listing(
     text: &[u8],
@@ -20,7 +21,8 @@ pub extern "C" fn preset_listing(
     tree: &mut [u8],
     out: &mut [u8],
 ) -> Listed
-    ensures { λ r. ⌜ Reported (now (text .entry)) (now (name .entry)) (now (store .entry)) (now (tree .entry)) (now (out .entry)) (now (store .exit)) (now (tree .exit)) (now (out .exit)) r ⌝ }
+    ensures { λ r. ⌜ Reported (now (text .entry)) (now (name .entry)) (now (store .entry)) (now (tree .entry))
+        (now (out .entry)) (now (store .exit)) (now (tree .exit)) (now (out .exit)) r ⌝ }
 {
     let r = preset::listing::listing(text, name, store, tree, out);
     Listed {

@@ -1,4 +1,5 @@
-// Planning, and views of a plan in the rooms that it leaves. Total on any rooms: where there is no such part, `found` or `kind` is 0 and all else too.
+// Planning, and views of a plan in the rooms that it leaves. Total on any rooms: where there is no such part,
+// `found` or `kind` is 0 and all else too.
 
 use crate::documents::Outcome;
 use crate::presets::exported;
@@ -54,7 +55,8 @@ pub struct PlanCounts {
     pub builds: usize,
 }
 
-// Reads a preset into the two rooms, holds it to the rules and plans it: selection 0 is the boot chain, any other the application of the key. A refusal leaves both rooms all zero.
+// Reads a preset into the two rooms, holds it to the rules and plans it: selection 0 is the boot chain, any other
+// the application of the key. A refusal leaves both rooms all zero.
 #[no_mangle]
 pub extern "C" fn preset_plan(
     text: &[u8],
@@ -64,7 +66,9 @@ pub extern "C" fn preset_plan(
     store: &mut [u8],
     tree: &mut [u8],
 ) -> Outcome
-    ensures { λ r. ⌜ Answered (planned (now (text .entry)) (now (name .entry)) app (now (key .entry)) (now (store .entry)) (now (tree .entry))) (now (text .entry)) (now (name .entry)) (now (store .entry)) (now (tree .entry)) (now (store .exit)) (now (tree .exit)) r ⌝ }
+    ensures { λ r. ⌜ Answered (planned (now (text .entry)) (now (name .entry)) app (now (key .entry))
+        (now (store .entry)) (now (tree .entry))) (now (text .entry)) (now (name .entry)) (now (store .entry))
+        (now (tree .entry)) (now (store .exit)) (now (tree .exit)) r ⌝ }
 {
     exported(preset::planning::plan(text, name, app, key, store, tree))
 }
@@ -110,7 +114,8 @@ pub extern "C" fn plan_head(
     key: &[u8],
     i: usize,
 ) -> HeadView
-    ensures { λ r. ⌜ r ≡ records.headOf (plans.specOf (plans.component (now (tree .entry)) (now (store .entry)) made app (now (key .entry)) i)) ⌝ }
+    ensures { λ r. ⌜ r ≡ records.headOf
+        (plans.specOf (plans.component (now (tree .entry)) (now (store .entry)) made app (now (key .entry)) i)) ⌝ }
 {
     head_of(spec_of(planned_at(tree, store, made, app, key, i)))
 }
@@ -125,7 +130,8 @@ pub extern "C" fn plan_role(
     key: &[u8],
     i: usize,
 ) -> RoleView
-    ensures { λ r. ⌜ r ≡ records.roleOf (plans.specOf (plans.component (now (tree .entry)) (now (store .entry)) made app (now (key .entry)) i)) ⌝ }
+    ensures { λ r. ⌜ r ≡ records.roleOf
+        (plans.specOf (plans.component (now (tree .entry)) (now (store .entry)) made app (now (key .entry)) i)) ⌝ }
 {
     role_of(spec_of(planned_at(tree, store, made, app, key, i)))
 }
@@ -140,7 +146,8 @@ pub extern "C" fn plan_boot(
     key: &[u8],
     i: usize,
 ) -> BootView
-    ensures { λ r. ⌜ r ≡ records.bootOf (plans.specOf (plans.component (now (tree .entry)) (now (store .entry)) made app (now (key .entry)) i)) ⌝ }
+    ensures { λ r. ⌜ r ≡ records.bootOf
+        (plans.specOf (plans.component (now (tree .entry)) (now (store .entry)) made app (now (key .entry)) i)) ⌝ }
 {
     boot_of(spec_of(planned_at(tree, store, made, app, key, i)))
 }
@@ -155,7 +162,8 @@ pub extern "C" fn plan_load(
     key: &[u8],
     i: usize,
 ) -> LoadView
-    ensures { λ r. ⌜ r ≡ records.loadOf (plans.specOf (plans.component (now (tree .entry)) (now (store .entry)) made app (now (key .entry)) i)) ⌝ }
+    ensures { λ r. ⌜ r ≡ records.loadOf
+        (plans.specOf (plans.component (now (tree .entry)) (now (store .entry)) made app (now (key .entry)) i)) ⌝ }
 {
     load_of(spec_of(planned_at(tree, store, made, app, key, i)))
 }
@@ -209,7 +217,8 @@ pub extern "C" fn plan_source(
     key: &[u8],
     i: usize,
 ) -> SourceView
-    ensures { λ r. ⌜ r ≡ plans.payload (plans.component (now (tree .entry)) (now (store .entry)) made app (now (key .entry)) i) ⌝ }
+    ensures { λ r. ⌜ r ≡ plans.payload
+        (plans.component (now (tree .entry)) (now (store .entry)) made app (now (key .entry)) i) ⌝ }
 {
     let f = planned_at(tree, store, made, app, key, i);
     match f {
@@ -231,7 +240,8 @@ pub extern "C" fn plan_pbp(
     key: &[u8],
     i: usize,
 ) -> SourceView
-    ensures { λ r. ⌜ r ≡ plans.pbp (plans.component (now (tree .entry)) (now (store .entry)) made app (now (key .entry)) i) ⌝ }
+    ensures { λ r. ⌜ r ≡ plans.pbp
+        (plans.component (now (tree .entry)) (now (store .entry)) made app (now (key .entry)) i) ⌝ }
 {
     let f = planned_at(tree, store, made, app, key, i);
     match f {
@@ -268,7 +278,8 @@ pub extern "C" fn plan_partition(
     key: &[u8],
     i: usize,
 ) -> PartitionView
-    ensures { λ r. ⌜ r ≡ plans.targetShown (now (tree .entry)) (now (store .entry)) made (plans.component (now (tree .entry)) (now (store .entry)) made app (now (key .entry)) i) ⌝ }
+    ensures { λ r. ⌜ r ≡ plans.targetShown (now (tree .entry)) (now (store .entry)) made
+        (plans.component (now (tree .entry)) (now (store .entry)) made app (now (key .entry)) i) ⌝ }
 {
     let f = planned_at(tree, store, made, app, key, i);
     if parse::view::holds_values(tree, made) {
@@ -355,7 +366,8 @@ pub extern "C" fn plan_stem(
     app: u32,
     key: &[u8],
 ) -> Bytes
-    ensures { λ r. ⌜ r ≡ plans.stemShown (now (tree .entry)) (now (store .entry)) made (now (name .entry)) app (now (key .entry)) ⌝ }
+    ensures { λ r. ⌜ r ≡ plans.stemShown (now (tree .entry)) (now (store .entry)) made (now (name .entry)) app
+        (now (key .entry)) ⌝ }
 {
     if parse::view::holds_values(tree, made) {
         let c = plan::choice::choose(tree, store, made, app, key);

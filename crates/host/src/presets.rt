@@ -19,7 +19,8 @@ pub fn exported(r: preset::Outcome) -> Outcome
     }
 }
 
-// Reads a preset into the two rooms; the lent name is the board's where the text has none. A refusal leaves both rooms all zero.
+// Reads a preset into the two rooms; the lent name is the board's where the text has none. A refusal leaves both
+// rooms all zero.
 #[no_mangle]
 pub extern "C" fn preset_read(
     text: &[u8],
@@ -27,7 +28,9 @@ pub extern "C" fn preset_read(
     store: &mut [u8],
     tree: &mut [u8],
 ) -> Outcome
-    ensures { λ r. ⌜ Answered (recorded (now (text .entry)) (now (name .entry)) (now (store .entry)) (now (tree .entry))) (now (text .entry)) (now (name .entry)) (now (store .entry)) (now (tree .entry)) (now (store .exit)) (now (tree .exit)) r ⌝ }
+    ensures { λ r. ⌜ Answered
+        (recorded (now (text .entry)) (now (name .entry)) (now (store .entry)) (now (tree .entry))) (now (text .entry))
+        (now (name .entry)) (now (store .entry)) (now (tree .entry)) (now (store .exit)) (now (tree .exit)) r ⌝ }
 {
     exported(preset::reading::read(text, name, store, tree))
 }
@@ -40,7 +43,9 @@ pub extern "C" fn preset_validate(
     store: &mut [u8],
     tree: &mut [u8],
 ) -> Outcome
-    ensures { λ r. ⌜ Answered (validated (now (text .entry)) (now (name .entry)) (now (store .entry)) (now (tree .entry))) (now (text .entry)) (now (name .entry)) (now (store .entry)) (now (tree .entry)) (now (store .exit)) (now (tree .exit)) r ⌝ }
+    ensures { λ r. ⌜ Answered
+        (validated (now (text .entry)) (now (name .entry)) (now (store .entry)) (now (tree .entry))) (now (text .entry))
+        (now (name .entry)) (now (store .entry)) (now (tree .entry)) (now (store .exit)) (now (tree .exit)) r ⌝ }
 {
     exported(preset::validating::validate(text, name, store, tree))
 }

@@ -1,4 +1,5 @@
-// Views of the records in the rooms that reading leaves. Total on any rooms: where there is no such record, `found` is 0 and all else too.
+// Views of the records in the rooms that reading leaves. Total on any rooms: where there is no such record, `found`
+// is 0 and all else too.
 
 use features::Feature;
 use features::Piece;
@@ -19,7 +20,8 @@ ghost use Rattle.parse.specs.Views as views;
 ghost use Rattle.host.specs.Records as records;
 ghost use Rattle.host.specs.Records.{Worded};
 
-// Where a text's bytes are. kind 0: absent; 1: in the store; 2: the lent name; 3: a fixed word; 4: in the store, with `.aic` behind them.
+// Where a text's bytes are. kind 0: absent; 1: in the store; 2: the lent name; 3: a fixed word; 4: in the store,
+// with `.aic` after them.
 #[repr(C)]
 pub struct Bytes {
     pub kind: u32,
@@ -716,7 +718,8 @@ fn feature_of(f: Feature) -> FeatureView
     }
 }
 
-// The item of a feature list with the least bytes of all (begun 0), or with the least above size bytes of the store from last on.
+// The item of a feature list with the least bytes of all (begun 0), or with the least above size bytes of the store
+// from last on.
 #[no_mangle]
 pub extern "C" fn preset_feature(
     tree: &[u8],
@@ -729,7 +732,8 @@ pub extern "C" fn preset_feature(
     last: usize,
     size: usize,
 ) -> FeatureView
-    ensures { λ r. ⌜ r ≡ records.featureShown (now (tree .entry)) (now (store .entry)) made kind from len begun last size ⌝ }
+    ensures { λ r. ⌜ r ≡ records.featureShown (now (tree .entry)) (now (store .entry)) made kind from len begun last
+        size ⌝ }
 {
     if parse::view::holds_values(tree, made) {
         let f = features_by(kind, from, len);
@@ -769,7 +773,8 @@ fn word_by(n: u32) -> Word
     }
 }
 
-// Writes a word's bytes at the head of a room and zeros behind them, and says how many; 0 where there is no such word or the room is shorter.
+// Writes a word's bytes at the head of a room and zeros after them, and says how many; 0 where there is no such word
+// or the room is shorter.
 #[no_mangle]
 pub extern "C" fn preset_word(word: u32, out: &mut [u8]) -> usize
     ensures { λ r. ⌜ Worded word (now (out .entry)) (now (out .exit)) r ⌝ }

@@ -67,7 +67,7 @@ fn misspelt(number: u32, at: usize) -> Spelling
     }
 }
 
-// Decodes a string behind its opening quote. A refusal leaves the room all zero.
+// Decodes a string after its opening quote. A refusal leaves the room all zero.
 #[no_mangle]
 pub extern "C" fn value_string(src: &[u8], out: &mut [u8]) -> Spelling
     ensures { λ r. ⌜ Spelled (now (src .entry)) (now (out .entry)) (now (out .exit)) r ⌝ }
@@ -173,7 +173,7 @@ pub extern "C" fn value_key(s: &[u8], store: &mut [u8]) -> Segments
     unsplit(n)
 }
 
-// Where segment i of a key ends among its bytes; 0 where there is none. The room is all zero behind it.
+// Where segment i of a key ends among its bytes; 0 where there is none. The room is all zero after it.
 #[no_mangle]
 pub extern "C" fn value_key_end(s: &[u8], store: &mut [u8], i: usize) -> usize
     ensures { λ r. ⌜ Ends (now (s .entry)) (now (store .entry)) (now (store .exit)) i r ⌝ }
@@ -230,7 +230,8 @@ fn sized(text: &[u8], store: &[u8], tree: &[u8]) -> u32
 // Reads one value under 01's limits into the two rooms. A refusal leaves both all zero.
 #[no_mangle]
 pub extern "C" fn value_read(text: &[u8], store: &mut [u8], tree: &mut [u8]) -> ValueRead
-    ensures { λ r. ⌜ Readout (now (text .entry)) (now (store .entry)) (now (tree .entry)) (now (store .exit)) (now (tree .exit)) r ⌝ }
+    ensures { λ r. ⌜ Readout (now (text .entry)) (now (store .entry)) (now (tree .entry)) (now (store .exit))
+        (now (tree .exit)) r ⌝ }
 {
     slices::zero(store);
     slices::zero(tree);

@@ -1,4 +1,5 @@
-// Lemmas about the definitions stand in specs/, for proofs in the crates above. There is no code here but one function, since a crate has at least one.
+// Lemmas about the definitions stand in specs/, for proofs in the crates above. There is no code here but one
+// function, since a crate has at least one.
 
 ghost use mathlib.Core.Path.{_≡_};
 

@@ -11,7 +11,8 @@ ghost use Rattle.layout.specs.Parts.{partName, rank};
 // The first of so many that bears a name; as many as there are where none does.
 pub fn scan(bytes: &[u8], items: &[Partition], count: usize, name: &[u8]) -> usize
     requires { ⌜ count ≤ length (now items) ⌝ }
-    ensures { λ r. ⌜ r ≡ rank (now (name .entry)) (map (partName (now (bytes .entry))) (take count (now (items .entry)))) ⌝ }
+    ensures { λ r. ⌜ r ≡ rank (now (name .entry))
+        (map (partName (now (bytes .entry))) (take count (now (items .entry)))) ⌝ }
 {
     let mut i = 0;
     while i < count {

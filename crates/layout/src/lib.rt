@@ -99,7 +99,8 @@ pub fn check_layout(
     chip: Chip,
 ) -> Fault
     requires { ⌜ count ≤ 32 ⌝ }
-    ensures { λ r. ⌜ r ≡ faultOf (meant.layout (chipMeant chip) (map (partMeant (now (bytes .entry))) (take count items))) ⌝ }
+    ensures { λ r. ⌜ r ≡ faultOf
+        (meant.layout (chipMeant chip) (map (partMeant (now (bytes .entry))) (take count items))) ⌝ }
 {
     if count == 0 {
         return Fault {

@@ -30,7 +30,8 @@ fn refuse(r: Listed) {
     print(&room, n);
 }
 
-// A text too long is still read to its end, so that who writes it is not cut off; a proved loop has to end, so it counts down.
+// A text too long is still read to its end, so that who writes it is not cut off; a proved loop has to end, so it
+// counts down.
 fn drain() {
     let mut turns = u64::MAX;
     while 0 < turns {

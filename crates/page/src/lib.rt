@@ -91,7 +91,8 @@ fn with_aic(out: &mut [u8], at: usize, s: &[u8]) -> usize
 
 // A space and a text's bytes.
 pub fn text(out: &mut [u8], at: usize, store: &[u8], name: &[u8], t: Text) -> usize
-    ensures { λ r. ⌜ Wrote (32 ∷ spelled (now (store .entry)) (now (name .entry)) t) (now (out .entry)) at (now (out .exit)) r ⌝ }
+    ensures { λ r. ⌜ Wrote (32 ∷ spelled (now (store .entry)) (now (name .entry)) t) (now (out .entry)) at
+        (now (out .exit)) r ⌝ }
 {
     match t {
         Text::Absent => field(out, at, b""),
@@ -117,7 +118,8 @@ fn blank(store: &[u8], name: &[u8], t: Text) -> bool
 
 // A space and the reference to a partition, `-` for an empty one.
 pub fn reference(out: &mut [u8], at: usize, store: &[u8], name: &[u8], t: Text) -> usize
-    ensures { λ r. ⌜ Wrote (32 ∷ dashed (spelled (now (store .entry)) (now (name .entry)) t)) (now (out .entry)) at (now (out .exit)) r ⌝ }
+    ensures { λ r. ⌜ Wrote (32 ∷ dashed (spelled (now (store .entry)) (now (name .entry)) t)) (now (out .entry)) at
+        (now (out .exit)) r ⌝ }
 {
     if blank(store, name, t) {
         return field(out, at, b"-");

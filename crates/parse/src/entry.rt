@@ -1,4 +1,5 @@
-// The entries of a preset's lists: where a list stands, an entry by the number of its value, and all entries in their order.
+// The entries of a preset's lists: where a list stands, an entry by the number of its value, and all entries in
+// their order.
 
 use crate::Refusal;
 use crate::application::ApplicationRead;
@@ -84,7 +85,8 @@ pub fn list_at(
     many: &[u8],
 ) -> List
     requires { ⌜ Spread (now tree) root ⌝ }
-    ensures { λ r. ⌜ r ≡ entries.listAt (now (tree .entry)) (now (store .entry)) made root (now (one .entry)) (now (many .entry)) ⌝ }
+    ensures { λ r. ⌜ r ≡ entries.listAt (now (tree .entry)) (now (store .entry)) made root (now (one .entry))
+        (now (many .entry)) ⌝ }
 {
     let v = tree::field(tree, store, root, one);
     match v {
@@ -389,7 +391,8 @@ fn earlier_application(
     crate::refusal_at(0, 0, 0)
 }
 
-// The list's length is told before its entries, so the first refusal waits for the last key; a second walk would cost as much again.
+// The list's length is told before its entries, so the first refusal waits for the last key; a second walk would
+// cost as much again.
 pub fn check_applications(
     tree: &[u8],
     store: &[u8],

@@ -56,7 +56,7 @@ dot-last : (d i b : ℕ) (s : Seq ℕ) → lastDot d i (s ++ (b ∷ [])) ≡ pic
 dot-last d i b [] = let z : i + 0 ≡ i = omega arith in rw z
 dot-last d i b (x ∷ s) = let z : i + suc (length s) ≡ i + 1 + length s = omega arith in rw z (dot-last (pick (eqb x 46) i d) (i + 1) b s)
 
--- no dot stands behind the first i bytes
+-- no dot stands after the first i bytes
 pub record Backward (s : Seq ℕ) (i : ℕ) : Type 0 where
   pub high : i ≤ length s
   pub left : lastDot 0 0 s ≡ lastDot 0 0 (take i s)

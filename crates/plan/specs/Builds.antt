@@ -109,7 +109,7 @@ module _ (room store : Seq ℕ) (made : ℕ) where
   unfoldable pub applicationUse : ℕ → Build
   applicationUse n = built (applicationAt room store made n 32 .application .«package») texts.Absent (applicationAt room store made n 32 .application .features)
 
-  -- one use behind those in an array
+  -- one use after those in an array
   pub record Followed (n : ℕ) (u r : BuildList) : Type 0 where
     pub count : r .count ≡ u .count + 1
     pub items : map buildAt (take (u .count + 1) (r .items)) ≡ map buildAt (take (u .count) (u .items)) ++ (applicationUse n ∷ [])

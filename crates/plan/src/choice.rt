@@ -1,4 +1,5 @@
-// What is selected beside the boot chain: 80 where no application has the key, 81 where a component has the application's name.
+// What is selected beside the boot chain: 80 where no application has the key, 81 where a component has the
+// application's name.
 
 use parse::Refusal;
 use parse::entry::List;
@@ -31,7 +32,8 @@ fn keyed(tree: &[u8], store: &[u8], n: usize, key: &[u8]) -> bool
 // The first of a table's values in byte order of key that has the key.
 fn declared(tree: &[u8], store: &[u8], made: usize, list: List, key: &[u8]) -> Choice
     requires { ⌜ Among (now tree) made list ⌝ }
-    ensures { λ r. ⌜ Chosen (now (tree .entry)) (choices.declared (now (tree .entry)) (now (store .entry)) (now (key .entry)) list) r ⌝ }
+    ensures { λ r. ⌜ Chosen (now (tree .entry))
+        (choices.declared (now (tree .entry)) (now (store .entry)) (now (key .entry)) list) r ⌝ }
 {
     let mut w = tree::keys_of(tree, list.place, list.end);
     let mut i = 0;
@@ -54,7 +56,8 @@ fn declared(tree: &[u8], store: &[u8], made: usize, list: List, key: &[u8]) -> C
 // Selection 0 is the boot chain; any other, the application of the key.
 pub fn choose(tree: &[u8], store: &[u8], made: usize, app: u32, key: &[u8]) -> Choice
     requires { ⌜ Rooms (now tree) made ⌝ }
-    ensures { λ r. ⌜ Chosen (now (tree .entry)) (choices.choice (now (tree .entry)) (now (store .entry)) made app (now (key .entry))) r ⌝ }
+    ensures { λ r. ⌜ Chosen (now (tree .entry))
+        (choices.choice (now (tree .entry)) (now (store .entry)) made app (now (key .entry))) r ⌝ }
 {
     if app == 0 {
         return Choice::BootChain;

@@ -21,7 +21,8 @@ pub fn judge_selection(
     key: &[u8],
 ) -> Refusal
     requires { ⌜ Rooms (now tree) made ⌝ }
-    ensures { λ r. ⌜ Told (planning (now (name .entry)) app (now (key .entry)) (now (tree .entry)) (now (store .entry)) made) r ⌝ }
+    ensures { λ r. ⌜ Told
+        (planning (now (name .entry)) app (now (key .entry)) (now (tree .entry)) (now (store .entry)) made) r ⌝ }
 {
     let v = validate::judge_rules(tree, store, made, name);
     if v.number != 0 {

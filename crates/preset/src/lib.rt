@@ -1,4 +1,5 @@
-// The product: `read`, `validate`, `plan` and `listing` of a preset, each from its text, for every text, name and rooms.
+// The product: `read`, `validate`, `plan` and `listing` of a preset, each from its text, for every text, name and
+// rooms.
 
 pub mod listing;
 pub mod planning;
@@ -20,7 +21,8 @@ pub struct Outcome {
     pub made: usize,
 }
 
-// How far a preset is judged: its records; the rules too; and the selection, where 0 is the boot chain, any other the application of the key.
+// How far a preset is judged: its records; the rules too; and the selection, where 0 is the boot chain, any other
+// the application of the key.
 pub enum Way {
     Read,
     Validate,
@@ -65,7 +67,8 @@ pub fn clear_if_refused(v: Refusal, store: &mut [u8], tree: &mut [u8], made: usi
 // What a way's judge says of rooms that hold a tree.
 fn judge_rooms(way: Way, tree: &[u8], store: &[u8], made: usize, name: &[u8], key: &[u8]) -> Refusal
     requires { ⌜ Rooms (now tree) made ⌝ }
-    ensures { λ r. ⌜ Told (judgeOf way (now (name .entry)) (now (key .entry)) (now (tree .entry)) (now (store .entry)) made) r ⌝ }
+    ensures { λ r. ⌜ Told
+        (judgeOf way (now (name .entry)) (now (key .entry)) (now (tree .entry)) (now (store .entry)) made) r ⌝ }
 {
     match way {
         Way::Read => parse::judge_records(tree, store, made, name),
@@ -83,7 +86,8 @@ pub fn judge_text(
     store: &mut [u8],
     tree: &mut [u8],
 ) -> Outcome
-    ensures { λ r. ⌜ Parsed (judgeOf way (now (name .entry)) (now (key .entry))) (now (text .entry)) (now (store .entry)) (now (tree .entry)) (now (store .exit)) (now (tree .exit)) r ⌝ }
+    ensures { λ r. ⌜ Parsed (judgeOf way (now (name .entry)) (now (key .entry))) (now (text .entry))
+        (now (store .entry)) (now (tree .entry)) (now (store .exit)) (now (tree .exit)) r ⌝ }
 {
     let r = toml_lite::read_tree(text, store, tree);
     match r {

@@ -51,7 +51,8 @@ fn unlisted(o: Outcome, out: &mut [u8]) -> Listed
 // The lines of an accepted plan; the output after them stays as it is.
 fn list(o: Outcome, store: &[u8], tree: &[u8], out: &mut [u8], name: &[u8]) -> Listed
     requires { ⌜ listings.Listing (now tree) o ⌝ }
-    ensures { λ r. ⌜ Lined (now (name .entry)) (now (store .entry)) (now (tree .entry)) (now (out .entry)) (now (out .exit)) o r ⌝ }
+    ensures { λ r. ⌜ Lined (now (name .entry)) (now (store .entry)) (now (tree .entry)) (now (out .entry))
+        (now (out .exit)) o r ⌝ }
 {
     if o.number != 0 {
         return unlisted(o, out);
@@ -67,7 +68,8 @@ fn list(o: Outcome, store: &[u8], tree: &[u8], out: &mut [u8], name: &[u8]) -> L
 
 // A listing for which there is no room.
 fn no_room(store: &mut [u8], tree: &mut [u8], out: &mut [u8]) -> Listed
-    ensures { λ r. ⌜ listings.Short (now (store .entry)) (now (tree .entry)) (now (out .entry)) (now (store .exit)) (now (tree .exit)) (now (out .exit)) r ⌝ }
+    ensures { λ r. ⌜ listings.Short (now (store .entry)) (now (tree .entry)) (now (out .entry)) (now (store .exit))
+        (now (tree .exit)) (now (out .exit)) r ⌝ }
 {
     slices::zero(store);
     slices::zero(tree);
@@ -83,7 +85,8 @@ fn no_room(store: &mut [u8], tree: &mut [u8], out: &mut [u8]) -> Listed
 // The listing of a tree that was read.
 fn list_tree(name: &[u8], store: &mut [u8], tree: &mut [u8], out: &mut [u8], made: usize) -> Listed
     requires { ⌜ Rooms (now tree) made ⌝ }
-    ensures { λ r. ⌜ listings.TreeListed (now (name .entry)) (now (store .entry)) (now (tree .entry)) made (now (out .entry)) (now (store .exit)) (now (tree .exit)) (now (out .exit)) r ⌝ }
+    ensures { λ r. ⌜ listings.TreeListed (now (name .entry)) (now (store .entry)) (now (tree .entry)) made
+        (now (out .entry)) (now (store .exit)) (now (tree .exit)) (now (out .exit)) r ⌝ }
 {
     let v = plan::judge_selection(tree, store, made, name, 0, b"");
     let o = crate::clear_if_refused(v, store, tree, made);
@@ -92,7 +95,8 @@ fn list_tree(name: &[u8], store: &mut [u8], tree: &mut [u8], out: &mut [u8], mad
 
 // The listing on an output that is long enough.
 fn list_text(text: &[u8], name: &[u8], store: &mut [u8], tree: &mut [u8], out: &mut [u8]) -> Listed
-    ensures { λ r. ⌜ Planned (now (text .entry)) (now (name .entry)) (now (store .entry)) (now (tree .entry)) (now (out .entry)) (now (store .exit)) (now (tree .exit)) (now (out .exit)) r ⌝ }
+    ensures { λ r. ⌜ Planned (now (text .entry)) (now (name .entry)) (now (store .entry)) (now (tree .entry))
+        (now (out .entry)) (now (store .exit)) (now (tree .exit)) (now (out .exit)) r ⌝ }
 {
     let r = toml_lite::read_tree(text, store, tree);
     match r {
@@ -101,7 +105,8 @@ fn list_text(text: &[u8], name: &[u8], store: &mut [u8], tree: &mut [u8], out: &
     }
 }
 
-// The listing of a preset's boot chain, the output after it as it was, and the rooms as `plan` leaves them. A refusal leaves all three rooms all zero.
+// The listing of a preset's boot chain, the output after it as it was, and the rooms as `plan` leaves them. A
+// refusal leaves all three rooms all zero.
 pub fn listing(
     text: &[u8],
     name: &[u8],
@@ -109,7 +114,8 @@ pub fn listing(
     tree: &mut [u8],
     out: &mut [u8],
 ) -> Listed
-    ensures { λ r. ⌜ Lists (now (text .entry)) (now (name .entry)) (now (store .entry)) (now (tree .entry)) (now (out .entry)) (now (store .exit)) (now (tree .exit)) (now (out .exit)) r ⌝ }
+    ensures { λ r. ⌜ Lists (now (text .entry)) (now (name .entry)) (now (store .entry)) (now (tree .entry))
+        (now (out .entry)) (now (store .exit)) (now (tree .exit)) (now (out .exit)) r ⌝ }
 {
     if lacks_room(out, name) {
         return no_room(store, tree, out);

@@ -23,7 +23,8 @@ pub struct ApplicationBrief {
 // Of the component that value number n is.
 pub fn component(tree: &[u8], store: &[u8], made: usize, n: usize) -> ComponentBrief
     requires { ⌜ Rooms (now tree) made × Stood (now tree) n ⌝ }
-    ensures { λ r. ⌜ r ≡ shown.componentBrief (componentAt (now (tree .entry)) (now (store .entry)) made n 32 .component) ⌝ }
+    ensures { λ r. ⌜ r ≡ shown.componentBrief
+        (componentAt (now (tree .entry)) (now (store .entry)) made n 32 .component) ⌝ }
 {
     let t = parse::entry::entry_table(tree, made, tree::value_at(tree, store, n));
     let f = t.fields;
@@ -42,7 +43,8 @@ pub fn component(tree: &[u8], store: &[u8], made: usize, n: usize) -> ComponentB
 // Of the application that value number n is.
 pub fn application(tree: &[u8], store: &[u8], made: usize, n: usize) -> ApplicationBrief
     requires { ⌜ Rooms (now tree) made × Stood (now tree) n ⌝ }
-    ensures { λ r. ⌜ r ≡ shown.applicationBrief (applicationAt (now (tree .entry)) (now (store .entry)) made n 32 .application) ⌝ }
+    ensures { λ r. ⌜ r ≡ shown.applicationBrief
+        (applicationAt (now (tree .entry)) (now (store .entry)) made n 32 .application) ⌝ }
 {
     let t = parse::entry::entry_table(tree, made, tree::value_at(tree, store, n));
     let f = t.fields;

@@ -16,7 +16,8 @@ ghost use Rattle.report.specs.Shown.{Stands};
 // How many entries the lists have, and how many values were made.
 fn counts(out: &mut [u8], at: usize, tree: &[u8], store: &[u8], p: Placed) -> usize
     requires { ⌜ Stands (now tree) (now store) p ⌝ }
-    ensures { λ r. ⌜ Wrote (shown.counts (now (tree .entry)) (now (store .entry)) (p .made)) (now (out .entry)) at (now (out .exit)) r ⌝ }
+    ensures { λ r. ⌜ Wrote (shown.counts (now (tree .entry)) (now (store .entry)) (p .made)) (now (out .entry)) at
+        (now (out .exit)) r ⌝ }
 {
     let lists = p.lists;
     let n = parse::view::counts_in(tree, store, p.made, lists);
@@ -39,7 +40,8 @@ fn device(out: &mut [u8], at: usize, chip: Chip, media: Media) -> usize
 // `ok`: chip, media, partitions, components, applications, values made.
 pub fn ok(out: &mut [u8], at: usize, tree: &[u8], store: &[u8], p: Placed) -> usize
     requires { ⌜ Stands (now tree) (now store) p ⌝ }
-    ensures { λ r. ⌜ Wrote (shown.ok (now (tree .entry)) (now (store .entry)) (p .made)) (now (out .entry)) at (now (out .exit)) r ⌝ }
+    ensures { λ r. ⌜ Wrote (shown.ok (now (tree .entry)) (now (store .entry)) (p .made)) (now (out .entry)) at
+        (now (out .exit)) r ⌝ }
 {
     let d = parse::view::device_of(tree, store, p.made);
     let chip = d.chip;
@@ -61,7 +63,8 @@ pub fn part(out: &mut [u8], at: usize, store: &[u8], p: Partition) -> usize
 
 // `comp`: name, kind, reference.
 pub fn comp(out: &mut [u8], at: usize, store: &[u8], name: &[u8], x: ComponentBrief) -> usize
-    ensures { λ r. ⌜ Wrote (shown.comp (now (store .entry)) (now (name .entry)) x) (now (out .entry)) at (now (out .exit)) r ⌝ }
+    ensures { λ r. ⌜ Wrote (shown.comp (now (store .entry)) (now (name .entry)) x) (now (out .entry)) at
+        (now (out .exit)) r ⌝ }
 {
     let kind = x.kind;
     let own = x.name;
@@ -75,7 +78,8 @@ pub fn comp(out: &mut [u8], at: usize, store: &[u8], name: &[u8], x: ComponentBr
 
 // `app`: package, name, partition.
 pub fn app(out: &mut [u8], at: usize, store: &[u8], name: &[u8], x: ApplicationBrief) -> usize
-    ensures { λ r. ⌜ Wrote (shown.app (now (store .entry)) (now (name .entry)) x) (now (out .entry)) at (now (out .exit)) r ⌝ }
+    ensures { λ r. ⌜ Wrote (shown.app (now (store .entry)) (now (name .entry)) x) (now (out .entry)) at
+        (now (out .exit)) r ⌝ }
 {
     let package = x.package;
     let own = x.name;

@@ -15,7 +15,8 @@ const APPLICATIONS_ASKED: usize = 65;
 // The partitions, in their order.
 pub fn parts(out: &mut [u8], at: usize, tree: &[u8], store: &[u8], p: Placed) -> usize
     requires { ⌜ Stands (now tree) (now store) p ⌝ }
-    ensures { λ r. ⌜ Wrote (shown.parts (now (tree .entry)) (now (store .entry)) (p .made)) (now (out .entry)) at (now (out .exit)) r ⌝ }
+    ensures { λ r. ⌜ Wrote (shown.parts (now (tree .entry)) (now (store .entry)) (p .made)) (now (out .entry)) at
+        (now (out .exit)) r ⌝ }
 {
     let made = p.made;
     let lists = p.lists;

@@ -1,4 +1,5 @@
-// Integers. Underscores are skipped where they stand; the magnitude is read in u64 against its limit, and the sign stands beside it.
+// Integers. Underscores are skipped where they stand; the magnitude is read in u64 against its limit, and the sign
+// stands beside it.
 
 use meaning::Signed;
 ghost use mathlib.Core.Path.{_≡_};

@@ -23,7 +23,8 @@ pub struct Segment {
     pub written: usize,
 }
 
-// What a key comes to: how many segments were taken, up to where the store is used, and where in it each segment ends, 0 after the last.
+// What a key comes to: how many segments were taken, up to where the store is used, and where in it each segment
+// ends, 0 after the last.
 pub struct Key {
     pub verdict: Verdict,
     pub n: usize,
@@ -150,7 +151,8 @@ fn answered(verdict: Verdict, n: usize, used: usize, ends: [usize; 16]) -> Key
     }
 }
 
-// A whole key, segments strictly left to right. 15 leaves the segments before it, 7, 8 and 9 also what the refused one laid.
+// A whole key, segments strictly left to right. 15 leaves the segments before it, 7, 8 and 9 also what the refused
+// one laid.
 pub fn put_key(s: &[u8], store: &mut [u8], used: usize, limit: usize) -> Key
     requires { ⌜ Asked limit (now s) (now store) used ⌝ }
     ensures { λ r. ⌜ Splits limit (now (s .entry)) (now (store .entry)) used (now (store .exit)) r ⌝ }

@@ -8,7 +8,8 @@ ghost use lib.ListN.{length};
 ghost use Rattle.meaning.specs.Strings as meant;
 ghost use Rattle.scalar.specs.Decodes.{Decodes, Room, Puts};
 
-// The string, how many bytes of text it takes with its closing quote and how many it says; or 8 at its backslash, or 9. All leave what is decoded until then.
+// The string, how many bytes of text it takes with its closing quote and how many it says; or 8 at its backslash, or
+// 9. All leave what is decoded until then.
 pub enum Decoded {
     Done { used: usize, written: usize },
     Escape { at: usize, written: usize },

@@ -39,7 +39,7 @@ word words.Pbp = ascii "pbp"
 word words.Raw = ascii "raw"
 word words.Aic = ascii ".aic"
 
--- all words, one behind the other
+-- all words, one after the other
 abbrev pub all : List ℕ
 all = ascii "boardreleaseunknown0.0.0mtd;requiredmtd;optionalappcomponent.bind13xd21xriscv32imafc-unknown-none-elfriscv64gc-unknown-none-elfspi-norspi-nandpbpraw.aic"
 

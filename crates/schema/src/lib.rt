@@ -7,7 +7,8 @@ ghost use Prim.Native.Nat.{_+_, _≤_};
 ghost use lib.ListN.{length};
 ghost use Rattle.meaning.specs.Base.{same};
 ghost use Rattle.meaning.specs.Schema as meant;
-ghost use Rattle.schema.specs.Words.{word, Stands, Put, chipRead, mediaRead, kindRead, chipMeant, mediaMeant, chipWord, mediaWord, kindWord, targetWord, mediaChoice};
+ghost use Rattle.schema.specs.Words.{word, Stands, Put, chipRead, mediaRead, kindRead, chipMeant, mediaMeant};
+ghost use Rattle.schema.specs.Words.{chipWord, mediaWord, kindWord, targetWord, mediaChoice};
 ghost use Rattle.schema.specs.Texts.{isGiven, orText, aicOf, startOf, lengthOf, orNumber, clip};
 
 // How many partitions a preset may have, how many components, and how many applications.
@@ -277,7 +278,8 @@ impl Kind {
     }
 }
 
-// Where a text's bytes are: in the text store, the lent name of the board, a fixed word, or bytes of the store followed by `.aic`.
+// Where a text's bytes are: in the text store, the lent name of the board, a fixed word, or bytes of the store
+// followed by `.aic`.
 pub enum Text {
     Absent,
     Stored { from: usize, len: usize },

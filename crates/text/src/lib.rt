@@ -265,7 +265,8 @@ fn line_bytes(s: &[u8], n: usize) -> usize
     n
 }
 
-// How many bytes of a line stand before its comment, or all of them. Most lines have no `#`, and a search for one is quick.
+// How many bytes of a line stand before its comment, or all of them. Most lines have no `#`, and a search for one is
+// quick.
 fn kept(line: &[u8]) -> usize
     ensures { λ r. ⌜ r ≡ quotes.upTo 35 StringState.Outside (now (line .entry)) ⌝ }
 {
@@ -306,7 +307,8 @@ fn lay_line(rest: &[u8], out: &mut [u8]) -> Piece
     }
 }
 
-// Lays the kept bytes of every physical line, each followed by one LF, at the head of the scratch; how many bytes these are.
+// Lays the kept bytes of every physical line, each followed by one LF, at the head of the scratch; how many bytes
+// these are.
 pub fn lay(text: &[u8], scratch: &mut [u8]) -> usize
     requires { ⌜ length (now text) < length (now scratch) ⌝ }
     ensures { λ r. ⌜ Lays (now (text .entry)) (now (scratch .entry)) (now (scratch .exit)) r ⌝ }
@@ -371,7 +373,8 @@ fn ending(m: usize) -> Joint
     Joint::Open
 }
 
-// What the joined line at the head of a laid text comes to: the state is carried onward, so each byte is looked at once.
+// What the joined line at the head of a laid text comes to: the state is carried onward, so each byte is looked at
+// once.
 fn join_line(s: &[u8]) -> Joint
     ensures { λ r. ⌜ walk.Joined (now (s .entry)) r ⌝ }
 {

@@ -24,7 +24,9 @@ ghost use Rattle.meaning.specs.Space as space;
 ghost use Rattle.meaning.specs.Base.{zeros};
 ghost use Rattle.meaning.specs.Limits.{of01};
 ghost use Rattle.values.specs.Doc.{lineS, setS, documentS};
-ghost use Rattle.toml_lite.specs.Rooms.{verdictNumber, lineAfter, docOf, hangK, Taking, Hanging, Lined, wholeOf, AfterLine, faultAfter, Told, Begun, Reads, Cleared, Ready, Standing, Roomy, Empty, suffice, judged};
+ghost use Rattle.toml_lite.specs.Rooms.{verdictNumber, lineAfter, docOf, hangK, Taking, Hanging, Lined, wholeOf};
+ghost use Rattle.toml_lite.specs.Rooms.{AfterLine, faultAfter, Told, Begun, Reads, Cleared, Ready, Standing};
+ghost use Rattle.toml_lite.specs.Rooms.{Roomy, Empty, suffice, judged};
 
 // The longest text, and the LF that its last line may lack.
 pub const SCRATCH_BYTES: usize = TEXT_BYTES + 1;
@@ -93,7 +95,9 @@ fn after_assignment(g: Grown, used: usize, here: u16) -> LineRead
 // A header `[..]`.
 fn header(s: &[u8], store: &mut [u8], tree: &mut [u8], st: State, limits: Limits) -> LineRead
     requires { ⌜ Taking limits (length (now s)) (now store) (now tree) st ⌝ }
-    ensures { λ r. ⌜ Lined limits (length (now (s .entry))) (now (store .entry)) (now (tree .entry)) (now (store .exit)) (now (tree .exit)) st (lineS limits (meant.heads (now (s .entry))) (docOf (now (store .entry)) (now (tree .entry)) st 1)) r ⌝ }
+    ensures { λ r. ⌜ Lined limits (length (now (s .entry))) (now (store .entry)) (now (tree .entry)) (now (store .exit))
+        (now (tree .exit)) st
+        (lineS limits (meant.heads (now (s .entry))) (docOf (now (store .entry)) (now (tree .entry)) st 1)) r ⌝ }
 {
     let used = st.used;
     let root = Here {
@@ -114,7 +118,9 @@ fn header(s: &[u8], store: &mut [u8], tree: &mut [u8], st: State, limits: Limits
 // A header `[[..]]`.
 fn header_item(s: &[u8], store: &mut [u8], tree: &mut [u8], st: State, limits: Limits) -> LineRead
     requires { ⌜ Taking limits (length (now s)) (now store) (now tree) st ⌝ }
-    ensures { λ r. ⌜ Lined limits (length (now (s .entry))) (now (store .entry)) (now (tree .entry)) (now (store .exit)) (now (tree .exit)) st (lineS limits (meant.pushes (now (s .entry))) (docOf (now (store .entry)) (now (tree .entry)) st 1)) r ⌝ }
+    ensures { λ r. ⌜ Lined limits (length (now (s .entry))) (now (store .entry)) (now (tree .entry)) (now (store .exit))
+        (now (tree .exit)) st
+        (lineS limits (meant.pushes (now (s .entry))) (docOf (now (store .entry)) (now (tree .entry)) st 1)) r ⌝ }
 {
     let used = st.used;
     let root = Here {
@@ -142,7 +148,9 @@ fn hang_key(
     limits: Limits,
 ) -> LineRead
     requires { ⌜ Hanging limits (length (now s)) (now store) (now tree) (progress .st) n ⌝ }
-    ensures { λ r. ⌜ Lined limits (length (now (s .entry))) (now (store .entry)) (now (tree .entry)) (now (store .exit)) (now (tree .exit)) (progress .st) (hangK limits (now (s .entry)) n (docOf (now (store .entry)) (now (tree .entry)) (progress .st) (progress .here))) r ⌝ }
+    ensures { λ r. ⌜ Lined limits (length (now (s .entry))) (now (store .entry)) (now (tree .entry)) (now (store .exit))
+        (now (tree .exit)) (progress .st) (hangK limits (now (s .entry)) n
+        (docOf (now (store .entry)) (now (tree .entry)) (progress .st) (progress .here))) r ⌝ }
 {
     let st = progress.st;
     let used = st.used;
@@ -171,7 +179,9 @@ fn setting(
     limits: Limits,
 ) -> LineRead
     requires { ⌜ Taking limits (length (now k) + length (now v)) (now store) (now tree) (progress .st) ⌝ }
-    ensures { λ r. ⌜ Lined limits (length (now (k .entry)) + length (now (v .entry))) (now (store .entry)) (now (tree .entry)) (now (store .exit)) (now (tree .exit)) (progress .st) (setS limits (now (k .entry)) (now (v .entry)) (docOf (now (store .entry)) (now (tree .entry)) (progress .st) (progress .here))) r ⌝ }
+    ensures { λ r. ⌜ Lined limits (length (now (k .entry)) + length (now (v .entry))) (now (store .entry))
+        (now (tree .entry)) (now (store .exit)) (now (tree .exit)) (progress .st) (setS limits (now (k .entry))
+        (now (v .entry)) (docOf (now (store .entry)) (now (tree .entry)) (progress .st) (progress .here))) r ⌝ }
 {
     if k.len() == 0 {
         return LineRead::Fault(6);
@@ -205,7 +215,10 @@ fn assignment(
     limits: Limits,
 ) -> LineRead
     requires { ⌜ Taking limits (length (now k) + length (now v)) (now store) (now tree) (progress .st) ⌝ }
-    ensures { λ r. ⌜ Lined limits (length (now (k .entry)) + length (now (v .entry))) (now (store .entry)) (now (tree .entry)) (now (store .exit)) (now (tree .exit)) (progress .st) (lineS limits (meant.sets (now (k .entry)) (now (v .entry))) (docOf (now (store .entry)) (now (tree .entry)) (progress .st) (progress .here))) r ⌝ }
+    ensures { λ r. ⌜ Lined limits (length (now (k .entry)) + length (now (v .entry))) (now (store .entry))
+        (now (tree .entry)) (now (store .exit)) (now (tree .exit)) (progress .st) (lineS limits
+        (meant.sets (now (k .entry)) (now (v .entry)))
+        (docOf (now (store .entry)) (now (tree .entry)) (progress .st) (progress .here))) r ⌝ }
 {
     let t = chars::trim(k);
     let from = t.from;
@@ -222,7 +235,9 @@ fn read_form(
     limits: Limits,
 ) -> LineRead
     requires { ⌜ Taking limits (length (now l)) (now store) (now tree) (progress .st) ⌝ }
-    ensures { λ r. ⌜ Lined limits (length (now (l .entry))) (now (store .entry)) (now (tree .entry)) (now (store .exit)) (now (tree .exit)) (progress .st) (lineS limits (meant.form (now (l .entry))) (docOf (now (store .entry)) (now (tree .entry)) (progress .st) (progress .here))) r ⌝ }
+    ensures { λ r. ⌜ Lined limits (length (now (l .entry))) (now (store .entry)) (now (tree .entry)) (now (store .exit))
+        (now (tree .exit)) (progress .st) (lineS limits (meant.form (now (l .entry)))
+        (docOf (now (store .entry)) (now (tree .entry)) (progress .st) (progress .here))) r ⌝ }
 {
     let st = progress.st;
     let f = values::form::classify(l);
@@ -252,7 +267,9 @@ pub fn read_line(
     limits: Limits,
 ) -> LineRead
     requires { ⌜ Taking limits (length (now l)) (now store) (now tree) (progress .st) ⌝ }
-    ensures { λ r. ⌜ Lined limits (length (now (l .entry))) (now (store .entry)) (now (tree .entry)) (now (store .exit)) (now (tree .exit)) (progress .st) (lineS limits (meant.form (space.trim (now (l .entry)))) (docOf (now (store .entry)) (now (tree .entry)) (progress .st) (progress .here))) r ⌝ }
+    ensures { λ r. ⌜ Lined limits (length (now (l .entry))) (now (store .entry)) (now (tree .entry)) (now (store .exit))
+        (now (tree .exit)) (progress .st) (lineS limits (meant.form (space.trim (now (l .entry))))
+        (docOf (now (store .entry)) (now (tree .entry)) (progress .st) (progress .here))) r ⌝ }
 {
     let t = chars::trim(l);
     let from = t.from;
@@ -276,7 +293,8 @@ fn first_fault(s: &[u8], next: Place, number: u32, line: usize) -> Read
 // All joined lines of a laid text.
 pub fn read_lines(s: &[u8], store: &mut [u8], tree: &mut [u8], limits: Limits) -> Read
     requires { ⌜ Begun limits (now s) (now store) (now tree) ⌝ }
-    ensures { λ r. ⌜ Reads limits (length (now (s .entry))) (now (store .entry)) (now (tree .entry)) (now (store .exit)) (now (tree .exit)) (wholeOf limits (now (s .entry))) r ⌝ }
+    ensures { λ r. ⌜ Reads limits (length (now (s .entry))) (now (store .entry)) (now (tree .entry)) (now (store .exit))
+        (now (tree .exit)) (wholeOf limits (now (s .entry))) r ⌝ }
 {
     let mut at = 0;
     let mut line = 1;
@@ -318,7 +336,8 @@ pub fn read_lines(s: &[u8], store: &mut [u8], tree: &mut [u8], limits: Limits) -
 // The same, with both rooms zeroed where a line is refused.
 pub fn read_laid(s: &[u8], store: &mut [u8], tree: &mut [u8], limits: Limits) -> Read
     requires { ⌜ Begun limits (now s) (now store) (now tree) ⌝ }
-    ensures { λ r. ⌜ Cleared (now (store .entry)) (now (tree .entry)) (now (store .exit)) (now (tree .exit)) (wholeOf limits (now (s .entry))) r ⌝ }
+    ensures { λ r. ⌜ Cleared (now (store .entry)) (now (tree .entry)) (now (store .exit)) (now (tree .exit))
+        (wholeOf limits (now (s .entry))) r ⌝ }
 {
     let r = read_lines(s, store, tree, limits);
     match r {
@@ -340,7 +359,8 @@ fn read_text(
     limits: Limits,
 ) -> Read
     requires { ⌜ Ready limits (length (now text)) (now scratch) (now store) (now tree) ⌝ }
-    ensures { λ r. ⌜ Cleared (now (store .entry)) (now (tree .entry)) (now (store .exit)) (now (tree .exit)) (documentS limits (now (text .entry))) r ⌝ }
+    ensures { λ r. ⌜ Cleared (now (store .entry)) (now (tree .entry)) (now (store .exit)) (now (tree .exit))
+        (documentS limits (now (text .entry))) r ⌝ }
 {
     if limits.text < text.len() {
         return Read::Fault { number: 1, line: 0 };
@@ -355,7 +375,8 @@ fn read_text(
 // A short text within 01's limits, laid into a short scratch.
 fn read_short(text: &[u8], store: &mut [u8], tree: &mut [u8]) -> Read
     requires { ⌜ Roomy (now store) (now tree) × (length (now text) < 4096) ⌝ }
-    ensures { λ r. ⌜ Cleared (now (store .entry)) (now (tree .entry)) (now (store .exit)) (now (tree .exit)) (documentS of01 (now (text .entry))) r ⌝ }
+    ensures { λ r. ⌜ Cleared (now (store .entry)) (now (tree .entry)) (now (store .exit)) (now (tree .exit))
+        (documentS of01 (now (text .entry))) r ⌝ }
 {
     let mut scratch = [0u8; SHORT_SCRATCH_BYTES];
     read_text(text, &mut scratch, store, tree, meaning::of01())
@@ -364,7 +385,8 @@ fn read_short(text: &[u8], store: &mut [u8], tree: &mut [u8]) -> Read
 // Any text within 01's limits.
 fn read_long(text: &[u8], store: &mut [u8], tree: &mut [u8]) -> Read
     requires { ⌜ Roomy (now store) (now tree) ⌝ }
-    ensures { λ r. ⌜ Cleared (now (store .entry)) (now (tree .entry)) (now (store .exit)) (now (tree .exit)) (documentS of01 (now (text .entry))) r ⌝ }
+    ensures { λ r. ⌜ Cleared (now (store .entry)) (now (tree .entry)) (now (store .exit)) (now (tree .exit))
+        (documentS of01 (now (text .entry))) r ⌝ }
 {
     let mut scratch = [0u8; SCRATCH_BYTES];
     read_text(text, &mut scratch, store, tree, meaning::of01())
@@ -386,14 +408,16 @@ fn stands(text: &[u8]) -> bool
 // Such a text: its lines.
 fn read_standing(text: &[u8], store: &mut [u8], tree: &mut [u8]) -> Read
     requires { ⌜ Roomy (now store) (now tree) × Standing (now text) ⌝ }
-    ensures { λ r. ⌜ Cleared (now (store .entry)) (now (tree .entry)) (now (store .exit)) (now (tree .exit)) (documentS of01 (now (text .entry))) r ⌝ }
+    ensures { λ r. ⌜ Cleared (now (store .entry)) (now (tree .entry)) (now (store .exit)) (now (tree .exit))
+        (documentS of01 (now (text .entry))) r ⌝ }
 {
     read_laid(text, store, tree, meaning::of01())
 }
 
 fn read_roomy(text: &[u8], store: &mut [u8], tree: &mut [u8]) -> Read
     requires { ⌜ Roomy (now store) (now tree) ⌝ }
-    ensures { λ r. ⌜ Cleared (now (store .entry)) (now (tree .entry)) (now (store .exit)) (now (tree .exit)) (documentS of01 (now (text .entry))) r ⌝ }
+    ensures { λ r. ⌜ Cleared (now (store .entry)) (now (tree .entry)) (now (store .exit)) (now (tree .exit))
+        (documentS of01 (now (text .entry))) r ⌝ }
 {
     if stands(text) {
         return read_standing(text, store, tree);
@@ -420,7 +444,8 @@ pub fn rooms_suffice(store: &[u8], tree: &[u8]) -> bool
 // A text into empty rooms: 17 first.
 fn read_empty(text: &[u8], store: &mut [u8], tree: &mut [u8]) -> Read
     requires { ⌜ Empty (now store) (now tree) ⌝ }
-    ensures { λ r. ⌜ Cleared (now (store .entry)) (now (tree .entry)) (now (store .exit)) (now (tree .exit)) (judged (now (text .entry)) (length (now (store .entry))) (length (now (tree .entry)))) r ⌝ }
+    ensures { λ r. ⌜ Cleared (now (store .entry)) (now (tree .entry)) (now (store .exit)) (now (tree .exit))
+        (judged (now (text .entry)) (length (now (store .entry))) (length (now (tree .entry)))) r ⌝ }
 {
     if rooms_suffice(store, tree) {
         return read_roomy(text, store, tree);
@@ -433,7 +458,9 @@ fn read_empty(text: &[u8], store: &mut [u8], tree: &mut [u8]) -> Read
 
 // A text into both rooms, whatever they hold.
 pub fn read_tree(text: &[u8], store: &mut [u8], tree: &mut [u8]) -> Read
-    ensures { λ r. ⌜ Cleared (zeros (length (now (store .entry)))) (zeros (length (now (tree .entry)))) (now (store .exit)) (now (tree .exit)) (judged (now (text .entry)) (length (now (store .entry))) (length (now (tree .entry)))) r ⌝ }
+    ensures { λ r. ⌜ Cleared (zeros (length (now (store .entry)))) (zeros (length (now (tree .entry))))
+        (now (store .exit)) (now (tree .exit))
+        (judged (now (text .entry)) (length (now (store .entry))) (length (now (tree .entry)))) r ⌝ }
 {
     slices::zero(store);
     slices::zero(tree);

@@ -1,4 +1,5 @@
-// The tree room: values of 32 bytes each in the order they are made, each hung up under a parent. Only this crate knows the layout.
+// The tree room: values of 32 bytes each in the order they are made, each hung up under a parent. Only this crate
+// knows the layout.
 
 ghost use mathlib.Core.Path.{_≡_};
 ghost use mathlib.Core.List.{[], _∷_};
@@ -24,7 +25,8 @@ pub const MOST_VALUES: usize = 65000;
 pub const ROOT: u16 = 1;
 
 // A value. Its kind is one of those below, KIND_NEGATIVE that of an integer with a minus.
-// Its parent: 0 none yet, 1 the root, n + 2 value number n. Its key is len bytes of the text store. Its data: an integer's magnitude; start + 65536 * length of a string; 0 or 1; else 0.
+// Its parent: 0 none yet, 1 the root, n + 2 value number n. Its key is len bytes of the text store. Its data: an
+// integer's magnitude; start + 65536 * length of a string; 0 or 1; else 0.
 pub struct Slot {
     pub kind: u8,
     pub parent: u16,
@@ -58,7 +60,8 @@ pub enum Found {
     Nothing,
 }
 
-// What a value is: a string's bytes in the text store, an integer, a boolean, or the place where an array's items or a table's fields hang.
+// What a value is: a string's bytes in the text store, an integer, a boolean, or the place where an array's items or
+// a table's fields hang.
 pub enum Value {
     Absent,
     Text { from: usize, len: usize },
@@ -95,7 +98,8 @@ pub enum Item {
     At { value: usize, rest: Items },
 }
 
-// A walk over a table's keys in byte order, each key once. It goes on after a value; below a low number nothing hangs under the place.
+// A walk over a table's keys in byte order, each key once. It goes on after a value; below a low number nothing
+// hangs under the place.
 pub struct Keys {
     pub place: u16,
     pub low: usize,
@@ -236,7 +240,8 @@ fn under(tree: &[u8], n: usize, parent: u16) -> bool
     slices::get2(tree, at + 2) == parent
 }
 
-// Whether none of a block of values from number n on hangs under the parent. Their tests stand one after the other in the machine's code,
+// Whether none of a block of values from number n on hangs under the parent. Their tests stand one after the other
+// in the machine's code,
 // which is quicker than a loop over all values.
 fn idle(tree: &[u8], n: usize, parent: u16) -> bool
     requires { ⌜ Holds (now tree) (n + 8) ⌝ }
@@ -313,7 +318,8 @@ fn mine(tree: &[u8], store: &[u8], n: usize, parent: u16, key: &[u8]) -> bool
 // The newest of the values from one number to before another that hangs under the parent with the key.
 fn seek(tree: &[u8], store: &[u8], from: usize, to: usize, parent: u16, key: &[u8]) -> Found
     requires { ⌜ (from ≤ to) × Holds (now tree) to ⌝ }
-    ensures { λ r. ⌜ Finds from to (doors.sought (now (tree .entry)) (now (store .entry)) from to parent (now (key .entry))) r ⌝ }
+    ensures { λ r. ⌜ Finds from to
+        (doors.sought (now (tree .entry)) (now (store .entry)) from to parent (now (key .entry))) r ⌝ }
 {
     let mut i = to;
     while from < i {
@@ -328,7 +334,8 @@ fn seek(tree: &[u8], store: &[u8], from: usize, to: usize, parent: u16, key: &[u
 // The same of a block: where none of its values hangs under the parent, no key is looked at.
 fn seek_block(tree: &[u8], store: &[u8], n: usize, parent: u16, key: &[u8]) -> Found
     requires { ⌜ Holds (now tree) (n + 8) ⌝ }
-    ensures { λ r. ⌜ Finds n (n + 8) (doors.lookIn (now (tree .entry)) (now (store .entry)) n 8 parent (now (key .entry))) r ⌝ }
+    ensures { λ r. ⌜ Finds n (n + 8)
+        (doors.lookIn (now (tree .entry)) (now (store .entry)) n 8 parent (now (key .entry))) r ⌝ }
 {
     if idle(tree, n, parent) {
         return Found::Nothing;
@@ -339,7 +346,8 @@ fn seek_block(tree: &[u8], store: &[u8], n: usize, parent: u16, key: &[u8]) -> F
 // The newest of the values made that hangs under the parent with the key.
 pub fn find_child(tree: &[u8], store: &[u8], made: usize, parent: u16, key: &[u8]) -> Found
     requires { ⌜ Holds (now tree) made ⌝ }
-    ensures { λ r. ⌜ Finds 0 made (room.look (now (tree .entry)) (now (store .entry)) made parent (now (key .entry))) r ⌝ }
+    ensures { λ r. ⌜ Finds 0 made (room.look (now (tree .entry)) (now (store .entry)) made parent (now (key .entry))) r
+        ⌝ }
 {
     let mut i = made;
     while BLOCK <= i {
@@ -503,7 +511,8 @@ fn better(tree: &[u8], store: &[u8], parent: u16, after: Found, best: Found, m: 
 // One pass from the newest down: of values with one key the first met stays.
 fn nearest(tree: &[u8], store: &[u8], low: usize, made: usize, parent: u16, after: Found) -> Found
     requires { ⌜ Holds (now tree) made × Clear (now tree) parent 0 low × Stands (now tree) after ⌝ }
-    ensures { λ r. ⌜ Finds 0 made (order.nearestOf (slotAt (now (tree .entry))) (now (store .entry)) parent after made) r ⌝ }
+    ensures { λ r. ⌜ Finds 0 made (order.nearestOf (slotAt (now (tree .entry))) (now (store .entry)) parent after made)
+        r ⌝ }
 {
     let mut best = Found::Nothing;
     let mut i = made;
@@ -523,7 +532,8 @@ fn is_made(made: usize, after: Found) -> bool
     }
 }
 
-// The next key under the parent after that of the value found before, from nothing the first: of the keys above it the least, and of
+// The next key under the parent after that of the value found before, from nothing the first: of the keys above it
+// the least, and of
 // its values the newest. After a value that is not made, or whose key runs past the store, comes nothing.
 fn next(tree: &[u8], store: &[u8], low: usize, made: usize, parent: u16, after: Found) -> Found
     requires { ⌜ Holds (now tree) made × Clear (now tree) parent 0 low ⌝ }
@@ -578,7 +588,8 @@ pub fn next_key(tree: &[u8], store: &[u8], w: Keys) -> Key
     }
 }
 
-// A string's bytes by its data, where they lie in a store of so many bytes. No text that is read is longer than 65,535 bytes.
+// A string's bytes by its data, where they lie in a store of so many bytes. No text that is read is longer than
+// 65,535 bytes.
 fn text(bits: u64, size: usize) -> Value
     ensures { λ r. ⌜ r ≡ doors.textOf bits size ⌝ }
 {
@@ -669,7 +680,8 @@ pub fn fields_at(tree: &[u8], made: usize, place: u16) -> Fields
 // The newest of a table's fields with the key.
 fn among(tree: &[u8], store: &[u8], f: Fields, key: &[u8]) -> Found
     requires { ⌜ Spread (now tree) f ⌝ }
-    ensures { λ r. ⌜ Finds (f .from) (f .to) (doors.among (now (tree .entry)) (now (store .entry)) f (now (key .entry))) r ⌝ }
+    ensures { λ r. ⌜ Finds (f .from) (f .to) (doors.among (now (tree .entry)) (now (store .entry)) f (now (key .entry)))
+        r ⌝ }
 {
     seek(tree, store, f.from, f.to, f.place, key)
 }

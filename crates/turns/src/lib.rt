@@ -8,7 +8,8 @@ ghost use Rattle.meaning.specs.Base.{same};
 ghost use Rattle.turns.specs.Marks as marks;
 ghost use Rattle.turns.specs.Marks.{named, Marked};
 
-// What one entry's rules say: before the question whether an earlier entry has its name, which is len bytes from a place on, and after it.
+// What one entry's rules say: before the question whether an earlier entry has its name, which is len bytes from a
+// place on, and after it.
 pub struct Mark {
     pub from: usize,
     pub len: usize,

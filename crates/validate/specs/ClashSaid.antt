@@ -69,7 +69,7 @@ suc-pick : (b : Bool) (n m : ℕ) → suc (pick b n m) ≡ pick b (suc n) (suc m
 suc-pick true n m = refl
 suc-pick false n m = refl
 
--- it is in the first list, or behind it
+-- it is in the first list, or after it
 pub hit-two : {X : Type 0} (hit : X → X → Bool) (es xs ys : List X)
     → firstHit hit es (xs ++ ys) ≡ pick (ltb (firstHit hit es xs) (length xs)) (firstHit hit es xs) (length xs + firstHit hit (es ++ xs) ys)
 hit-two hit es [] ys = rw (append-nil es) (omega arith)

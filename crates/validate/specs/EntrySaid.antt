@@ -153,7 +153,7 @@ module _ (room store : List ℕ) (made n : ℕ) where
         partition = or-one Kept (λ from len. tt) (textRead (field room store f (ascii "partition")) .text) (texts.Stored 0 0) (text-kept (field room store f (ascii "partition"))) tt;
       }
 
--- the name's rules in one, or one behind the other
+-- the name's rules in one, or one after the other
 name-turned : (m l : Bool) (x : ℕ) → orElse (pick m 51 (pick l 52 0)) x ≡ orElse (pick m 51 0) (orElse (pick l 52 0) x)
 name-turned true l x = refl
 name-turned false l x = refl
@@ -212,7 +212,7 @@ module _ (room store : List ℕ) (made n : ℕ) where
         filename = or-one Filed (λ from len. tt) (textRead (field room store f (ascii "filename")) .text) (aicOf called) (text-kept (field room store f (ascii "filename"))) (aic-filed called);
       }
 
--- the name's rule in its place, or behind the early rules
+-- the name's rule in its place, or after the early rules
 early-turned : (e l f k m : Bool) (x : ℕ)
     → pick e 61 (pick l 62 (pick f 63 (pick k (pick m 65 x) 64))) ≡ orElse (pick e 61 (pick l 62 (pick f 63 (pick k 0 64)))) (orElse (pick m 65 0) x)
 early-turned true l f k m x = refl

@@ -59,7 +59,7 @@ bootFault first = pick first (refusalAt 0 0 0) (refusalAt 4 70 0)
 unfoldable pub clashFault : ℕ → ℕ → ℕ → Refusal
 clashFault cs all at = pick (ltb at cs) (refusalAt 4 60 at) (pick (ltb at all) (refusalAt 5 60 (at - cs)) (refusalAt 0 0 0))
 
--- 60 to 70, of applications that were gathered behind components
+-- 60 to 70, of applications that were gathered after components
 unfoldable pub gatheredFault : ℕ → Bool → Applied → Refusal
 gatheredFault cs first a = earlier (clashFault cs (cs + a .count) (a .clash)) (earlier (inEntry 5 (a .own)) (bootFault first))
 
@@ -79,7 +79,7 @@ module _ (room store : Seq ℕ) (made : ℕ) where
     abbrev pub applicationPairs : Seq Pair
     applicationPairs = map (λ n. applicationAt room store made parts n .pair) (applications room store made)
 
-    -- 60 to 70, behind components of which one lies in the first partition or none
+    -- 60 to 70, after components of which one lies in the first partition or none
     unfoldable pub behindFault : ℕ → Seq Pair → Bool → Refusal
     behindFault cs pairs first =
         let apps = length (applications room store made) in
@@ -92,7 +92,7 @@ module _ (room store : Seq ℕ) (made : ℕ) where
         earlier (componentsFault store componentMarks)
         (behindFault (length (components room store made)) componentPairs (anyOf (λ n. componentAt room store made parts n .first) (components room store made)))
 
-    -- records before rules, those that were judged in front and those behind
+    -- records before rules, those that were judged in front and those after
     unfoldable pub applicationsJudged : Refusal → ℕ → Seq Pair → Bool → Refusal
     applicationsJudged rules cs pairs first = earlier (verdicts.applicationFault room store made of01) (earlier rules (behindFault cs pairs first))
 

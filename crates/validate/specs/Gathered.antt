@@ -71,7 +71,7 @@ pub record Followed (room : Seq ℕ) (made end count behind : ℕ) : Type 0 wher
   pub low : behind ≤ 64
 
 module _ (room store : Seq ℕ) (made : ℕ) where
-  -- as many, their own rules, and the first entry that clashes: their packages stand behind those in front
+  -- as many, their own rules, and the first entry that clashes: their packages stand after those in front
   pub record Follows (parts : Seq (Seq ℕ)) (ns : Seq ℕ) (front : Seq Pair) (r : Applied) : Type 0 where
     pub listed : Listed store 65 (applicationAt room store made parts) ns (r .count) (r .own)
     pub clashes : r .clash ≡ firstHit (clash room store made) [] (front ++ map (λ n. applicationAt room store made parts n .pair) ns)

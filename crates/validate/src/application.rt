@@ -76,7 +76,8 @@ fn entry_of(
     count: usize,
 ) -> Entry
     requires { ⌜ count ≤ 32 ⌝ }
-    ensures { λ r. ⌜ r ≡ entries.applicationEntry (now (store .entry)) (partNames (now (store .entry)) count items) fault pair a ⌝ }
+    ensures { λ r. ⌜ r ≡ entries.applicationEntry (now (store .entry)) (partNames (now (store .entry)) count items)
+        fault pair a ⌝ }
 {
     let name = a.name;
     let partition = a.partition;

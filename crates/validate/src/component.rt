@@ -164,7 +164,8 @@ fn entry_of(
     count: usize,
 ) -> Entry
     requires { ⌜ count ≤ 32 ⌝ }
-    ensures { λ r. ⌜ r ≡ entries.componentEntry (now (store .entry)) (partNames (now (store .entry)) count items) fault c ⌝ }
+    ensures { λ r. ⌜ r ≡ entries.componentEntry (now (store .entry)) (partNames (now (store .entry)) count items) fault
+        c ⌝ }
 {
     let head = c.head;
     let role = c.role;

@@ -117,7 +117,8 @@ fn width_fault(chip: Chip, target: &[u8]) -> u32
 
 fn target_fault(store: &[u8], name: &[u8], chip: Chip, t: Text) -> u32
     requires { ⌜ Plain t ⌝ }
-    ensures { λ r. ⌜ r ≡ meant.widthFault (chipMeant chip) (meant.chipFor (spelled (now (store .entry)) (now (name .entry)) t)) ⌝ }
+    ensures { λ r. ⌜ r ≡ meant.widthFault (chipMeant chip)
+        (meant.chipFor (spelled (now (store .entry)) (now (name .entry)) t)) ⌝ }
 {
     match t {
         Text::Absent => width_fault(chip, &name[0..0]),

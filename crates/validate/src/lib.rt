@@ -180,7 +180,8 @@ fn judge_partitions(tree: &[u8], store: &[u8], made: usize, chip: Chip, rules: R
     judge_components(tree, store, made, p, own)
 }
 
-// The first refusal of the records, then of the rules: each entry is read once, and what rules say of it waits for the last record.
+// The first refusal of the records, then of the rules: each entry is read once, and what rules say of it waits for
+// the last record.
 pub fn judge_rules(tree: &[u8], store: &[u8], made: usize, name: &[u8]) -> Refusal
     requires { ⌜ Rooms (now tree) made ⌝ }
     ensures { λ r. ⌜ Told (validating (now (name .entry)) (now (tree .entry)) (now (store .entry)) made) r ⌝ }

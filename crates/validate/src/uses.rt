@@ -147,7 +147,8 @@ pub fn first_clash(
     count: usize,
 ) -> usize
     requires { ⌜ Rooms (now tree) made × (count ≤ 128) ⌝ }
-    ensures { λ r. ⌜ r ≡ firstHit (clashes.clash (now (tree .entry)) (now (store .entry)) made) [] (take count pairs) ⌝ }
+    ensures { λ r. ⌜ r ≡ firstHit (clashes.clash (now (tree .entry)) (now (store .entry)) made) [] (take count pairs)
+        ⌝ }
 {
     let mut found = count;
     'later: for i in 0..count {

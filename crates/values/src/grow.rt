@@ -9,8 +9,10 @@ ghost use mathlib.Core.Path.{_≡_};
 ghost use Prim.Native.Nat.{_+_, _-_, _≤_, _<_};
 ghost use lib.ListN.{length, getD, take};
 ghost use Rattle.tree.specs.declared.Found.the-variants.{Nothing};
-ghost use Rattle.values.specs.Grow.{segOf, segsOf, void, keyedSlot, spelt, lookS, onward, makeS, itemS, enterS, downS, pushS, toLastS, hangS};
-ghost use Rattle.values.specs.Carries.{slotsOf, Grows, Makes, Keys, Numbered, Seeks, Sought, Enters, Paths, LongKey, lastOf, Keyed, Hangs, Assigns, Grew};
+ghost use Rattle.values.specs.Grow.{segOf, segsOf, void, keyedSlot, spelt, lookS, onward, makeS, itemS, enterS};
+ghost use Rattle.values.specs.Grow.{downS, pushS, toLastS, hangS};
+ghost use Rattle.values.specs.Carries.{slotsOf, Grows, Makes, Keys, Numbered, Seeks, Sought, Enters, Paths};
+ghost use Rattle.values.specs.Carries.{LongKey, lastOf, Keyed, Hangs, Assigns, Grew};
 
 // How many values are made and may be made, and the place that a walk has come to.
 pub struct Here {
@@ -35,7 +37,8 @@ pub enum Grown {
 // Makes one value after those there are.
 pub fn make_slot(tree: &mut [u8], made: usize, limit: usize, v: Slot) -> Grown
     requires { ⌜ Makes limit (now tree) made v ⌝ }
-    ensures { λ r. ⌜ Grew limit (now (tree .entry)) (now (tree .exit)) made (makeS limit (slotsOf (now (tree .entry)) made) v) r ⌝ }
+    ensures { λ r. ⌜ Grew limit (now (tree .entry)) (now (tree .exit)) made
+        (makeS limit (slotsOf (now (tree .entry)) made) v) r ⌝ }
 {
     if limit <= made {
         return Grown::Full;
@@ -50,7 +53,9 @@ pub fn make_slot(tree: &mut [u8], made: usize, limit: usize, v: Slot) -> Grown
 // Makes a value without data, under the place and with a segment of the store as its key.
 fn make_keyed(tree: &mut [u8], kind: u8, here: Here, segment: Segment) -> Grown
     requires { ⌜ Keys (here .limit) (now tree) (here .made) (segment .from) (segment .end) ⌝ }
-    ensures { λ r. ⌜ Grew (here .limit) (now (tree .entry)) (now (tree .exit)) (here .made) (makeS (here .limit) (slotsOf (now (tree .entry)) (here .made)) (keyedSlot kind (here .place) (segOf (segment .from) (segment .end)))) r ⌝ }
+    ensures { λ r. ⌜ Grew (here .limit) (now (tree .entry)) (now (tree .exit)) (here .made) (makeS (here .limit)
+        (slotsOf (now (tree .entry)) (here .made))
+        (keyedSlot kind (here .place) (segOf (segment .from) (segment .end)))) r ⌝ }
 {
     let v = Slot {
         kind,
@@ -73,7 +78,8 @@ fn kind_at(tree: &[u8], made: usize, n: usize) -> u8
 // The newest value under the place whose key is a segment of the store.
 fn seek(tree: &[u8], store: &[u8], here: Here, segment: Segment) -> Found
     requires { ⌜ Seeks (now tree) (now store) (here .made) (segment .from) (segment .end) ⌝ }
-    ensures { λ r. ⌜ Sought (here .made) (lookS (now (store .entry)) 0 (slotsOf (now (tree .entry)) (here .made)) (here .place) (spelt (now (store .entry)) (segOf (segment .from) (segment .end))) Nothing) r ⌝ }
+    ensures { λ r. ⌜ Sought (here .made) (lookS (now (store .entry)) 0 (slotsOf (now (tree .entry)) (here .made))
+        (here .place) (spelt (now (store .entry)) (segOf (segment .from) (segment .end))) Nothing) r ⌝ }
 {
     let from = segment.from;
     let end = segment.end;
@@ -83,7 +89,9 @@ fn seek(tree: &[u8], store: &[u8], here: Here, segment: Segment) -> Found
 // Walks into the table of that name under the place, or makes one in the place of anything else.
 fn enter(tree: &mut [u8], store: &[u8], here: Here, segment: Segment) -> Grown
     requires { ⌜ Enters (here .limit) (now tree) (now store) (here .made) (segment .from) (segment .end) ⌝ }
-    ensures { λ r. ⌜ Grew (here .limit) (now (tree .entry)) (now (tree .exit)) (here .made) (enterS (here .limit) (now (store .entry)) (slotsOf (now (tree .entry)) (here .made)) (here .place) (segOf (segment .from) (segment .end))) r ⌝ }
+    ensures { λ r. ⌜ Grew (here .limit) (now (tree .entry)) (now (tree .exit)) (here .made) (enterS (here .limit)
+        (now (store .entry)) (slotsOf (now (tree .entry)) (here .made)) (here .place)
+        (segOf (segment .from) (segment .end))) r ⌝ }
 {
     let f = seek(tree, store, here, segment);
     match f {
@@ -103,7 +111,8 @@ fn enter(tree: &mut [u8], store: &[u8], here: Here, segment: Segment) -> Grown
 // Makes the next table of the array at this place; an array's item has the key of no bytes.
 fn make_item(tree: &mut [u8], here: Here) -> Grown
     requires { ⌜ Grows (here .limit) (now tree) (here .made) ⌝ }
-    ensures { λ r. ⌜ Grew (here .limit) (now (tree .entry)) (now (tree .exit)) (here .made) (itemS (here .limit) (slotsOf (now (tree .entry)) (here .made)) (here .place)) r ⌝ }
+    ensures { λ r. ⌜ Grew (here .limit) (now (tree .entry)) (now (tree .exit)) (here .made)
+        (itemS (here .limit) (slotsOf (now (tree .entry)) (here .made)) (here .place)) r ⌝ }
 {
     make_keyed(tree, KIND_TABLE, here, Segment { from: 0, end: 0 })
 }
@@ -111,7 +120,9 @@ fn make_item(tree: &mut [u8], here: Here) -> Grown
 // Makes an array and its first table.
 fn push_new(tree: &mut [u8], here: Here, segment: Segment) -> Grown
     requires { ⌜ Keys (here .limit) (now tree) (here .made) (segment .from) (segment .end) ⌝ }
-    ensures { λ r. ⌜ Grew (here .limit) (now (tree .entry)) (now (tree .exit)) (here .made) (onward (makeS (here .limit) (slotsOf (now (tree .entry)) (here .made)) (keyedSlot 4 (here .place) (segOf (segment .from) (segment .end)))) (itemS (here .limit))) r ⌝ }
+    ensures { λ r. ⌜ Grew (here .limit) (now (tree .entry)) (now (tree .exit)) (here .made) (onward
+        (makeS (here .limit) (slotsOf (now (tree .entry)) (here .made)) (keyedSlot 4 (here .place) (segOf (segment .from) (segment .end))))
+        (itemS (here .limit))) r ⌝ }
 {
     let g = make_keyed(tree, KIND_ARRAY, here, segment);
     match g {
@@ -131,7 +142,9 @@ fn push_new(tree: &mut [u8], here: Here, segment: Segment) -> Grown
 // The next table of the array of that name under the place; 13 over anything else.
 fn push(tree: &mut [u8], store: &[u8], here: Here, segment: Segment) -> Grown
     requires { ⌜ Enters (here .limit) (now tree) (now store) (here .made) (segment .from) (segment .end) ⌝ }
-    ensures { λ r. ⌜ Grew (here .limit) (now (tree .entry)) (now (tree .exit)) (here .made) (pushS (here .limit) (now (store .entry)) (slotsOf (now (tree .entry)) (here .made)) (here .place) (segOf (segment .from) (segment .end))) r ⌝ }
+    ensures { λ r. ⌜ Grew (here .limit) (now (tree .entry)) (now (tree .exit)) (here .made) (pushS (here .limit)
+        (now (store .entry)) (slotsOf (now (tree .entry)) (here .made)) (here .place)
+        (segOf (segment .from) (segment .end))) r ⌝ }
 {
     let f = seek(tree, store, here, segment);
     match f {
@@ -160,7 +173,9 @@ pub fn enter_path(
     steps: usize,
 ) -> Grown
     requires { ⌜ Paths (start .limit) (now tree) (now store) (start .made) key from steps ⌝ }
-    ensures { λ r. ⌜ Grew (start .limit) (now (tree .entry)) (now (tree .exit)) (start .made) (downS (start .limit) (now (store .entry)) (segsOf from (take steps (key .ends))) (slotsOf (now (tree .entry)) (start .made)) (start .place)) r ⌝ }
+    ensures { λ r. ⌜ Grew (start .limit) (now (tree .entry)) (now (tree .exit)) (start .made) (downS (start .limit)
+        (now (store .entry)) (segsOf from (take steps (key .ends))) (slotsOf (now (tree .entry)) (start .made))
+        (start .place)) r ⌝ }
 {
     let mut made = start.made;
     let mut place = start.place;
@@ -202,7 +217,8 @@ fn last_segment(key: Key) -> Segment
 // Hangs value number n up under the place, with a segment of the store as its key.
 fn hang_up(tree: &mut [u8], here: Here, segment: Segment, n: usize) -> Grown
     requires { ⌜ Hangs (here .limit) (now tree) (here .made) (segment .from) (segment .end) n ⌝ }
-    ensures { λ r. ⌜ Grew (here .limit) (now (tree .entry)) (now (tree .exit)) (here .made) (hangS n (slotsOf (now (tree .entry)) (here .made)) (here .place) (segOf (segment .from) (segment .end))) r ⌝ }
+    ensures { λ r. ⌜ Grew (here .limit) (now (tree .entry)) (now (tree .exit)) (here .made)
+        (hangS n (slotsOf (now (tree .entry)) (here .made)) (here .place) (segOf (segment .from) (segment .end))) r ⌝ }
 {
     let key = segment.from as u16;
     let len = (segment.end - segment.from) as u16;
@@ -216,7 +232,9 @@ fn hang_up(tree: &mut [u8], here: Here, segment: Segment, n: usize) -> Grown
 // A header `[[..]]`: along all but the last segment from the place, and the next table of the array there.
 pub fn push_path(tree: &mut [u8], store: &[u8], start: Here, key: Key, from: usize) -> Grown
     requires { ⌜ Keyed (start .limit) (now tree) (now store) (start .made) key from ⌝ }
-    ensures { λ r. ⌜ Grew (start .limit) (now (tree .entry)) (now (tree .exit)) (start .made) (toLastS (start .limit) (now (store .entry)) (pushS (start .limit) (now (store .entry))) (segsOf from (take (key .n) (key .ends))) (slotsOf (now (tree .entry)) (start .made)) (start .place)) r ⌝ }
+    ensures { λ r. ⌜ Grew (start .limit) (now (tree .entry)) (now (tree .exit)) (start .made) (toLastS (start .limit)
+        (now (store .entry)) (pushS (start .limit) (now (store .entry))) (segsOf from (take (key .n) (key .ends)))
+        (slotsOf (now (tree .entry)) (start .made)) (start .place)) r ⌝ }
 {
     if key.n == 1 {
         let end = key.ends[0];
@@ -241,7 +259,9 @@ pub fn push_path(tree: &mut [u8], store: &[u8], start: Here, key: Key, from: usi
 // An assignment of value number n: along all but the last segment from the place, and hung up there under the last.
 pub fn assign(tree: &mut [u8], store: &[u8], start: Here, key: Key, from: usize, n: usize) -> Grown
     requires { ⌜ Assigns (start .limit) (now tree) (now store) (start .made) key from n ⌝ }
-    ensures { λ r. ⌜ Grew (start .limit) (now (tree .entry)) (now (tree .exit)) (start .made) (toLastS (start .limit) (now (store .entry)) (hangS n) (segsOf from (take (key .n) (key .ends))) (slotsOf (now (tree .entry)) (start .made)) (start .place)) r ⌝ }
+    ensures { λ r. ⌜ Grew (start .limit) (now (tree .entry)) (now (tree .exit)) (start .made) (toLastS (start .limit)
+        (now (store .entry)) (hangS n) (segsOf from (take (key .n) (key .ends)))
+        (slotsOf (now (tree .entry)) (start .made)) (start .place)) r ⌝ }
 {
     if key.n == 1 {
         let end = key.ends[0];

@@ -87,7 +87,8 @@ fn string(
     limit: usize,
 ) -> Reply
     requires { ⌜ Ready limit (now s) (now store) (now tree) st ⌝ }
-    ensures { λ r. ⌜ Filled limit (now (s .entry)) (now (store .entry)) (now (tree .entry)) (now (store .exit)) (now (tree .exit)) st (fill.stringOut limit parent (st .used) (st .made) (now (s .entry))) r ⌝ }
+    ensures { λ r. ⌜ Filled limit (now (s .entry)) (now (store .entry)) (now (tree .entry)) (now (store .exit))
+        (now (tree .exit)) st (fill.stringOut limit parent (st .used) (st .made) (now (s .entry))) r ⌝ }
 {
     let used = st.used;
     let made = st.made;
@@ -112,7 +113,8 @@ fn string(
 // `true`, `false` or an integer.
 fn plain(s: &[u8], tree: &mut [u8], st: State, parent: u16, limit: usize) -> Reply
     requires { ⌜ Places limit (now tree) st ⌝ }
-    ensures { λ r. ⌜ Made limit (now (tree .entry)) (now (tree .exit)) st (fill.plainOut limit parent (st .made) (now (s .entry))) r ⌝ }
+    ensures { λ r. ⌜ Made limit (now (tree .entry)) (now (tree .exit)) st
+        (fill.plainOut limit parent (st .made) (now (s .entry))) r ⌝ }
 {
     if slices::same(s, b"true") {
         let v = valued(parent, KIND_BOOLEAN, 1);
@@ -136,7 +138,8 @@ fn plain(s: &[u8], tree: &mut [u8], st: State, parent: u16, limit: usize) -> Rep
 // What follows a `[`: 11, 16, and the array's own value.
 fn open_array(s: &[u8], tree: &mut [u8], st: State, parent: u16, limit: usize) -> Reply
     requires { ⌜ Places limit (now tree) st ⌝ }
-    ensures { λ r. ⌜ Made limit (now (tree .entry)) (now (tree .exit)) st (fill.openOut limit parent (st .made) (now (s .entry))) r ⌝ }
+    ensures { λ r. ⌜ Made limit (now (tree .entry)) (now (tree .exit)) st
+        (fill.openOut limit parent (st .made) (now (s .entry))) r ⌝ }
 {
     let n = s.len();
     if n == 0 {
@@ -159,7 +162,9 @@ pub fn value(
     allowed: Allowed,
 ) -> Reply
     requires { ⌜ Ready (allowed .values) (now s) (now store) (now tree) st ⌝ }
-    ensures { λ r. ⌜ Filled (allowed .values) (now (s .entry)) (now (store .entry)) (now (tree .entry)) (now (store .exit)) (now (tree .exit)) st (fill.valueOut (allowed .values) (allowed .arrays) parent (st .used) (st .made) (now (s .entry))) r ⌝ }
+    ensures { λ r. ⌜ Filled (allowed .values) (now (s .entry)) (now (store .entry)) (now (tree .entry))
+        (now (store .exit)) (now (tree .exit)) st
+        (fill.valueOut (allowed .values) (allowed .arrays) parent (st .used) (st .made) (now (s .entry))) r ⌝ }
 {
     let t = chars::trim(s);
     let from = t.from;
@@ -186,7 +191,9 @@ fn array(
     allowed: Allowed,
 ) -> Reply
     requires { ⌜ Ready (allowed .values) (now s) (now store) (now tree) st ⌝ }
-    ensures { λ r. ⌜ Filled (allowed .values) (now (s .entry)) (now (store .entry)) (now (tree .entry)) (now (store .exit)) (now (tree .exit)) st (fill.bracketsOut (allowed .values) (allowed .arrays) parent (st .used) (st .made) (now (s .entry))) r ⌝ }
+    ensures { λ r. ⌜ Filled (allowed .values) (now (s .entry)) (now (store .entry)) (now (tree .entry))
+        (now (store .exit)) (now (tree .exit)) st
+        (fill.bracketsOut (allowed .values) (allowed .arrays) parent (st .used) (st .made) (now (s .entry))) r ⌝ }
 {
     if allowed.arrays == 0 {
         return Reply::Fault(14, st);
@@ -217,7 +224,9 @@ fn items(
     allowed: Allowed,
 ) -> Reply
     requires { ⌜ Ready (allowed .values) (now s) (now store) (now tree) st ⌝ }
-    ensures { λ r. ⌜ Filled (allowed .values) (now (s .entry)) (now (store .entry)) (now (tree .entry)) (now (store .exit)) (now (tree .exit)) st (fill.listOut (allowed .values) (allowed .arrays) parent (st .used) (st .made) (now (s .entry))) r ⌝ }
+    ensures { λ r. ⌜ Filled (allowed .values) (now (s .entry)) (now (store .entry)) (now (tree .entry))
+        (now (store .exit)) (now (tree .exit)) st
+        (fill.listOut (allowed .values) (allowed .arrays) parent (st .used) (st .made) (now (s .entry))) r ⌝ }
 {
     let mut i = 0;
     let mut cur = st;
