@@ -36,7 +36,7 @@ use Rattle.parse.specs.declared.component.LoadRead.{LoadRead}
 use Rattle.parse.specs.Fields.{firstFault, textAt, textNeeded, numberAt, flagAt, kindAt}
 use Rattle.parse.specs.File.{fileAt, Placed}
 use Rattle.parse.specs.Component.{nameIn, filenameFor, sources, headRead, lists, roleRead, bootRead, loadRead, componentRead}
-use Rattle.parse.proofs.Fielding.{Elsewhere, elsewhere}
+use Rattle.schema.proofs.Wording.{Elsewhere, elsewhere}
 
 -- ---- a file's name
 

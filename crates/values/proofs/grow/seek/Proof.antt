@@ -6,14 +6,14 @@ use Rattle.values.proofs.grow.seek.Reads as reads
 use Rattle.values.proofs.grow.seek.Lts as lts
 use Rattle.tree.proofs.find_child.Reads as find-child-reads
 
-sub-find : tie.Need-sub-find
-sub-find c = search needs
+sub-find-child : tie.Need-sub-find-child
+sub-find-child c = search needs
 
-part-find-start : tie.Need-part-find-start
-part-find-start c = search needs
+part-find-child-start : tie.Need-part-find-child-start
+part-find-child-start c = search needs
 
-part-find-end : tie.Need-part-find-end
-part-find-end c = search needs
+part-find-child-end : tie.Need-part-find-child-end
+part-find-child-end c = search needs
 
 find-child-requires : tie.Need-find-child-requires
 find-child-requires c κs = search needs
@@ -22,4 +22,4 @@ returns : tie.Need-returns
 returns c = search (needs, seek-is)
 
 pub seek-spec : {M : Type 1} → statement M
-seek-spec = tie.close (tie.spec sub-find part-find-start part-find-end find-child-requires returns)
+seek-spec = tie.close (tie.spec sub-find-child part-find-child-start part-find-child-end find-child-requires returns)
