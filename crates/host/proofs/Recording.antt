@@ -178,7 +178,7 @@ module _ (judge : List ℕ → List ℕ → ℕ → Refusal) (way : Table → An
             says = rw (e, eo, mm);
             store-is = rw e (es ∙ ap (λ (b : List ℕ). over b (zeros (length store))) (h .0));
             tree-is = rw (e, ed) et;
-            shows = rw e (record { shown = shown es et; holdsValues = rw (mm, et) sounds; clear = rw (mm, es, et) (js .clear room bytes made z); records = rw (mm, es, et) });
+            shows = rw e (record { shown = shown es et; stands = rw (mm, et) sounds; clear = rw (mm, es, et) (js .clear room bytes made z); records = rw (mm, es, et) });
           }
 
       answered-not : (found .number ≡ 0 → ⊥) → Answered its text name store tree store' tree' (exported o)

@@ -221,16 +221,16 @@ module _ (name store tree : List ℕ) (app : ℕ) (key : List ℕ) (p : Read) (h
   pub plan-shown : Composed name store tree app key made q
   plan-shown =
       record {
-        components = λ i. rw (h .sound) (composition-means tree store made name clear c met i ∙ ap (λ (cs : List meant.PlannedComponent). entryAt cs i) components-are);
+        components = λ i. rw (h .stands) (composition-means tree store made name clear c met i ∙ ap (λ (cs : List meant.PlannedComponent). entryAt cs i) components-are);
         builds = λ i. build-means tree store made name c i ∙ ap (λ (bs : List meant.Build). entryAt bs i) builds-are;
-        built = λ i. rw (h .sound);
-        target = λ i p d. rw (h .sound) (target-is i p (rw (h .sound) at d));
-        targeted = λ i. rw (h .sound);
+        built = λ i. rw (h .stands);
+        target = λ i p d. rw (h .stands) (target-is i p (rw (h .stands) at d));
+        targeted = λ i. rw (h .stands);
         stem = stem-is;
-        stemmed = rw (h .sound);
+        stemmed = rw (h .stands);
         counts =
             rw (
-              h .sound,
+              h .stands,
               count-means tree store made name c met,
               components-are,
               sym (length-map (needed.buildsOf tree store made c) (buildMeant tree store made name)) ∙ ap (λ (bs : List meant.Build). length bs) builds-are,

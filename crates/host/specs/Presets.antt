@@ -36,7 +36,7 @@ treeBy text store tree (refused f section place) = zeros tree
 -- the rooms show 01's tree, and what is read from them is 01's preset, without a refusal
 pub record Recorded (name store tree : List ℕ) (p : Read) : Type 0 where
   pub shown : Shown store tree (p .parsed)
-  pub holdsValues : holdsValues tree (p .parsed .made) ≡ true
+  pub stands : holdsValues tree (p .parsed .made) ≡ true
   pub clear : verdict tree store (p .parsed .made) (fieldsOf tree (p .parsed .made) 1) of01 (lentText name) .number ≡ 0
   pub records : presetMeant tree store (p .parsed .made) name (fieldsOf tree (p .parsed .made) 1) of01 (lentText name) ≡ p .preset
 

@@ -54,7 +54,7 @@ pub extern "C" fn document_read(text: &[u8], store: &mut [u8], tree: &mut [u8]) 
     }
 }
 
-fn told(f: Found) -> At
+fn at_of(f: Found) -> At
     ensures { λ r. ⌜ r ≡ atOf f ⌝ }
 {
     match f {
@@ -75,9 +75,9 @@ pub extern "C" fn tree_find(tree: &[u8], store: &[u8], made: usize, parent: u16,
     ensures { λ r. ⌜ r ≡ finding (now (tree .entry)) (now (store .entry)) made parent (now (key .entry)) ⌝ }
 {
     if tree::capacity(tree) < made {
-        return told(Found::Nothing);
+        return at_of(Found::Nothing);
     }
-    told(tree::find_child(tree, store, made, parent, key))
+    at_of(tree::find_child(tree, store, made, parent, key))
 }
 
 // The first of the values made, from a number on, that hangs under the parent; nothing where the room has fewer values.
@@ -86,17 +86,17 @@ pub extern "C" fn tree_child(tree: &[u8], made: usize, parent: u16, from: usize)
     ensures { λ r. ⌜ r ≡ stepping (now (tree .entry)) made parent from ⌝ }
 {
     if tree::capacity(tree) < made {
-        return told(Found::Nothing);
+        return at_of(Found::Nothing);
     }
     let step = tree::next_item(tree, tree::items_from(parent, from, made));
     match step {
-        Item::At { value, rest: _ } => told(Found::At(value)),
-        Item::End => told(Found::Nothing),
+        Item::At { value, rest: _ } => at_of(Found::At(value)),
+        Item::End => at_of(Found::Nothing),
     }
 }
 
 // Where a walk in byte order stands: at its start, or after a value.
-fn behind(begun: u32, after: usize) -> Found
+fn last_visited(begun: u32, after: usize) -> Found
     ensures { λ r. ⌜ r ≡ behindOf begun after ⌝ }
 {
     if begun == 0 {
@@ -119,12 +119,12 @@ pub extern "C" fn tree_next(
     ensures { λ r. ⌜ r ≡ walking (now (tree .entry)) (now (store .entry)) made parent begun after ⌝ }
 {
     if tree::capacity(tree) < made {
-        return told(Found::Nothing);
+        return at_of(Found::Nothing);
     }
-    let w = tree::keys_after(tree, parent, made, behind(begun, after));
+    let w = tree::keys_after(tree, parent, made, last_visited(begun, after));
     let step = tree::next_key(tree, store, w);
     match step {
-        Key::At { value, rest: _ } => told(Found::At(value)),
-        Key::End => told(Found::Nothing),
+        Key::At { value, rest: _ } => at_of(Found::At(value)),
+        Key::End => at_of(Found::Nothing),
     }
 }

@@ -689,7 +689,7 @@ fn features_by(kind: u32, from: usize, len: usize) -> Features
     Features::Absent
 }
 
-fn behind_item(begun: u32, last: usize, size: usize) -> Feature
+fn last_item(begun: u32, last: usize, size: usize) -> Feature
     ensures { λ r. ⌜ r ≡ records.behindItem begun last size ⌝ }
 {
     if begun == 0 {
@@ -742,7 +742,7 @@ pub extern "C" fn preset_feature(
             store,
             made,
             f,
-            behind_item(begun, last, size),
+            last_item(begun, last, size),
         ));
     }
     feature_of(Feature::Nothing)

@@ -1,10 +1,14 @@
 // The layer of strings, integers, keys and values, for hosts that compare it with the original.
 
+use meaning::ARRAYS;
+use meaning::TEXT_BYTES;
+use meaning::VALUES;
 use scalar::integer::Int;
 use scalar::key::Verdict;
 use scalar::string::Decoded;
 use values::Reply;
 use values::State;
+use values::value::Allowed;
 ghost use mathlib.Core.Path.{_≡_};
 ghost use Rattle.meaning.specs.Integers as ints;
 ghost use Rattle.host.specs.Values.{numberOf, slotOf, faultOf, sizedOf, Spelled, Split, Ends, Readout};
@@ -219,7 +223,7 @@ fn sized(text: &[u8], store: &[u8], tree: &[u8]) -> u32
     ensures { λ r. ⌜ r ≡ sizedOf (now (text .entry)) (now (store .entry)) (now (tree .entry)) ⌝ }
 {
     if toml_lite::rooms_suffice(store, tree) {
-        if 32768 < text.len() {
+        if TEXT_BYTES < text.len() {
             return 1;
         }
         return 0;
@@ -240,7 +244,11 @@ pub extern "C" fn value_read(text: &[u8], store: &mut [u8], tree: &mut [u8]) -> 
         return unread(n);
     }
     let st = State { used: 0, made: 0 };
-    let r = values::value::value(text, store, tree, st, 0, 2048, 16);
+    let allowed = Allowed {
+        values: VALUES,
+        arrays: ARRAYS,
+    };
+    let r = values::value::value(text, store, tree, st, 0, allowed);
     match r {
         Reply::Fine(end) => ValueRead {
             number: 0,

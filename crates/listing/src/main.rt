@@ -6,7 +6,8 @@ use meaning::TEXT_BYTES;
 use preset::listing::Listed;
 
 // The name that a preset without one is given.
-const NAME: &[u8; 5] = b"board";
+const NAME: [u8; 5] = *b"board";
+
 // One byte more than a text may have, so that a longer one is told from it.
 const INPUT_BYTES: usize = TEXT_BYTES + 1;
 
@@ -52,7 +53,7 @@ fn main() {
     let mut store = [0u8; TEXT_BYTES];
     let mut tree = [0u8; TREE_BYTES];
     let mut out = [0u8; OUTPUT_BYTES];
-    let r = preset::listing::listing(&input[..n], NAME, &mut store, &mut tree, &mut out);
+    let r = preset::listing::listing(&input[..n], &NAME, &mut store, &mut tree, &mut out);
     if r.number == 0 {
         print(&out, r.written);
     } else {

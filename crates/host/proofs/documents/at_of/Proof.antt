@@ -1,9 +1,9 @@
 use Rattle.host.proofs.Presenting.{at-told}
 use borrow.Author.Needs.{needs}
-use Rattle.host.proofs.documents.told.Statement.{statement}
-use Rattle.host.proofs.documents.told.Tie as tie
-use Rattle.host.proofs.documents.told.Reads as reads
-use Rattle.host.proofs.documents.told.Lts as lts
+use Rattle.host.proofs.documents.at_of.Statement.{statement}
+use Rattle.host.proofs.documents.at_of.Tie as tie
+use Rattle.host.proofs.documents.at_of.Reads as reads
+use Rattle.host.proofs.documents.at_of.Lts as lts
 
 enum-known-f : tie.Need-enum-known-f
 enum-known-f c = search needs
@@ -17,5 +17,5 @@ returns c = search (needs, at-told)
 returns-2 : tie.Need-returns-2
 returns-2 c = search (needs, at-told)
 
-pub told-spec : {M : Type 1} → statement M
-told-spec = tie.close (tie.spec enum-known-f enum-told returns returns-2)
+pub at-of-spec : {M : Type 1} → statement M
+at-of-spec = tie.close (tie.spec enum-known-f enum-told returns returns-2)

@@ -4,7 +4,7 @@ use Rattle.host.proofs.documents.tree_child.Statement.{statement}
 use Rattle.host.proofs.documents.tree_child.Tie as tie
 use Rattle.host.proofs.documents.tree_child.Reads as reads
 use Rattle.host.proofs.documents.tree_child.Lts as lts
-use Rattle.host.proofs.documents.told.Reads as told-reads
+use Rattle.host.proofs.documents.at_of.Reads as at-of-reads
 use Rattle.tree.proofs.capacity.Reads as capacity-reads
 use Rattle.tree.proofs.items_from.Reads as items-from-reads
 use Rattle.tree.proofs.next_item.Reads as next-item-reads
@@ -12,8 +12,8 @@ use Rattle.tree.proofs.next_item.Reads as next-item-reads
 capacity-requires : tie.Need-capacity-requires
 capacity-requires c κs = search needs
 
-told-requires : tie.Need-told-requires
-told-requires c κs = search needs
+at-of-requires : tie.Need-at-of-requires
+at-of-requires c κs = search needs
 
 returns : tie.Need-returns
 returns c = search (needs, none-there)
@@ -27,14 +27,14 @@ next-item-requires c κs = search (needs, walk-fits)
 enum-known-step : tie.Need-enum-known-step
 enum-known-step c = search needs
 
-told-requires-2 : tie.Need-told-requires-2
-told-requires-2 c κs = search needs
+at-of-requires-2 : tie.Need-at-of-requires-2
+at-of-requires-2 c κs = search needs
 
 enum-told : tie.Need-enum-told
 enum-told c = search needs
 
-told-requires-3 : tie.Need-told-requires-3
-told-requires-3 c κs = search needs
+at-of-requires-3 : tie.Need-at-of-requires-3
+at-of-requires-3 c κs = search needs
 
 returns-2 : tie.Need-returns-2
 returns-2 c = search (needs, item-there)
@@ -47,13 +47,13 @@ tree-child-spec =
     tie.close
     (tie.spec
     capacity-requires
-    told-requires
+    at-of-requires
     returns
     items-from-requires
     next-item-requires
     enum-known-step
-    told-requires-2
+    at-of-requires-2
     enum-told
-    told-requires-3
+    at-of-requires-3
     returns-2
     returns-3)

@@ -4,15 +4,15 @@ use Rattle.host.proofs.documents.tree_find.Statement.{statement}
 use Rattle.host.proofs.documents.tree_find.Tie as tie
 use Rattle.host.proofs.documents.tree_find.Reads as reads
 use Rattle.host.proofs.documents.tree_find.Lts as lts
-use Rattle.host.proofs.documents.told.Reads as told-reads
+use Rattle.host.proofs.documents.at_of.Reads as at-of-reads
 use Rattle.tree.proofs.capacity.Reads as capacity-reads
 use Rattle.tree.proofs.find_child.Reads as find-child-reads
 
 capacity-requires : tie.Need-capacity-requires
 capacity-requires c κs = search needs
 
-told-requires : tie.Need-told-requires
-told-requires c κs = search needs
+at-of-requires : tie.Need-at-of-requires
+at-of-requires c κs = search needs
 
 returns : tie.Need-returns
 returns c = search (needs, none-there)
@@ -20,8 +20,8 @@ returns c = search (needs, none-there)
 find-child-requires : tie.Need-find-child-requires
 find-child-requires c κs = search needs
 
-told-requires-2 : tie.Need-told-requires-2
-told-requires-2 c κs = search needs
+at-of-requires-2 : tie.Need-at-of-requires-2
+at-of-requires-2 c κs = search needs
 
 returns-2 : tie.Need-returns-2
 returns-2 c = search (needs, found-there)
@@ -29,4 +29,4 @@ returns-2 c = search (needs, found-there)
 pub tree-find-spec : {M : Type 1} → statement M
 tree-find-spec =
     tie.close
-    (tie.spec capacity-requires told-requires returns find-child-requires told-requires-2 returns-2)
+    (tie.spec capacity-requires at-of-requires returns find-child-requires at-of-requires-2 returns-2)

@@ -4,8 +4,8 @@ use Rattle.host.proofs.documents.tree_next.Statement.{statement}
 use Rattle.host.proofs.documents.tree_next.Tie as tie
 use Rattle.host.proofs.documents.tree_next.Reads as reads
 use Rattle.host.proofs.documents.tree_next.Lts as lts
-use Rattle.host.proofs.documents.behind.Reads as behind-reads
-use Rattle.host.proofs.documents.told.Reads as told-reads
+use Rattle.host.proofs.documents.last_visited.Reads as last-visited-reads
+use Rattle.host.proofs.documents.at_of.Reads as at-of-reads
 use Rattle.tree.proofs.capacity.Reads as capacity-reads
 use Rattle.tree.proofs.keys_after.Reads as keys-after-reads
 use Rattle.tree.proofs.next_key.Reads as next-key-reads
@@ -13,14 +13,14 @@ use Rattle.tree.proofs.next_key.Reads as next-key-reads
 capacity-requires : tie.Need-capacity-requires
 capacity-requires c κs = search needs
 
-told-requires : tie.Need-told-requires
-told-requires c κs = search needs
+at-of-requires : tie.Need-at-of-requires
+at-of-requires c κs = search needs
 
 returns : tie.Need-returns
 returns c = search (needs, none-there)
 
-behind-requires : tie.Need-behind-requires
-behind-requires c κs = search needs
+last-visited-requires : tie.Need-last-visited-requires
+last-visited-requires c κs = search needs
 
 keys-after-requires : tie.Need-keys-after-requires
 keys-after-requires c κs = search needs
@@ -31,14 +31,14 @@ next-key-requires c κs = search needs
 enum-known-step : tie.Need-enum-known-step
 enum-known-step c = search needs
 
-told-requires-2 : tie.Need-told-requires-2
-told-requires-2 c κs = search needs
+at-of-requires-2 : tie.Need-at-of-requires-2
+at-of-requires-2 c κs = search needs
 
 enum-told : tie.Need-enum-told
 enum-told c = search needs
 
-told-requires-3 : tie.Need-told-requires-3
-told-requires-3 c κs = search needs
+at-of-requires-3 : tie.Need-at-of-requires-3
+at-of-requires-3 c κs = search needs
 
 returns-2 : tie.Need-returns-2
 returns-2 c = search (needs, key-there)
@@ -51,14 +51,14 @@ tree-next-spec =
     tie.close
     (tie.spec
     capacity-requires
-    told-requires
+    at-of-requires
     returns
-    behind-requires
+    last-visited-requires
     keys-after-requires
     next-key-requires
     enum-known-step
-    told-requires-2
+    at-of-requires-2
     enum-told
-    told-requires-3
+    at-of-requires-3
     returns-2
     returns-3)

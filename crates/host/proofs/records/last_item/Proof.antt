@@ -1,9 +1,9 @@
 use Rattle.laws.specs.Tests.{tests}
 use Rattle.host.specs.Records.{behindItem}
-use Rattle.host.proofs.records.behind_item.Statement.{statement}
-use Rattle.host.proofs.records.behind_item.Tie as tie
-use Rattle.host.proofs.records.behind_item.Reads as reads
-use Rattle.host.proofs.records.behind_item.Lts as lts
+use Rattle.host.proofs.records.last_item.Statement.{statement}
+use Rattle.host.proofs.records.last_item.Tie as tie
+use Rattle.host.proofs.records.last_item.Reads as reads
+use Rattle.host.proofs.records.last_item.Lts as lts
 
 returns : tie.Need-returns
 unfolding behindItem
@@ -13,5 +13,5 @@ returns-2 : tie.Need-returns-2
 unfolding behindItem
 returns-2 c = search tests
 
-pub behind-item-spec : {M : Type 1} → statement M
-behind-item-spec = tie.close (tie.spec returns returns-2)
+pub last-item-spec : {M : Type 1} → statement M
+last-item-spec = tie.close (tie.spec returns returns-2)

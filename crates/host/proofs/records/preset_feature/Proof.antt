@@ -7,7 +7,7 @@ use Rattle.host.proofs.records.preset_feature.Tie as tie
 use Rattle.host.proofs.records.preset_feature.Reads as reads
 use Rattle.host.proofs.records.preset_feature.Lts as lts
 use Rattle.features.proofs.next_feature.Reads as next-feature-reads
-use Rattle.host.proofs.records.behind_item.Reads as behind-item-reads
+use Rattle.host.proofs.records.last_item.Reads as last-item-reads
 use Rattle.host.proofs.records.feature_of.Reads as feature-of-reads
 use Rattle.host.proofs.records.features_by.Reads as features-by-reads
 use Rattle.parse.proofs.view.holds_values.Reads as holds-values-reads
@@ -18,8 +18,8 @@ holds-values-requires c κs = search needs
 features-by-requires : tie.Need-features-by-requires
 features-by-requires c κs = search needs
 
-behind-item-requires : tie.Need-behind-item-requires
-behind-item-requires c κs = search needs
+last-item-requires : tie.Need-last-item-requires
+last-item-requires c κs = search needs
 
 next-feature-requires : tie.Need-next-feature-requires
 next-feature-requires c κs = search (needs, sound-rooms)
@@ -42,7 +42,7 @@ preset-feature-spec =
     (tie.spec
     holds-values-requires
     features-by-requires
-    behind-item-requires
+    last-item-requires
     next-feature-requires
     feature-of-requires
     returns
