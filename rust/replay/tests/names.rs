@@ -203,3 +203,70 @@ fn functions_in_documents_exist() {
         missing.join("\n")
     );
 }
+
+/// The names of the parameters of each function of a crate that is called so.
+fn parameters(owner: &str, name: &str) -> Vec<Vec<String>> {
+    let text = sources(owner);
+    let head = format!("fn {name}");
+    let mut out = Vec::new();
+    for (i, _) in text.match_indices(&head) {
+        let rest = &text[i + head.len()..];
+        let Some(open) = rest.find('(') else { continue };
+        if !rest[..open].is_empty() && !rest.starts_with('<') {
+            continue;
+        }
+        let close = open + rest[open..].find(')').expect("the end of the parameters");
+        let all = rest[open + 1..close].split(',').map(str::trim);
+        let named = all
+            .filter(|p| !p.is_empty())
+            .map(|p| p.split(':').next().unwrap_or(p));
+        out.push(
+            named
+                .map(|p| p.trim_start_matches("mut ").to_owned())
+                .collect(),
+        );
+    }
+    out
+}
+
+/// `module::name(a, b)`: the name and the parameters; nothing where some are left out.
+fn signature(word: &str) -> Option<(&str, Vec<String>)> {
+    let (path, rest) = word.split_once('(')?;
+    let inside = rest.strip_suffix(')')?;
+    let plain = |s: &str| {
+        s.chars()
+            .all(|c| c.is_ascii_alphanumeric() || c == '_' || c == ':')
+    };
+    if !plain(path) || inside.contains("..") {
+        return None;
+    }
+    let names = inside
+        .split(',')
+        .map(|p| p.trim().to_owned())
+        .filter(|p| !p.is_empty());
+    Some((path.rsplit("::").next()?, names.collect()))
+}
+
+#[test]
+fn promises_are_of_functions_as_they_are() {
+    let text = fs::read_to_string(root().join("docs/PROMISES.md")).expect("the promises");
+    let mut asked = 0;
+    let mut wrong = Vec::new();
+    for section in text.split("\n## ").skip(1) {
+        let owner = section
+            .split(|c: char| !c.is_ascii_lowercase() && c != '_')
+            .next();
+        let owner = owner.expect("a crate's name");
+        for word in quoted(section) {
+            let Some((name, names)) = signature(&word) else {
+                continue;
+            };
+            asked += 1;
+            if !parameters(owner, name).contains(&names) {
+                wrong.push(format!("{owner}: {word}"));
+            }
+        }
+    }
+    assert!(asked > 60, "only {asked} functions were found");
+    assert!(wrong.is_empty(), "no such functions:\n{}", wrong.join("\n"));
+}
