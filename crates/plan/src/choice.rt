@@ -109,7 +109,7 @@ fn check_name(tree: &[u8], store: &[u8], made: usize, place: usize, n: usize) ->
     let name = a.name;
     let own = schema::stored(store, name.start(), name.length());
     if taken(tree, store, made, own) {
-        return parse::refusal_at(5, 81, place);
+        return parse::refusal_at(parse::IN_APPLICATION, 81, place);
     }
     parse::refusal_at(0, 0, 0)
 }
@@ -122,7 +122,7 @@ pub fn check_selection(tree: &[u8], store: &[u8], made: usize, app: u32, key: &[
     let c = choose(tree, store, made, app, key);
     match c {
         Choice::BootChain => parse::refusal_at(0, 0, 0),
-        Choice::Undeclared => parse::refusal_at(5, 80, 0),
+        Choice::Undeclared => parse::refusal_at(parse::IN_APPLICATION, 80, 0),
         Choice::At { place, value } => check_name(tree, store, made, place, value),
     }
 }

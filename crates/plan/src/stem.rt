@@ -125,7 +125,7 @@ fn boot_stem(tree: &[u8], store: &[u8], made: usize, name: &[u8]) -> Text
     if t.is_given() {
         return t;
     }
-    let root = tree::fields_at(tree, made, 1);
+    let root = tree::fields_at(tree, made, tree::ROOT);
     let f = parse::front::read_front(tree, store, made, root, parse::lent_name(name));
     let board = f.board;
     board.name

@@ -174,20 +174,20 @@ pub fn check_front(store: &[u8], name: &[u8], b: Board, i: Image) -> Refusal
     let chip = b.chip;
     let device = device_fault(store, name, chip, i);
     if device != 0 {
-        return parse::refusal_at(2, device, 0);
+        return parse::refusal_at(parse::IN_IMAGE, device, 0);
     }
     let profile = b.profile;
     if size(store, name, profile) == 0 {
-        return parse::refusal_at(1, 32, 0);
+        return parse::refusal_at(parse::IN_BOARD, 32, 0);
     }
     let app = i.app;
     if 32 < size(store, name, app) {
-        return parse::refusal_at(2, 33, 0);
+        return parse::refusal_at(parse::IN_IMAGE, 33, 0);
     }
     let target = b.target;
     let width = target_fault(store, name, chip, target);
     if width != 0 {
-        return parse::refusal_at(1, width, 0);
+        return parse::refusal_at(parse::IN_BOARD, width, 0);
     }
     parse::refusal_at(0, 0, 0)
 }

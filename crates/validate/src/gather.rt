@@ -2,6 +2,7 @@
 
 use crate::uses::MOST_PAIRS;
 use crate::uses::Pair;
+use features::TOO_MANY;
 use parse::Refusal;
 use parse::entry::List;
 use parse::entry::Partitions;
@@ -98,7 +99,7 @@ pub fn each_component(
             Item::At { value, rest } => {
                 let e = crate::component::entry(tree, store, made, value, items, count);
                 if e.fault != 0 {
-                    fault = parse::refusal_at(4, e.fault, i);
+                    fault = parse::refusal_at(parse::IN_COMPONENT, e.fault, i);
                     break;
                 }
                 let mark = e.mark;
@@ -149,14 +150,14 @@ pub fn each_application(
             Key::End => break,
             Key::At { value, rest } => {
                 if MOST_ENTRIES <= i {
-                    fault = parse::refusal_at(5, 25, MOST_ENTRIES);
+                    fault = parse::refusal_at(parse::IN_APPLICATION, TOO_MANY, MOST_ENTRIES);
                     break;
                 }
                 let e = crate::application::entry(tree, store, made, value, items, count);
                 let mark = e.mark;
                 let pair = e.pair;
                 let at = components + i;
-                fault = earlier_in(fault, 5, e.fault, i);
+                fault = earlier_in(fault, parse::IN_APPLICATION, e.fault, i);
                 marks[i] = mark;
                 pairs[at] = pair;
                 i += 1;

@@ -9,6 +9,7 @@ pub mod uses;
 use crate::gather::Applied;
 use crate::gather::Gathered;
 use crate::uses::Pair;
+use features::TOO_MANY;
 use parse::Refusal;
 use parse::entry::Partitions;
 use schema::Chip;
@@ -48,9 +49,9 @@ fn check_components(own: Fault, count: usize) -> Refusal
     ensures { λ r. ⌜ r ≡ faults.countedFault own count ⌝ }
 {
     if count == 0 {
-        return parse::refusal_at(4, 50, 0);
+        return parse::refusal_at(parse::IN_COMPONENT, 50, 0);
     }
-    in_entry(4, own)
+    in_entry(parse::IN_COMPONENT, own)
 }
 
 // 60: in the components, then in the applications after them.
@@ -60,10 +61,10 @@ fn check_uses(at: usize, components: usize, applications: usize) -> Refusal
 {
     let all = components + applications;
     if at < components {
-        return parse::refusal_at(4, 60, at);
+        return parse::refusal_at(parse::IN_COMPONENT, 60, at);
     }
     if at < all {
-        return parse::refusal_at(5, 60, at - components);
+        return parse::refusal_at(parse::IN_APPLICATION, 60, at - components);
     }
     parse::refusal_at(0, 0, 0)
 }
@@ -75,7 +76,7 @@ fn check_first(first: bool) -> Refusal
     if first {
         return parse::refusal_at(0, 0, 0);
     }
-    parse::refusal_at(4, 70, 0)
+    parse::refusal_at(parse::IN_COMPONENT, 70, 0)
 }
 
 // 60 to 70: the packages of all entries, the applications' own rules, the first partition.
@@ -88,7 +89,7 @@ fn check_rest(components: usize, first: bool, a: Applied) -> Refusal
     if b.number != 0 {
         return b;
     }
-    let d = in_entry(5, own);
+    let d = in_entry(parse::IN_APPLICATION, own);
     if d.number != 0 {
         return d;
     }
@@ -112,7 +113,7 @@ fn judge_applications(
     let first = c.first;
     let a = gather::each_application(tree, store, made, l, p, c);
     let fault = a.fault;
-    let b = parse::earlier(parse::in_section(5, l.fault), fault);
+    let b = parse::earlier(parse::in_section(parse::IN_APPLICATION, l.fault), fault);
     if b.number != 0 {
         return b;
     }
@@ -127,7 +128,7 @@ fn check_length(section: u32, n: usize) -> Refusal
     ensures { λ r. ⌜ r ≡ faults.lengthFault section n ⌝ }
 {
     if MOST_ENTRIES < n {
-        return parse::refusal_at(section, 25, MOST_ENTRIES);
+        return parse::refusal_at(section, TOO_MANY, MOST_ENTRIES);
     }
     parse::refusal_at(0, 0, 0)
 }
@@ -145,7 +146,10 @@ fn judge_components(
 {
     let l = parse::view::component_list(tree, store, made);
     let n = tree::count_items(tree, l.end, l.place);
-    let a = parse::earlier(parse::in_section(4, l.fault), check_length(4, n));
+    let a = parse::earlier(
+        parse::in_section(parse::IN_COMPONENT, l.fault),
+        check_length(parse::IN_COMPONENT, n),
+    );
     if a.number != 0 {
         return a;
     }
@@ -168,14 +172,17 @@ fn judge_partitions(tree: &[u8], store: &[u8], made: usize, chip: Chip, rules: R
     let l = parse::view::partition_list(tree, store, made);
     let p = parse::entry::read_partitions(tree, store, made, l, MOST_PARTITIONS);
     let fault = p.fault;
-    let b = parse::earlier(parse::in_section(3, l.fault), fault);
+    let b = parse::earlier(parse::in_section(parse::IN_PARTITION, l.fault), fault);
     if b.number != 0 {
         return b;
     }
     let items = p.items;
     let own = parse::earlier(
         rules,
-        in_entry(3, layout::check_layout(store, items, p.count, chip)),
+        in_entry(
+            parse::IN_PARTITION,
+            layout::check_layout(store, items, p.count, chip),
+        ),
     );
     judge_components(tree, store, made, p, own)
 }
@@ -186,7 +193,7 @@ pub fn judge_rules(tree: &[u8], store: &[u8], made: usize, name: &[u8]) -> Refus
     requires { ⌜ Rooms (now tree) made ⌝ }
     ensures { λ r. ⌜ Told (validating (now (name .entry)) (now (tree .entry)) (now (store .entry)) made) r ⌝ }
 {
-    let root = tree::fields_at(tree, made, 1);
+    let root = tree::fields_at(tree, made, tree::ROOT);
     let f = parse::front::read_front(tree, store, made, root, parse::lent_name(name));
     let fault = f.fault;
     if fault.number != 0 {
