@@ -1,6 +1,7 @@
 // The layer of strings, integers, keys and values, for hosts that compare it with the original.
 
 use meaning::ARRAYS;
+use meaning::SEGMENTS;
 use meaning::TEXT_BYTES;
 use meaning::VALUES;
 use scalar::integer::Int;
@@ -163,7 +164,7 @@ pub extern "C" fn value_key(s: &[u8], store: &mut [u8]) -> Segments
     if store.len() < s.len() {
         return unsplit(17);
     }
-    let k = scalar::key::put_key(s, store, 0, 16);
+    let k = scalar::key::put_key(s, store, 0, SEGMENTS);
     let v = k.verdict;
     let n = number_of(v);
     if n == 0 {
@@ -186,12 +187,12 @@ pub extern "C" fn value_key_end(s: &[u8], store: &mut [u8], i: usize) -> usize
     if store.len() < s.len() {
         return 0;
     }
-    let k = scalar::key::put_key(s, store, 0, 16);
+    let k = scalar::key::put_key(s, store, 0, SEGMENTS);
     let v = k.verdict;
     let n = number_of(v);
     slices::zero(store);
     if n == 0 {
-        if i < 16 {
+        if i < SEGMENTS {
             let ends = k.ends;
             return ends[i];
         }
