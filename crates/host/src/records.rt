@@ -696,7 +696,7 @@ fn features_by(kind: u32, from: usize, len: usize) -> Features
 }
 
 fn last_item(begun: u32, last: usize, size: usize) -> Feature
-    ensures { λ r. ⌜ r ≡ records.behindItem begun last size ⌝ }
+    ensures { λ r. ⌜ r ≡ records.lastItem begun last size ⌝ }
 {
     if begun == 0 {
         return Feature::Nothing;
