@@ -7,11 +7,12 @@ use borrow.Author.Tests.{lt-ltb, le-ltb, ne-eqb}
 use lib.Dec.{eqb, ltb}
 use lib.ListN.{length}
 use Rattle.meaning.specs.Base.{pick, less}
-use Rattle.laws.specs.Cases.{on, never}
+use Rattle.laws.specs.Cases.{on}
+use Rattle.laws.specs.Variants.{Left, others}
 use Rattle.meaning.specs.Features.{words}
 use Rattle.schema.specs.Texts.{clip}
 use Rattle.tree.specs.Doors.{items}
-use Rattle.tree.proofs.Others.{Left, others}
+use Rattle.tree.proofs.Value.{enum}
 use Rattle.tree.specs.declared.Value.{Value}
 use Rattle.tree.specs.declared.Value.the-variants as values
 use Rattle.schema.specs.declared.Features.the-variants.{Absent, Words, Items}
@@ -27,12 +28,12 @@ pub piece-is : (v w : Value) (p : Piece) → v ≡ w → p ≡ pieceOf w → p �
 piece-is v w p e h = rw e h
 
 -- all but a text
-module _ (v : Value) (o : Left (0 ∷ 2 ∷ 3 ∷ 4 ∷ 5 ∷ []) v) where
+module _ (v : Value) (o : Left enum (0 ∷ 2 ∷ 3 ∷ 4 ∷ 5 ∷ []) v) where
   pub piece-not : record { from = 0; len = 0 } ≡ pieceOf v
-  piece-not = others pieceOf _ (0 ∷ 2 ∷ 3 ∷ 4 ∷ 5 ∷ []) (λ _. refl) (λ e. never e refl) (λ _ _ _. refl) (λ _ _. refl) (λ _ _. refl) (λ _ _. refl) v o
+  piece-not = others enum (λ w. record { from = 0; len = 0 } ≡ pieceOf w) (0 ∷ 2 ∷ 3 ∷ 4 ∷ 5 ∷ []) (λ _. refl) (λ _. refl) (λ _. refl) (λ _. refl) (λ _. refl) v o
 
   pub text-not : false ≡ isText v
-  text-not = others isText _ (0 ∷ 2 ∷ 3 ∷ 4 ∷ 5 ∷ []) (λ _. refl) (λ e. never e refl) (λ _ _ _. refl) (λ _ _. refl) (λ _ _. refl) (λ _ _. refl) v o
+  text-not = others enum (λ w. false ≡ isText w) (0 ∷ 2 ∷ 3 ∷ 4 ∷ 5 ∷ []) (λ _. refl) (λ _. refl) (λ _. refl) (λ _. refl) (λ _. refl) v o
 
 -- ---- the limit
 module _ (store : List ℕ) (limit from len n : ℕ) (s : List ℕ) (e : n ≡ length (words s)) (f : s ≡ clip from len store) where
@@ -73,12 +74,11 @@ module _ (tree store : List ℕ) (made limit : ℕ) (v : Value) (r : FeaturesRea
   read-absent e h = rw e h
 
   -- all but a text, an array and none
-  pub read-not : Left (2 ∷ 3 ∷ 5 ∷ []) v → r ≡ record { fault = 20; features = Absent } → r ≡ featuresRead tree store made limit v
+  pub read-not : Left enum (2 ∷ 3 ∷ 5 ∷ []) v → r ≡ record { fault = 20; features = Absent } → r ≡ featuresRead tree store made limit v
   unfolding featuresRead
   read-not o h =
       h
-      ∙ others (featuresRead tree store made limit) _ (2 ∷ 3 ∷ 5 ∷ [])
-      (λ e. never e refl) (λ e. never e refl) (λ _ _ _. refl) (λ _ _. refl) (λ e. never e refl) (λ _ _. refl) v o
+      ∙ others enum (λ w. record { fault = 20; features = Absent } ≡ featuresRead tree store made limit w) (2 ∷ 3 ∷ 5 ∷ []) (λ _. refl) (λ _. refl) (λ _. refl) v o
 
 -- ---- pieces
 pub before-is : (store a b : List ℕ) (p q : Piece) (r : Bool) → a ≡ bytesOf store p → b ≡ bytesOf store q → r ≡ less a b → r ≡ less (bytesOf store p) (bytesOf store q)

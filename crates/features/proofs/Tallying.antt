@@ -7,10 +7,12 @@ use lib.ListN.{length, drop, length-drop}
 use Rattle.meaning.specs.Base.{same, less}
 use Rattle.meaning.specs.Features.{gap, placed, ordered}
 use Rattle.laws.specs.Cases.{on}
+use Rattle.laws.specs.Variants.{Left, others}
 use Rattle.tree.specs.Room.{under}
 use Rattle.tree.specs.declared.Fields.{Fields}
 use Rattle.tree.specs.Doors.{Rooms, fieldsOf, items, itemsIn}
 use Rattle.tree.specs.Spans.{spread-fields, items-fields}
+use Rattle.schema.proofs.Features.{enum}
 use Rattle.schema.specs.declared.Features.{Features}
 use Rattle.schema.specs.declared.Features.the-variants as lists
 use Rattle.schema.specs.Texts.{clip}
@@ -121,6 +123,10 @@ tally-last room store made f from a n end k e h l =
 pub span-items : (room : List ℕ) (made : ℕ) (f : Features) (place : ℕ) (s : Fields) → f ≡ lists.Items place → s ≡ fieldsOf room made place
     → s ≡ span room made f
 span-items room made f place s e h = rw e h
+
+-- all but the items of an array
+pub span-not : (room : List ℕ) (made : ℕ) (f : Features) → Left enum (0 ∷ 1 ∷ []) f → record { place = 0; from = 0; to = made } ≡ span room made f
+span-not room made = others enum (λ f. record { place = 0; from = 0; to = made } ≡ span room made f) (0 ∷ 1 ∷ []) (λ _. refl) (λ _. refl)
 
 spread : (room store : List ℕ) (made : ℕ) (f : Features) → Rooms room made
     → Rooms room (span room made f .to) × (span room made f .from ≤ bound room store (span room made f .to) f)

@@ -380,17 +380,12 @@ fn span(tree: &[u8], made: usize, f: Features) -> Fields
     ensures { λ r. ⌜ r ≡ piece.span (now (tree .entry)) made f ⌝ }
 {
     match f {
-        Features::Absent => Fields {
-            place: 0,
-            from: 0,
-            to: made,
-        },
-        Features::Words { from: _, len: _ } => Fields {
-            place: 0,
-            from: 0,
-            to: made,
-        },
         Features::Items(place) => tree::fields_at(tree, made, place),
+        _ => Fields {
+            place: 0,
+            from: 0,
+            to: made,
+        },
     }
 }
 

@@ -1,5 +1,5 @@
 -- The exports of the text layer: one law for each way out.
-use Prim.Native.Nat.{ℕ, zero, suc, _+_, _^_, _≤_, _<_}
+use Prim.Native.Nat.{ℕ, _+_, _^_, _≤_, _<_}
 use mathlib.Core.Bool.{Bool, true, false}
 use mathlib.Core.List.{List, [], _∷_, _++_}
 use mathlib.Core.Path.{_≡_, refl, sym, ap, _∙_}
@@ -16,6 +16,7 @@ use Rattle.meaning.specs.Refusal.{Answer, accepted, refused, atLine, atNoLine}
 use Rattle.meaning.specs.Utf8.{valid}
 use Rattle.meaning.specs.Lines as meant
 use Rattle.laws.specs.Cases.{on}
+use Rattle.slices.proofs.Zeroing.{length-zeros}
 use Rattle.text.specs.declared.Next.{Next}
 use Rattle.text.specs.declared.Next.the-variants as nexts
 use Rattle.text.specs.declared.Place.{Place}
@@ -46,10 +47,6 @@ module _ (s : List ℕ) (at n : ℕ) (r : Next) (f : Follows s at n r) where
   line-told a e l p = told (nexts.Line a e l p)
 
 -- ---- text_lines: z is the room once it is zero
-pub length-zeros : (n : ℕ) → length (zeros n) ≡ n
-length-zeros zero = refl
-length-zeros (suc n) = ap suc (length-zeros n)
-
 module _ (s room z : List ℕ) (ez : z ≡ zeros (length room)) where
   long : length z ≡ length room
   long = ap length ez ∙ length-zeros (length room)

@@ -12,17 +12,17 @@ use lib.Seq.{getD-append-add}
 use Rattle.meaning.specs.Base.{pick, zeros}
 use Rattle.meaning.specs.Refusal.{R, ok, bad}
 use Rattle.meaning.specs.Keys.{keys}
-use Rattle.scalar.specs.declared.key.Verdict.{Verdict}
-use Rattle.scalar.specs.declared.key.Verdict.the-variants.{Fine, Malformed, Escape, Unended, TooMany}
 use Rattle.scalar.specs.declared.key.Key.{Key}
 use Rattle.laws.specs.Stored.{stored}
 use Rattle.scalar.specs.Splits.{flat, endsOf, takes, Splits, Asked}
 use Rattle.laws.specs.Cases.{on}
 use Rattle.scalar.proofs.Splitting.{ends-size}
-use Rattle.scalar.proofs.Keying.{Accepted, accepted, refused-7, refused-8, refused-9, refused-15}
+use Rattle.scalar.proofs.Keying.{Accepted, accepted}
+use Rattle.toml_lite.specs.Rooms.{verdictNumber}
+use Rattle.toml_lite.proofs.Keying.{verdict-fine, verdict-bad}
 use Rattle.host.specs.declared.single_values.Segments.{Segments}
-use Rattle.host.specs.Values.{faultOf, segmentsOf, splitBy, endBy, Split, Ends}
-use Rattle.host.proofs.Exports.{length-zeros}
+use Rattle.host.specs.Values.{segmentsOf, splitRoom, endOf, Split, Ends}
+use Rattle.slices.proofs.Zeroing.{length-zeros}
 
 zeros-at : (n i : ℕ) → getD (zeros n) i 0 ≡ 0
 zeros-at zero i = refl
@@ -56,65 +56,50 @@ module _ (s room z : List ℕ) (ez : z ≡ zeros (length room)) where
     pub asks : Asked 16 s z 0
     asks = record { top = omega arith; room = omega (arith, h) }
 
-    module _ (store : List ℕ) (k : Key) (t : Splits 16 s z 0 store k) where
-      fine-keys : faultOf (k .verdict) ≡ 0 → Accepted 16 s z 0 store (takes 16 s .segs) k
-      fine-keys e = accepted 16 s z 0 store k t (go (k .verdict) e)
-        where
-          go : (v : Verdict) → faultOf v ≡ 0 → v ≡ Fine
-          go Fine e = refl
-          go Malformed e = absurd (omega arith)
-          go Escape e = absurd (omega arith)
-          go Unended e = absurd (omega arith)
-          go TooMany e = absurd (omega arith)
+    module _ (store : List ℕ) (k : Key) (t : Splits 16 s z 0 store k) (n : ℕ) (en : n ≡ verdictNumber (k .verdict)) where
+      fine-keys : n ≡ 0 → Accepted 16 s z 0 store (takes 16 s .segs) k
+      fine-keys e = accepted 16 s z 0 store k t (verdict-fine (k .verdict) n en e)
 
-      bad-keys : (faultOf (k .verdict) ≡ 0 → ⊥) → keys 16 s ≡ bad (faultOf (k .verdict))
-      bad-keys e = go (k .verdict) refl
-        where
-          go : (v : Verdict) → k .verdict ≡ v → keys 16 s ≡ bad (faultOf (k .verdict))
-          go Fine q = absurd (e (ap faultOf q))
-          go Malformed q = refused-7 16 s z 0 store k t q ∙ rw q
-          go Escape q = refused-8 16 s z 0 store k t q ∙ rw q
-          go Unended q = refused-9 16 s z 0 store k t q ∙ rw q
-          go TooMany q = refused-15 16 s z 0 store k t q ∙ rw q
+      bad-keys : (n ≡ 0 → ⊥) → keys 16 s ≡ bad n
+      bad-keys e = sym (t .says) ∙ verdict-bad (k .verdict) n (takes 16 s .segs) en e
 
-      module _ (n : ℕ) (en : n ≡ faultOf (k .verdict)) where
-        pub key-out : n ≡ 0 → Split s room store (record { number = 0; count = k .n; used = k .used })
-        unfolding stored
-        key-out e =
-            let a : Accepted 16 s z 0 store (takes 16 s .segs) k = fine-keys (sym en ∙ e) in
-            record {
-              says = rw (wide, a .is, a .count, a .reach, zero-add (length (flat (takes 16 s .segs))));
-              left = rw (wide, a .is) (a .left ∙ rw (ez, zero-add (length (flat (takes 16 s .segs)))));
-            }
+      pub key-out : n ≡ 0 → Split s room store (record { number = 0; count = k .n; used = k .used })
+      unfolding stored
+      key-out e =
+          let a : Accepted 16 s z 0 store (takes 16 s .segs) k = fine-keys e in
+          record {
+            says = rw (wide, a .is, a .count, a .reach, zero-add (length (flat (takes 16 s .segs))));
+            left = rw (wide, a .is) (a .left ∙ rw (ez, zero-add (length (flat (takes 16 s .segs)))));
+          }
 
-        module _ (y : List ℕ) (ey : y ≡ zeros (length store)) (le : length store ≡ length z) where
-          empty : y ≡ zeros (length room)
-          empty = ey ∙ ap zeros (le ∙ long)
+      module _ (y : List ℕ) (ey : y ≡ zeros (length store)) (le : length store ≡ length z) where
+        empty : y ≡ zeros (length room)
+        empty = ey ∙ ap zeros (le ∙ long)
 
-          pub key-refused : (r : Segments) → (n ≡ 0 → ⊥) → r ≡ record { number = n; count = 0; used = 0 } → Split s room y r
-          key-refused r e f =
-              let b : keys 16 s ≡ bad n = bad-keys (λ q. e (en ∙ q)) ∙ ap bad (sym en) in
-              record { says = f ∙ rw (wide, b); left = rw (wide, b) empty }
+        pub key-refused : (r : Segments) → (n ≡ 0 → ⊥) → r ≡ record { number = n; count = 0; used = 0 } → Split s room y r
+        key-refused r e f =
+            let b : keys 16 s ≡ bad n = bad-keys e in
+            record { says = f ∙ rw (wide, b); left = rw (wide, b) empty }
 
-          ends-is : (i : ℕ) → i < 16 → getD (k .ends) i 0 ≡ getD (endsOf 0 (takes 16 s .segs)) i 0
-          ends-is i h =
-              ap (λ (l : List ℕ). getD l i 0) (t .places)
-              ∙ on (ltb i (length (endsOf 0 (takes 16 s .segs))))
-              (λ p. List·getD-append (endsOf 0 (takes 16 s .segs)) (zeros (16 - length (takes 16 s .segs))) 0 i (ltb-true i (length (endsOf 0 (takes 16 s .segs))) p))
-              (λ p. past (endsOf 0 (takes 16 s .segs)) (16 - length (takes 16 s .segs)) i (ltb-false i (length (endsOf 0 (takes 16 s .segs))) p))
+        ends-is : (i : ℕ) → i < 16 → getD (k .ends) i 0 ≡ getD (endsOf 0 (takes 16 s .segs)) i 0
+        ends-is i h =
+            ap (λ (l : List ℕ). getD l i 0) (t .places)
+            ∙ on (ltb i (length (endsOf 0 (takes 16 s .segs))))
+            (λ p. List·getD-append (endsOf 0 (takes 16 s .segs)) (zeros (16 - length (takes 16 s .segs))) 0 i (ltb-true i (length (endsOf 0 (takes 16 s .segs))) p))
+            (λ p. past (endsOf 0 (takes 16 s .segs)) (16 - length (takes 16 s .segs)) i (ltb-false i (length (endsOf 0 (takes 16 s .segs))) p))
 
-          pub end-past : (i : ℕ) → n ≡ 0 → 16 ≤ i → Ends s room y i 0
-          end-past i e l =
-              let a : Accepted 16 s z 0 store (takes 16 s .segs) k = fine-keys (sym en ∙ e) in
-              let m : length (endsOf 0 (takes 16 s .segs)) ≤ i = rw (ends-size 0 (takes 16 s .segs)) (omega (arith, t .few, a .count)) in
-              record { says = rw (wide, a .is) (sym (List·getD-eq-default (endsOf 0 (takes 16 s .segs)) 0 m)); left = empty }
+        pub end-past : (i : ℕ) → n ≡ 0 → 16 ≤ i → Ends s room y i 0
+        end-past i e l =
+            let a : Accepted 16 s z 0 store (takes 16 s .segs) k = fine-keys e in
+            let m : length (endsOf 0 (takes 16 s .segs)) ≤ i = rw (ends-size 0 (takes 16 s .segs)) (omega (arith, t .few, a .count)) in
+            record { says = rw (wide, a .is) (sym (List·getD-eq-default (endsOf 0 (takes 16 s .segs)) 0 m)); left = empty }
 
-          pub end-out : (i : ℕ) → n ≡ 0 → i < 16 → Ends s room y i (getD (k .ends) i 0)
-          end-out i e l =
-              let a : Accepted 16 s z 0 store (takes 16 s .segs) k = fine-keys (sym en ∙ e) in
-              record { says = rw (wide, a .is) (ends-is i l); left = empty }
+        pub end-out : (i : ℕ) → n ≡ 0 → i < 16 → Ends s room y i (getD (k .ends) i 0)
+        end-out i e l =
+            let a : Accepted 16 s z 0 store (takes 16 s .segs) k = fine-keys e in
+            record { says = rw (wide, a .is) (ends-is i l); left = empty }
 
-          pub end-refused : (i : ℕ) → (n ≡ 0 → ⊥) → Ends s room y i 0
-          end-refused i e =
-              let b : keys 16 s ≡ bad n = bad-keys (λ q. e (en ∙ q)) ∙ ap bad (sym en) in
-              record { says = rw (wide, b); left = empty }
+        pub end-refused : (i : ℕ) → (n ≡ 0 → ⊥) → Ends s room y i 0
+        end-refused i e =
+            let b : keys 16 s ≡ bad n = bad-keys e in
+            record { says = rw (wide, b); left = empty }

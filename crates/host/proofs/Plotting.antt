@@ -35,26 +35,26 @@ use Rattle.host.specs.declared.records.BootView.{BootView}
 use Rattle.host.specs.declared.records.LoadView.{LoadView}
 use Rattle.host.specs.declared.plans.SourceView.{SourceView}
 use Rattle.host.specs.declared.plans.BuildView.{BuildView}
-use Rattle.host.specs.Records.{none, bare, bytesOf, listOf, partitionOf, headOf, roleOf, bootOf, loadOf}
+use Rattle.host.specs.Records.{noBytes, noList, bytesOf, listOf, partitionOf, headOf, roleOf, bootOf, loadOf}
 use Rattle.host.specs.Plans.{specOf, noSource, sourceOf, payload, pbp, buildOf, targetOf, targetShown, component, buildShown, countsShown, stemShown}
 
 -- ---- a source
 
-pub source-none : (p b i : Bytes) (f : FeatureList) → p ≡ none → b ≡ none → f ≡ bare → i ≡ none
+pub source-none : (p b i : Bytes) (f : FeatureList) → p ≡ noBytes → b ≡ noBytes → f ≡ noList → i ≡ noBytes
     → record { kind = 0; «package» = p; bin = b; features = f; file = i } ≡ noSource
 source-none p b i f ep eb ef ei = rw (ep, eb, ef, ei)
 
 pub source-package : (s : Source) (t : Build) (p b i : Bytes) (f : FeatureList) → s ≡ sources.Package t → p ≡ bytesOf (t .«package») → b ≡ bytesOf (t .bin) → f ≡ listOf (t .features)
-    → i ≡ none → record { kind = 1; «package» = p; bin = b; features = f; file = i } ≡ sourceOf s
+    → i ≡ noBytes → record { kind = 1; «package» = p; bin = b; features = f; file = i } ≡ sourceOf s
 source-package s t p b i f e ep eb ef ei = rw (ep, eb, ef, ei, e)
 
-pub source-file : (s : Source) (t : Text) (p b i : Bytes) (f : FeatureList) → s ≡ sources.File t → p ≡ none → b ≡ none → f ≡ bare → i ≡ bytesOf t
+pub source-file : (s : Source) (t : Text) (p b i : Bytes) (f : FeatureList) → s ≡ sources.File t → p ≡ noBytes → b ≡ noBytes → f ≡ noList → i ≡ bytesOf t
     → record { kind = 2; «package» = p; bin = b; features = f; file = i } ≡ sourceOf s
 source-file s t p b i f e ep eb ef ei = rw (ep, eb, ef, ei, e)
 
 -- ---- a build
 
-pub build-none : (g : BuildFound) (p b : Bytes) (f : FeatureList) → g ≡ builds.Nothing → p ≡ none → b ≡ none → f ≡ bare
+pub build-none : (g : BuildFound) (p b : Bytes) (f : FeatureList) → g ≡ builds.Nothing → p ≡ noBytes → b ≡ noBytes → f ≡ noList
     → record { found = 0; «package» = p; bin = b; features = f } ≡ buildOf g
 build-none g p b f e ep eb ef = rw (ep, eb, ef, e)
 

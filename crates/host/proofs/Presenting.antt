@@ -40,8 +40,8 @@ use Rattle.toml_lite.specs.declared.Read.the-variants.{Fine, Fault}
 use Rattle.toml_lite.specs.Rooms.{readOf, Small, Cleared, suffice, judged, treeOf}
 use Rattle.host.specs.declared.documents.Outcome.{Outcome}
 use Rattle.host.specs.declared.documents.At.{At}
-use Rattle.host.specs.Documents.{outcomeOf, storeOf, Presented, atOf, within, stepping, behindOf, walking}
-use Rattle.host.proofs.Exports.{length-zeros}
+use Rattle.host.specs.Documents.{outcomeOf, storeOf, Presented, atOf, within, childShown, lastVisited, nextShown}
+use Rattle.slices.proofs.Zeroing.{length-zeros}
 
 -- both levels judge the rooms alike
 pub judged-agrees : (s : List ℕ) (n m : ℕ) → Doc-agrees [] (inRooms of01 32 n m s) (judged s n m)
@@ -126,32 +126,32 @@ module _ (tree : List ℕ) (made takes : ℕ) (e : takes ≡ length tree / 32) w
     walk-fits h = record { fits = omega (arith, e, ap (λ (u : Items). u .end) d) }
 
     module _ (h : made ≤ takes) (step : Item) (k : Gives tree w step) (r : At) where
-      pub item-there : (n : ℕ) (rest : Items) → step ≡ given.At n rest → r ≡ atOf (founds.At n) → r ≡ stepping tree made parent from
+      pub item-there : (n : ℕ) (rest : Items) → step ≡ given.At n rest → r ≡ atOf (founds.At n) → r ≡ childShown tree made parent from
       item-there n rest g q =
           let c : items tree made parent from ≡ n ∷ toCome tree rest = rw d at (item-given tree w step k n rest g .come) in
           rw (← e, le-ltb takes made h) (q ∙ ap atOf (sym (item-child tree made parent from n (toCome tree rest) c)))
 
-      pub item-none : step ≡ given.End → r ≡ atOf Nothing → r ≡ stepping tree made parent from
+      pub item-none : step ≡ given.End → r ≡ atOf Nothing → r ≡ childShown tree made parent from
       item-none g q =
           let c : items tree made parent from ≡ [] = rw d at (item-ended tree w step k g) in
           rw (← e, le-ltb takes made h) (q ∙ ap atOf (sym (items-child tree made parent from ∙ ap firstOf c)))
 
-  module _ (store : List ℕ) (parent begun after : ℕ) (b : Found) (d : b ≡ behindOf begun after) (w : Keys) (s : Begins tree parent made b w)
+  module _ (store : List ℕ) (parent begun after : ℕ) (b : Found) (d : b ≡ lastVisited begun after) (w : Keys) (s : Begins tree parent made b w)
       (h : made ≤ takes) (step : Key) (k : KeyGives tree store w step) (r : At) where
-    pub key-there : (n : ℕ) (rest : Keys) → step ≡ keyed.At n rest → r ≡ atOf (founds.At n) → r ≡ walking tree store made parent begun after
+    pub key-there : (n : ℕ) (rest : Keys) → step ≡ keyed.At n rest → r ≡ atOf (founds.At n) → r ≡ nextShown tree store made parent begun after
     key-there n rest g q =
-        let c : next (slotAt tree) store made parent (behindOf begun after) ≡ founds.At n
+        let c : next (slotAt tree) store made parent (lastVisited begun after) ≡ founds.At n
         = rw (s .after, d) at (key-given tree store parent made w (s .over) step k n rest g .next) in
         rw (← e, le-ltb takes made h) (q ∙ ap atOf (sym c))
 
-    pub key-none : step ≡ keyed.End → r ≡ atOf Nothing → r ≡ walking tree store made parent begun after
+    pub key-none : step ≡ keyed.End → r ≡ atOf Nothing → r ≡ nextShown tree store made parent begun after
     key-none g q =
-        let c : next (slotAt tree) store made parent (behindOf begun after) ≡ Nothing
+        let c : next (slotAt tree) store made parent (lastVisited begun after) ≡ Nothing
         = rw (s .after, d) at (key-ended tree store parent made w (s .over) step k g) in
         rw (← e, le-ltb takes made h) (q ∙ ap atOf (sym c))
 
-pub behind-start : (begun after : ℕ) → begun ≡ 0 → Nothing ≡ behindOf begun after
-behind-start begun after e = rw (eq-eqb begun 0 e)
+pub last-none : (begun after : ℕ) → begun ≡ 0 → Nothing ≡ lastVisited begun after
+last-none begun after e = rw (eq-eqb begun 0 e)
 
-pub behind-value : (begun after : ℕ) → (begun ≡ 0 → ⊥) → founds.At after ≡ behindOf begun after
-behind-value begun after e = rw (ne-eqb begun 0 e)
+pub last-value : (begun after : ℕ) → (begun ≡ 0 → ⊥) → founds.At after ≡ lastVisited begun after
+last-value begun after e = rw (ne-eqb begun 0 e)

@@ -18,8 +18,8 @@ use Rattle.values.specs.Out.{Out, moved, replyOf, cells, Ready, Filled}
 use Rattle.toml_lite.specs.Rooms.{suffice}
 use Rattle.toml_lite.proofs.Reading.{suffices}
 use Rattle.host.specs.declared.single_values.ValueRead.{ValueRead}
-use Rattle.host.specs.Values.{sizedOf, outOf, told, Readout}
-use Rattle.host.proofs.Exports.{length-zeros}
+use Rattle.host.specs.Values.{sizeFault, outOf, valueFault, Readout}
+use Rattle.slices.proofs.Zeroing.{length-zeros}
 
 -- what the sizes say where they are 01's
 record Sizes (s store tree : List ℕ) : Type 0 where
@@ -27,8 +27,8 @@ record Sizes (s store tree : List ℕ) : Type 0 where
   slots : 65536 ≤ length tree
   text : length s ≤ 32768
 
-sizes : (s store tree : List ℕ) → sizedOf s store tree ≡ 0 → Sizes s store tree
-unfolding sizedOf
+sizes : (s store tree : List ℕ) → sizeFault s store tree ≡ 0 → Sizes s store tree
+unfolding sizeFault
 sizes s store tree e =
     on (suffice (length store) (length tree))
     (λ p. on (ltb 32768 (length s)) (λ r. absurd (omega (arith, rw (p, r) at e)))
@@ -36,39 +36,39 @@ sizes s store tree e =
     (λ p. absurd (omega (arith, rw p at e)))
 
 module _ (s store tree : List ℕ) (b : Bool) (e : b ≡ suffice (length store) (length tree)) where
-  pub sized-large : b ≡ true → 32768 < length s → 1 ≡ sizedOf s store tree
-  unfolding sizedOf
-  sized-large t h = rw (← e, t, lt-ltb 32768 (length s) h)
+  pub fault-long : b ≡ true → 32768 < length s → 1 ≡ sizeFault s store tree
+  unfolding sizeFault
+  fault-long t h = rw (← e, t, lt-ltb 32768 (length s) h)
 
-  pub sized-well : b ≡ true → length s ≤ 32768 → 0 ≡ sizedOf s store tree
-  unfolding sizedOf
-  sized-well t h = rw (← e, t, le-ltb 32768 (length s) h)
+  pub fault-none : b ≡ true → length s ≤ 32768 → 0 ≡ sizeFault s store tree
+  unfolding sizeFault
+  fault-none t h = rw (← e, t, le-ltb 32768 (length s) h)
 
-  pub sized-small : b ≡ false → 17 ≡ sizedOf s store tree
-  unfolding sizedOf
-  sized-small f = rw (← e, f)
+  pub fault-rooms : b ≡ false → 17 ≡ sizeFault s store tree
+  unfolding sizeFault
+  fault-rooms f = rw (← e, f)
 
-pub ready : (s z t : List ℕ) (n : ℕ) → n ≡ sizedOf s z t → n ≡ 0 → Ready 2048 s z t (record { used = 0; made = 0 })
+pub ready : (s z t : List ℕ) (n : ℕ) → n ≡ sizeFault s z t → n ≡ 0 → Ready 2048 s z t (record { used = 0; made = 0 })
 ready s z t n e h =
     let k : Sizes s z t = sizes s z t (sym e ∙ h) in
     record { room = omega (arith, k .bytes, k .text); low = omega (arith, k .text); slots = omega (arith, k .slots); few = omega arith; made = omega arith }
 
-module _ (s store tree z t : List ℕ) (ez : z ≡ zeros (length store)) (et : t ≡ zeros (length tree)) (n : ℕ) (en : n ≡ sizedOf s z t) where
-  same-sizes : n ≡ sizedOf s store tree
-  unfolding sizedOf
+module _ (s store tree z t : List ℕ) (ez : z ≡ zeros (length store)) (et : t ≡ zeros (length tree)) (n : ℕ) (en : n ≡ sizeFault s z t) where
+  same-sizes : n ≡ sizeFault s store tree
+  unfolding sizeFault
   same-sizes =
       let a : length z ≡ length store = ap length ez ∙ length-zeros (length store) in
       let b : length t ≡ length tree = ap length et ∙ length-zeros (length tree) in
       en ∙ rw (a, b)
 
-  pub unsized : (r : ValueRead) → (n ≡ 0 → ⊥) → r ≡ record { number = n; used = 0; made = 0 } → Readout s store tree z t r
-  unsized r h e =
-      let k : told s store tree ≡ n = rw (← same-sizes, ne-eqb n 0 h) in
+  pub size-refused : (r : ValueRead) → (n ≡ 0 → ⊥) → r ≡ record { number = n; used = 0; made = 0 } → Readout s store tree z t r
+  size-refused r h e =
+      let k : valueFault s store tree ≡ n = rw (← same-sizes, ne-eqb n 0 h) in
       record { says = e ∙ rw (k, ne-eqb n 0 h); store-is = rw (k, ne-eqb n 0 h) ez; tree-is = rw (k, ne-eqb n 0 h) et }
 
   module _ (h : n ≡ 0) where
-    told-is : told s store tree ≡ outOf s .fault
-    told-is = rw (← same-sizes, eq-eqb n 0 h)
+    fault-is : valueFault s store tree ≡ outOf s .fault
+    fault-is = rw (← same-sizes, eq-eqb n 0 h)
 
     module _ (z' t' : List ℕ) (r : Reply) (f : Filled 2048 s z t z' t' (record { used = 0; made = 0 }) (outOf s) r) where
       pub read-out : (e : State) → r ≡ Fine e → Readout s store tree z' t' (record { number = 0; used = e .used; made = e .made })
@@ -78,9 +78,9 @@ module _ (s store tree z t : List ℕ) (ez : z ≡ zeros (length store)) (et : t
           let g : Fine e ≡ Fine (moved (record { used = 0; made = 0 }) (outOf s)) = sym q ∙ rw p at (f .says) in
           let m : e ≡ moved (record { used = 0; made = 0 }) (outOf s) = cc in
           record {
-            says = rw (told-is, p, m, zero-add (length (outOf s .bytes)), zero-add (length (outOf s .slots)));
-            store-is = rw (told-is, p) (rw ez at (f .store-is));
-            tree-is = rw (told-is, p) (rw et at (f .tree-is));
+            says = rw (fault-is, p, m, zero-add (length (outOf s .bytes)), zero-add (length (outOf s .slots)));
+            store-is = rw (fault-is, p) (rw ez at (f .store-is));
+            tree-is = rw (fault-is, p) (rw et at (f .tree-is));
           })
           (λ p.
           let g : Fine e ≡ Fault (outOf s .fault) (moved (record { used = 0; made = 0 }) (outOf s)) = sym q ∙ rw p at (f .says) in
@@ -100,4 +100,4 @@ module _ (s store tree z t : List ℕ) (ez : z ≡ zeros (length store)) (et : t
             (λ p.
             let g : Fault m e ≡ Fault (outOf s .fault) (moved (record { used = 0; made = 0 }) (outOf s)) = sym q ∙ rw p at (f .says) in
             let i : m ≡ outOf s .fault = cc in
-            record { says = w ∙ rw (told-is, p, i); store-is = rw (told-is, p) a; tree-is = rw (told-is, p) b })
+            record { says = w ∙ rw (fault-is, p, i); store-is = rw (fault-is, p) a; tree-is = rw (fault-is, p) b })

@@ -54,7 +54,7 @@ use Rattle.host.specs.declared.documents.Outcome.{Outcome}
 use Rattle.host.specs.Documents.{Shown}
 use Rattle.host.specs.Presets.{outcomeBy, storeBy, treeBy, Recorded, Records, Answered, recorded, validated, exported}
 use Rattle.host.specs.Plans.{planned}
-use Rattle.host.proofs.Exports.{length-zeros}
+use Rattle.slices.proofs.Zeroing.{length-zeros}
 use Rattle.host.proofs.Presenting.{judged-agrees}
 
 -- ---- an accepted text is short

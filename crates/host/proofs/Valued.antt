@@ -22,8 +22,8 @@ use Rattle.scalar.specs.Stores.{over}
 use Rattle.tree.specs.declared.Slot.{Slot}
 use Rattle.tree.specs.Room.{slotAt, Holds}
 use Rattle.host.specs.declared.single_values.Spelling.{Spelling}
-use Rattle.host.specs.Values.{numberOf, spellingBy, spellBy, Spelled, valueOf, slotOf}
-use Rattle.host.proofs.Exports.{length-zeros}
+use Rattle.host.specs.Values.{numberOf, spellingBy, spelledRoom, Spelled, valueOf, slotOf}
+use Rattle.slices.proofs.Zeroing.{length-zeros}
 
 module _ (s : List ℕ) (r : Int) (e : intOf r ≡ signed s) where
   pub int-told : (x : Signed) → r ≡ ints.Value x → numberOf (intOf (ints.Value x)) ≡ numberOf (signed s)
@@ -48,7 +48,7 @@ module _ (s room z : List ℕ) (ez : z ≡ zeros (length room)) where
 
     -- by how the string ends
     spelt : (v : Ending) (r : Spelling) (y : List ℕ) → decode Plain s .how ≡ v
-        → r ≡ spellingBy v (decode Plain s .bytes) (decode Plain s .span) → y ≡ spellBy v (decode Plain s .bytes) (zeros (length room)) → Spelled s room y r
+        → r ≡ spellingBy v (decode Plain s .bytes) (decode Plain s .span) → y ≡ spelledRoom v (decode Plain s .bytes) (zeros (length room)) → Spelled s room y r
     spelt v r y e f g = record { says = f ∙ rw (wide, e); left = g ∙ rw (wide, e) }
 
     pub string-out : (u w : ℕ) → d ≡ Done u w → Spelled s room out (record { number = 0; used = u; written = w; at = 0 })

@@ -41,8 +41,8 @@ use Rattle.host.specs.declared.records.BootView.{BootView}
 use Rattle.host.specs.declared.records.LoadView.{LoadView}
 use Rattle.host.specs.declared.records.ApplicationView.{ApplicationView}
 use Rattle.host.specs.declared.records.FeatureView.{FeatureView}
-use Rattle.host.proofs.Exports.{length-zeros}
-use Rattle.host.specs.Records.{wordNumber, bytesOf, amountOf, listOf, chipNumber, mediaNumber, kindNumber, flagNumber, none, unset, bare, noBoard, noImage, noApplication, partitionOf, headOf, roleOf, bootOf, loadOf, applicationOf, front, partitionShown, applicationShown, boardView, imageView, countsOf, featuresBy, behindItem, featureOf, featureShown, wordBy, wordSize, wordRoom, Worded}
+use Rattle.slices.proofs.Zeroing.{length-zeros}
+use Rattle.host.specs.Records.{wordNumber, bytesOf, amountOf, listOf, chipNumber, mediaNumber, kindNumber, flagNumber, noBytes, noAmount, noList, noBoard, noImage, noApplication, partitionOf, headOf, roleOf, bootOf, loadOf, applicationOf, front, partitionShown, applicationShown, boardView, imageView, countsOf, featuresBy, lastItem, featureOf, featureShown, wordBy, wordSize, wordRoom, Worded}
 
 -- ---- fields as numbers
 pub word-told : (w v : Word) → w ≡ v → wordNumber v ≡ wordNumber w
@@ -61,34 +61,34 @@ pub list-told : (f g : Features) → f ≡ g → listOf g ≡ listOf f
 list-told f g e = ap listOf (sym e)
 
 -- ---- a record that is not there
-module _ (a b c : Bytes) (ea : a ≡ none) (eb : b ≡ none) (ec : c ≡ none) where
+module _ (a b c : Bytes) (ea : a ≡ noBytes) (eb : b ≡ noBytes) (ec : c ≡ noBytes) where
   pub board-none : record { found = 0; chip = 0; name = a; target = b; profile = c } ≡ noBoard
   board-none = rw (ea, eb, ec)
 
-  module _ (d e : Bytes) (ed : d ≡ none) (ee : e ≡ none) where
+  module _ (d e : Bytes) (ed : d ≡ noBytes) (ee : e ≡ noBytes) where
     pub image-none : record { found = 0; media = 0; «media_dev_id» = 0; platform = a; product = b; version = c; «media_id» = d; app = e } ≡ noImage
     image-none = rw (ea, eb, ec, ed, ee)
 
-    pub application-none : (f : FeatureList) (l o : Amount) → f ≡ bare → l ≡ unset → o ≡ unset
+    pub application-none : (f : FeatureList) (l o : Amount) → f ≡ noList → l ≡ noAmount → o ≡ noAmount
         → record { found = 0; «package» = a; name = b; partition = c; filename = d; attr = e; features = f; «load_address» = l; «entry_offset» = o } ≡ noApplication
     application-none f l o ef el eo = rw (ea, eb, ec, ed, ee, ef, el, eo)
 
 -- ---- a component's four parts
 module _ (f : ComponentFound) where
   module _ (e : f ≡ components.Nothing) where
-    pub head-none : (n p b g i : Bytes) → n ≡ none → p ≡ none → b ≡ none → g ≡ none → i ≡ none
+    pub head-none : (n p b g i : Bytes) → n ≡ noBytes → p ≡ noBytes → b ≡ noBytes → g ≡ noBytes → i ≡ noBytes
         → record { found = 0; kind = 0; name = n; «package» = p; bin = b; file = g; filename = i } ≡ headOf f
     head-none n p b g i en ep eb eg ei = rw (en, ep, eb, eg, ei, e)
 
-    pub role-none : (s t : FeatureList) (p a b n : Bytes) → s ≡ bare → t ≡ bare → p ≡ none → a ≡ none → b ≡ none → n ≡ none
+    pub role-none : (s t : FeatureList) (p a b n : Bytes) → s ≡ noList → t ≡ noList → p ≡ noBytes → a ≡ noBytes → b ≡ noBytes → n ≡ noBytes
         → record { found = 0; features = s; «pbp_features» = t; partition = p; attr = a; «target_attr» = b; «target_filename» = n } ≡ roleOf f
     role-none s t p a b n es et ep ea eb en = rw (es, et, ep, ea, eb, en, e)
 
-    pub boot-none : (m : Amount) (p q s : Bytes) → m ≡ unset → p ≡ none → q ≡ none → s ≡ none
+    pub boot-none : (m : Amount) (p q s : Bytes) → m ≡ noAmount → p ≡ noBytes → q ≡ noBytes → s ≡ noBytes
         → record { found = 0; updater = 0; ram = m; pbp = p; «pbp_package» = q; private = s } ≡ bootOf f
     boot-none m p q s em ep eq es = rw (em, ep, eq, es, e)
 
-    pub load-none : (a b o v : Amount) → a ≡ unset → b ≡ unset → o ≡ unset → v ≡ unset
+    pub load-none : (a b o v : Amount) → a ≡ noAmount → b ≡ noAmount → o ≡ noAmount → v ≡ noAmount
         → record { found = 0; «with_ext» = 0; «ext_reserve» = 0; «load_address» = a; «entry_point» = b; «entry_offset» = o; «header_version» = v } ≡ loadOf f
     load-none a b o v ea eb eo ev = rw (ea, eb, eo, ev, e)
 
@@ -182,10 +182,10 @@ pub item-told : (f g : Feature) → f ≡ g → featureOf g ≡ featureOf f
 item-told f g e = ap featureOf (sym e)
 
 pub feature-shown : (room store : List ℕ) (made kind from len begun last size : ℕ) (s : Bool) (f : Features) (b g : Feature) (r : FeatureView)
-    → s ≡ holdsValues room made → s ≡ true → f ≡ featuresBy kind from len → b ≡ behindItem begun last size → g ≡ nextOf store b items.Nothing (pieces room store made f)
+    → s ≡ holdsValues room made → s ≡ true → f ≡ featuresBy kind from len → b ≡ lastItem begun last size → g ≡ nextOf store b items.Nothing (pieces room store made f)
     → r ≡ featureOf g → r ≡ featureShown room store made kind from len begun last size
 feature-shown room store made kind from len begun last size s f b g r es p ef eb eg h =
-    let k : g ≡ nextOf store (behindItem begun last size) items.Nothing (pieces room store made (featuresBy kind from len)) = rw (← ef, ← eb) eg in
+    let k : g ≡ nextOf store (lastItem begun last size) items.Nothing (pieces room store made (featuresBy kind from len)) = rw (← ef, ← eb) eg in
     rw (← es, p) (h ∙ ap featureOf k)
 
 -- ---- words

@@ -59,15 +59,15 @@ atOf Nothing = record { found = 0; number = 0 }
 abbrev pub within : List ℕ → ℕ → Found → At
 within tree made f = atOf (pick (ltb (length tree / 32) made) Nothing f)
 
-abbrev pub finding : List ℕ → List ℕ → ℕ → ℕ → List ℕ → At
-finding tree store made parent key = within tree made (look tree store made parent key)
+abbrev pub keyShown : List ℕ → List ℕ → ℕ → ℕ → List ℕ → At
+keyShown tree store made parent key = within tree made (look tree store made parent key)
 
-abbrev pub stepping : List ℕ → ℕ → ℕ → ℕ → At
-stepping tree made parent from = within tree made (child tree made parent from)
+abbrev pub childShown : List ℕ → ℕ → ℕ → ℕ → At
+childShown tree made parent from = within tree made (child tree made parent from)
 
-abbrev pub behindOf : ℕ → ℕ → Found
-behindOf begun after = pick (eqb begun 0) Nothing (founds.At after)
+abbrev pub lastVisited : ℕ → ℕ → Found
+lastVisited begun after = pick (eqb begun 0) Nothing (founds.At after)
 
 -- children in byte order of key
-abbrev pub walking : List ℕ → List ℕ → ℕ → ℕ → ℕ → ℕ → At
-walking tree store made parent begun after = within tree made (next (slotAt tree) store made parent (behindOf begun after))
+abbrev pub nextShown : List ℕ → List ℕ → ℕ → ℕ → ℕ → ℕ → At
+nextShown tree store made parent begun after = within tree made (next (slotAt tree) store made parent (lastVisited begun after))

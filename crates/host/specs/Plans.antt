@@ -30,7 +30,7 @@ use Rattle.host.specs.declared.records.PartitionView.{PartitionView}
 use Rattle.host.specs.declared.plans.SourceView.{SourceView}
 use Rattle.host.specs.declared.plans.BuildView.{BuildView}
 use Rattle.host.specs.declared.plans.PlanCounts.{PlanCounts}
-use Rattle.host.specs.Records.{none, bare, bytesOf, listOf, partitionOf}
+use Rattle.host.specs.Records.{noBytes, noList, bytesOf, listOf, partitionOf}
 use Rattle.host.specs.Presets.{validated}
 
 -- 01's answer to a text, a lent name, a selection and rooms of these lengths: its records, where a plan can be made of them
@@ -44,12 +44,12 @@ specOf founds.Nothing = components.Nothing
 specOf (founds.At p) = components.At (p .spec)
 
 abbrev pub noSource : SourceView
-noSource = record { kind = 0; «package» = none; bin = none; features = bare; file = none }
+noSource = record { kind = 0; «package» = noBytes; bin = noBytes; features = noList; file = noBytes }
 
 abbrev pub sourceOf : Source → SourceView
 sourceOf sources.Nothing = noSource
-sourceOf (sources.Package b) = record { kind = 1; «package» = bytesOf (b .«package»); bin = bytesOf (b .bin); features = listOf (b .features); file = none }
-sourceOf (sources.File t) = record { kind = 2; «package» = none; bin = none; features = bare; file = bytesOf t }
+sourceOf (sources.Package b) = record { kind = 1; «package» = bytesOf (b .«package»); bin = bytesOf (b .bin); features = listOf (b .features); file = noBytes }
+sourceOf (sources.File t) = record { kind = 2; «package» = noBytes; bin = noBytes; features = noList; file = bytesOf t }
 
 abbrev pub payload : PlannedFound → SourceView
 payload founds.Nothing = noSource
@@ -60,7 +60,7 @@ pbp founds.Nothing = noSource
 pbp (founds.At p) = sourceOf (p .«pbp_source»)
 
 abbrev pub buildOf : BuildFound → BuildView
-buildOf builds.Nothing = record { found = 0; «package» = none; bin = none; features = bare }
+buildOf builds.Nothing = record { found = 0; «package» = noBytes; bin = noBytes; features = noList }
 buildOf (builds.At b) = record { found = 1; «package» = bytesOf (b .«package»); bin = bytesOf (b .bin); features = listOf (b .features) }
 
 -- ---- of any rooms

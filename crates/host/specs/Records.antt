@@ -108,25 +108,25 @@ flagNumber true = 1
 flagNumber false = 0
 
 -- no text, no number, no list
-abbrev pub none : Bytes
-none = bytesOf texts.Absent
+abbrev pub noBytes : Bytes
+noBytes = bytesOf texts.Absent
 
-abbrev pub unset : Amount
-unset = amountOf numbers.Absent
+abbrev pub noAmount : Amount
+noAmount = amountOf numbers.Absent
 
-abbrev pub bare : FeatureList
-bare = listOf lists.Absent
+abbrev pub noList : FeatureList
+noList = listOf lists.Absent
 
 -- ---- records
 
 abbrev pub noBoard : BoardView
-noBoard = record { found = 0; chip = 0; name = none; target = none; profile = none }
+noBoard = record { found = 0; chip = 0; name = noBytes; target = noBytes; profile = noBytes }
 
 abbrev pub boardOf : Board → BoardView
 boardOf b = record { found = 1; chip = chipNumber (b .chip); name = bytesOf (b .name); target = bytesOf (b .target); profile = bytesOf (b .profile) }
 
 abbrev pub noImage : ImageView
-noImage = record { found = 0; media = 0; «media_dev_id» = 0; platform = none; product = none; version = none; «media_id» = none; app = none }
+noImage = record { found = 0; media = 0; «media_dev_id» = 0; platform = noBytes; product = noBytes; version = noBytes; «media_id» = noBytes; app = noBytes }
 
 abbrev pub imageOf : Image → ImageView
 imageOf i =
@@ -149,7 +149,7 @@ partitionOf partitions.Nothing = noPartition
 partitionOf (partitions.At p) = record { found = 1; offset = p .offset; size = p .size; from = p .from; len = p .len }
 
 abbrev pub headOf : ComponentFound → HeadView
-headOf components.Nothing = record { found = 0; kind = 0; name = none; «package» = none; bin = none; file = none; filename = none }
+headOf components.Nothing = record { found = 0; kind = 0; name = noBytes; «package» = noBytes; bin = noBytes; file = noBytes; filename = noBytes }
 headOf (components.At c) =
     record {
       found = 1;
@@ -162,7 +162,7 @@ headOf (components.At c) =
     }
 
 abbrev pub roleOf : ComponentFound → RoleView
-roleOf components.Nothing = record { found = 0; features = bare; «pbp_features» = bare; partition = none; attr = none; «target_attr» = none; «target_filename» = none }
+roleOf components.Nothing = record { found = 0; features = noList; «pbp_features» = noList; partition = noBytes; attr = noBytes; «target_attr» = noBytes; «target_filename» = noBytes }
 roleOf (components.At c) =
     record {
       found = 1;
@@ -175,7 +175,7 @@ roleOf (components.At c) =
     }
 
 abbrev pub bootOf : ComponentFound → BootView
-bootOf components.Nothing = record { found = 0; updater = 0; ram = unset; pbp = none; «pbp_package» = none; private = none }
+bootOf components.Nothing = record { found = 0; updater = 0; ram = noAmount; pbp = noBytes; «pbp_package» = noBytes; private = noBytes }
 bootOf (components.At c) =
     record {
       found = 1;
@@ -187,7 +187,7 @@ bootOf (components.At c) =
     }
 
 abbrev pub loadOf : ComponentFound → LoadView
-loadOf components.Nothing = record { found = 0; «with_ext» = 0; «ext_reserve» = 0; «load_address» = unset; «entry_point» = unset; «entry_offset» = unset; «header_version» = unset }
+loadOf components.Nothing = record { found = 0; «with_ext» = 0; «ext_reserve» = 0; «load_address» = noAmount; «entry_point» = noAmount; «entry_offset» = noAmount; «header_version» = noAmount }
 loadOf (components.At c) =
     record {
       found = 1;
@@ -201,7 +201,7 @@ loadOf (components.At c) =
 
 abbrev pub noApplication : ApplicationView
 noApplication =
-    record { found = 0; «package» = none; name = none; partition = none; filename = none; attr = none; features = bare; «load_address» = unset; «entry_offset» = unset }
+    record { found = 0; «package» = noBytes; name = noBytes; partition = noBytes; filename = noBytes; attr = noBytes; features = noList; «load_address» = noAmount; «entry_offset» = noAmount }
 
 abbrev pub applicationOf : ApplicationFound → ApplicationView
 applicationOf applications.Nothing = noApplication
@@ -254,8 +254,8 @@ countsOf c = record { partitions = c .partitions; components = c .components; ap
 unfoldable pub featuresBy : ℕ → ℕ → ℕ → Features
 featuresBy kind from len = pick (eqb kind 1) (lists.Words from len) (pick (eqb kind 2) (pick (ltb from 65536) (lists.Items from) lists.Absent) lists.Absent)
 
-unfoldable pub behindItem : ℕ → ℕ → ℕ → Feature
-behindItem begun last size = pick (eqb begun 0) items.Nothing (items.At (record { from = last; len = size }))
+unfoldable pub lastItem : ℕ → ℕ → ℕ → Feature
+lastItem begun last size = pick (eqb begun 0) items.Nothing (items.At (record { from = last; len = size }))
 
 abbrev pub featureOf : Feature → FeatureView
 featureOf items.Nothing = record { found = 0; from = 0; len = 0 }
@@ -263,7 +263,7 @@ featureOf (items.At p) = record { found = 1; from = p .from; len = p .len }
 
 abbrev pub featureShown : List ℕ → List ℕ → ℕ → ℕ → ℕ → ℕ → ℕ → ℕ → ℕ → FeatureView
 featureShown room store made kind from len begun last size =
-    pick (holdsValues room made) (featureOf (nextOf store (behindItem begun last size) items.Nothing (pieces room store made (featuresBy kind from len)))) (featureOf items.Nothing)
+    pick (holdsValues room made) (featureOf (nextOf store (lastItem begun last size) items.Nothing (pieces room store made (featuresBy kind from len)))) (featureOf items.Nothing)
 
 -- ---- words
 

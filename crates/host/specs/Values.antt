@@ -11,8 +11,6 @@ use Rattle.meaning.specs.declared.Signed.{Signed}
 use Rattle.meaning.specs.declared.StringByte.the-variants.{Plain}
 use Rattle.meaning.specs.Strings.{Ending, closed, escape, unended, Said, decode}
 use Rattle.meaning.specs.Keys.{keys}
-use Rattle.scalar.specs.declared.key.Verdict.{Verdict}
-use Rattle.scalar.specs.declared.key.Verdict.the-variants.{Fine, Malformed, Escape, Unended, TooMany}
 use Rattle.scalar.specs.Splits.{flat, endsOf}
 use Rattle.tree.specs.declared.Slot.{Slot}
 use Rattle.tree.specs.Room.{slotAt}
@@ -38,15 +36,15 @@ spellingBy escape bs k = record { number = 8; used = 0; written = 0; at = k }
 spellingBy unended bs k = record { number = 9; used = 0; written = 0; at = 0 }
 
 -- what stands in a room of zeros then: an ended string, or nothing
-abbrev pub spellBy : Ending → List ℕ → List ℕ → List ℕ
-spellBy closed bs room = bs ++ drop (length bs) room
-spellBy escape bs room = room
-spellBy unended bs room = room
+abbrev pub spelledRoom : Ending → List ℕ → List ℕ → List ℕ
+spelledRoom closed bs room = bs ++ drop (length bs) room
+spelledRoom escape bs room = room
+spelledRoom unended bs room = room
 
 -- 17 where the room is shorter than the text
 pub record Spelled (s room room' : List ℕ) (r : Spelling) : Type 0 where
   pub says : r ≡ pick (ltb (length room) (length s)) (record { number = 17; used = 0; written = 0; at = 0 }) (spellingBy (decode Plain s .how) (decode Plain s .bytes) (decode Plain s .span))
-  pub left : room' ≡ pick (ltb (length room) (length s)) (zeros (length room)) (spellBy (decode Plain s .how) (decode Plain s .bytes) (zeros (length room)))
+  pub left : room' ≡ pick (ltb (length room) (length s)) (zeros (length room)) (spelledRoom (decode Plain s .how) (decode Plain s .bytes) (zeros (length room)))
 
 abbrev pub valueOf : Slot → Value
 valueOf v = record { kind = v .kind; parent = v .parent; key = v .key; len = v .len; «data» = v .«data» }
@@ -55,49 +53,41 @@ valueOf v = record { kind = v .kind; parent = v .parent; key = v .key; len = v .
 abbrev pub slotOf : List ℕ → ℕ → Value
 slotOf room n = pick (ltb n (length room / 32)) (valueOf (slotAt room n)) (record { kind = 0; parent = 0; key = 0; len = 0; «data» = 0 })
 
--- 01's number of a key's verdict
-abbrev pub faultOf : Verdict → ℕ
-faultOf Fine = 0
-faultOf Malformed = 7
-faultOf Escape = 8
-faultOf Unended = 9
-faultOf TooMany = 15
-
 -- a key's answer, and what stands in a room of zeros then: its segments one after the other, or nothing
 abbrev pub segmentsOf : R (List (List ℕ)) → Segments
 segmentsOf (ok ks) = record { number = 0; count = length ks; used = length (flat ks) }
 segmentsOf (bad n) = record { number = n; count = 0; used = 0 }
 
-abbrev pub splitBy : R (List (List ℕ)) → List ℕ → List ℕ
-splitBy (ok ks) room = flat ks ++ drop (length (flat ks)) room
-splitBy (bad n) room = room
+abbrev pub splitRoom : R (List (List ℕ)) → List ℕ → List ℕ
+splitRoom (ok ks) room = flat ks ++ drop (length (flat ks)) room
+splitRoom (bad n) room = room
 
 pub record Split (s room room' : List ℕ) (r : Segments) : Type 0 where
   pub says : r ≡ pick (ltb (length room) (length s)) (record { number = 17; count = 0; used = 0 }) (segmentsOf (keys 16 s))
-  pub left : room' ≡ pick (ltb (length room) (length s)) (zeros (length room)) (splitBy (keys 16 s) (zeros (length room)))
+  pub left : room' ≡ pick (ltb (length room) (length s)) (zeros (length room)) (splitRoom (keys 16 s) (zeros (length room)))
 
 -- where segment i ends
-abbrev pub endBy : R (List (List ℕ)) → ℕ → ℕ
-endBy (ok ks) i = getD (endsOf 0 ks) i 0
-endBy (bad n) i = 0
+abbrev pub endOf : R (List (List ℕ)) → ℕ → ℕ
+endOf (ok ks) i = getD (endsOf 0 ks) i 0
+endOf (bad n) i = 0
 
 pub record Ends (s room room' : List ℕ) (i r : ℕ) : Type 0 where
-  pub says : r ≡ pick (ltb (length room) (length s)) 0 (endBy (keys 16 s) i)
+  pub says : r ≡ pick (ltb (length room) (length s)) 0 (endOf (keys 16 s) i)
   pub left : room' ≡ zeros (length room)
 
 -- 17 where a room is too small, then 1 where the text is too long
-unfoldable pub sizedOf : List ℕ → List ℕ → List ℕ → ℕ
-sizedOf s store tree = pick (suffice (length store) (length tree)) (pick (ltb 32768 (length s)) 1 0) 17
+unfoldable pub sizeFault : List ℕ → List ℕ → List ℕ → ℕ
+sizeFault s store tree = pick (suffice (length store) (length tree)) (pick (ltb 32768 (length s)) 1 0) 17
 
 -- what a value leaves under 01's limits in empty rooms
 abbrev pub outOf : List ℕ → Out
 outOf s = valueOut 2048 16 0 0 0 s
 
--- the number that is told, 0 for none
-abbrev pub told : List ℕ → List ℕ → List ℕ → ℕ
-told s store tree = pick (eqb (sizedOf s store tree) 0) (outOf s .fault) (sizedOf s store tree)
+-- the number of a refusal: that of the sizes, then the value's own; 0 for none
+abbrev pub valueFault : List ℕ → List ℕ → List ℕ → ℕ
+valueFault s store tree = pick (eqb (sizeFault s store tree) 0) (outOf s .fault) (sizeFault s store tree)
 
 pub record Readout (s store tree store' tree' : List ℕ) (r : ValueRead) : Type 0 where
-  pub says : r ≡ pick (eqb (told s store tree) 0) (record { number = 0; used = length (outOf s .bytes); made = length (outOf s .slots) }) (record { number = told s store tree; used = 0; made = 0 })
-  pub store-is : store' ≡ pick (eqb (told s store tree) 0) (stored (zeros (length store)) 0 (outOf s .bytes)) (zeros (length store))
-  pub tree-is : tree' ≡ pick (eqb (told s store tree) 0) (stored (zeros (length tree)) 0 (cells (outOf s .slots))) (zeros (length tree))
+  pub says : r ≡ pick (eqb (valueFault s store tree) 0) (record { number = 0; used = length (outOf s .bytes); made = length (outOf s .slots) }) (record { number = valueFault s store tree; used = 0; made = 0 })
+  pub store-is : store' ≡ pick (eqb (valueFault s store tree) 0) (stored (zeros (length store)) 0 (outOf s .bytes)) (zeros (length store))
+  pub tree-is : tree' ≡ pick (eqb (valueFault s store tree) 0) (stored (zeros (length tree)) 0 (cells (outOf s .slots))) (zeros (length tree))

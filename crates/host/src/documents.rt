@@ -5,7 +5,7 @@ use tree::Found;
 use tree::Item;
 use tree::Key;
 ghost use mathlib.Core.Path.{_≡_};
-ghost use Rattle.host.specs.Documents.{Presented, atOf, finding, stepping, behindOf, walking};
+ghost use Rattle.host.specs.Documents.{Presented, atOf, keyShown, childShown, lastVisited, nextShown};
 
 // number 0: accepted, and then made counts the values; else 01's number, section and place.
 #[repr(C)]
@@ -72,7 +72,7 @@ fn at_of(f: Found) -> At
 // The newest of the values made that hangs under the parent with the key; nothing where the room has fewer values.
 #[no_mangle]
 pub extern "C" fn tree_find(tree: &[u8], store: &[u8], made: usize, parent: u16, key: &[u8]) -> At
-    ensures { λ r. ⌜ r ≡ finding (now (tree .entry)) (now (store .entry)) made parent (now (key .entry)) ⌝ }
+    ensures { λ r. ⌜ r ≡ keyShown (now (tree .entry)) (now (store .entry)) made parent (now (key .entry)) ⌝ }
 {
     if tree::capacity(tree) < made {
         return at_of(Found::Nothing);
@@ -83,7 +83,7 @@ pub extern "C" fn tree_find(tree: &[u8], store: &[u8], made: usize, parent: u16,
 // The first of the values made, from a number on, that hangs under the parent; nothing where the room has fewer values.
 #[no_mangle]
 pub extern "C" fn tree_child(tree: &[u8], made: usize, parent: u16, from: usize) -> At
-    ensures { λ r. ⌜ r ≡ stepping (now (tree .entry)) made parent from ⌝ }
+    ensures { λ r. ⌜ r ≡ childShown (now (tree .entry)) made parent from ⌝ }
 {
     if tree::capacity(tree) < made {
         return at_of(Found::Nothing);
@@ -97,7 +97,7 @@ pub extern "C" fn tree_child(tree: &[u8], made: usize, parent: u16, from: usize)
 
 // Where a walk in byte order stands: at its start, or after a value.
 fn last_visited(begun: u32, after: usize) -> Found
-    ensures { λ r. ⌜ r ≡ behindOf begun after ⌝ }
+    ensures { λ r. ⌜ r ≡ lastVisited begun after ⌝ }
 {
     if begun == 0 {
         return Found::Nothing;
@@ -116,7 +116,7 @@ pub extern "C" fn tree_next(
     begun: u32,
     after: usize,
 ) -> At
-    ensures { λ r. ⌜ r ≡ walking (now (tree .entry)) (now (store .entry)) made parent begun after ⌝ }
+    ensures { λ r. ⌜ r ≡ nextShown (now (tree .entry)) (now (store .entry)) made parent begun after ⌝ }
 {
     if tree::capacity(tree) < made {
         return at_of(Found::Nothing);

@@ -155,7 +155,7 @@ pub extern "C" fn text_next(laid: &[u8], at: usize, line: u32) -> Line
     }
 }
 
-fn refused(number: u32, place: u32) -> Lines
+fn refused_lines(number: u32, place: u32) -> Lines
     ensures { λ r. ⌜ r ≡ refusedAt number place ⌝ }
 {
     Lines {
@@ -174,7 +174,7 @@ pub extern "C" fn text_lines(text: &[u8], scratch: &mut [u8]) -> Lines
 {
     slices::zero(scratch);
     if scratch.len() < toml_lite::SCRATCH_BYTES {
-        return refused(17, 0);
+        return refused_lines(17, 0);
     }
     let r = text::lines(text, scratch, meaning::of01());
     match r {
@@ -187,21 +187,21 @@ pub extern "C" fn text_lines(text: &[u8], scratch: &mut [u8]) -> Lines
         },
         Reading::TooLong => {
             slices::zero(scratch);
-            refused(1, 0)
+            refused_lines(1, 0)
         }
         Reading::NotUtf8 => {
             slices::zero(scratch);
-            refused(2, 0)
+            refused_lines(2, 0)
         }
         Reading::Over(n) => {
             let place = n as u32;
             slices::zero(scratch);
-            refused(3, place)
+            refused_lines(3, place)
         }
         Reading::Open(n) => {
             let place = n as u32;
             slices::zero(scratch);
-            refused(4, place)
+            refused_lines(4, place)
         }
     }
 }

@@ -10,6 +10,7 @@ use parse::view::PartitionFound;
 use schema::Chip;
 use schema::Features;
 use schema::Kind;
+use schema::MOST_FEATURES;
 use schema::Media;
 use schema::Number;
 use schema::Text;
@@ -19,6 +20,11 @@ ghost use Rattle.tree.specs.Doors.{Rooms};
 ghost use Rattle.parse.specs.Views as views;
 ghost use Rattle.host.specs.Records as records;
 ghost use Rattle.host.specs.Records.{Worded};
+
+// A place of the tree room is below it.
+const PLACES: usize = 65536;
+// How many fixed words there are.
+const WORDS: u32 = 17;
 
 // Where a text's bytes are. kind 0: absent; 1: in the store; 2: the lent name; 3: a fixed word; 4: in the store,
 // with `.aic` after them.
@@ -281,7 +287,7 @@ fn front_at(tree: &[u8], store: &[u8], made: usize, name: &[u8]) -> Front
     requires { ⌜ Rooms (now tree) made ⌝ }
     ensures { λ r. ⌜ r ≡ records.front (now (tree .entry)) (now (store .entry)) made (now (name .entry)) ⌝ }
 {
-    let root = tree::fields_at(tree, made, 1);
+    let root = tree::fields_at(tree, made, tree::ROOT);
     parse::front::read_front(tree, store, made, root, parse::lent_name(name))
 }
 
@@ -432,7 +438,7 @@ fn component(tree: &[u8], store: &[u8], made: usize, i: usize) -> ComponentFound
     ensures { λ r. ⌜ r ≡ records.component (now (tree .entry)) (now (store .entry)) made i ⌝ }
 {
     if parse::view::holds_values(tree, made) {
-        return parse::view::component(tree, store, made, i, 32);
+        return parse::view::component(tree, store, made, i, MOST_FEATURES);
     }
     ComponentFound::Nothing
 }
@@ -655,7 +661,7 @@ pub extern "C" fn preset_application(
     ensures { λ r. ⌜ r ≡ records.applicationShown (now (tree .entry)) (now (store .entry)) made i ⌝ }
 {
     if parse::view::holds_values(tree, made) {
-        return application_of(parse::view::application(tree, store, made, i, 32));
+        return application_of(parse::view::application(tree, store, made, i, MOST_FEATURES));
     }
     no_application()
 }
@@ -681,7 +687,7 @@ fn features_by(kind: u32, from: usize, len: usize) -> Features
         return Features::Words { from, len };
     }
     if kind == 2 {
-        if from < 65536 {
+        if from < PLACES {
             return Features::Items(from as u16);
         }
         return Features::Absent;
@@ -690,7 +696,7 @@ fn features_by(kind: u32, from: usize, len: usize) -> Features
 }
 
 fn last_item(begun: u32, last: usize, size: usize) -> Feature
-    ensures { λ r. ⌜ r ≡ records.behindItem begun last size ⌝ }
+    ensures { λ r. ⌜ r ≡ records.lastItem begun last size ⌝ }
 {
     if begun == 0 {
         return Feature::Nothing;
@@ -783,7 +789,7 @@ pub extern "C" fn preset_word(word: u32, out: &mut [u8]) -> usize
     if word == 0 {
         return 0;
     }
-    if 17 < word {
+    if WORDS < word {
         return 0;
     }
     let w = word_by(word);

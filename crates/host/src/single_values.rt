@@ -1,17 +1,17 @@
 // The layer of strings, integers, keys and values, for hosts that compare it with the original.
 
 use meaning::ARRAYS;
+use meaning::SEGMENTS;
 use meaning::TEXT_BYTES;
 use meaning::VALUES;
 use scalar::integer::Int;
-use scalar::key::Verdict;
 use scalar::string::Decoded;
 use values::Reply;
 use values::State;
 use values::value::Allowed;
 ghost use mathlib.Core.Path.{_≡_};
 ghost use Rattle.meaning.specs.Integers as ints;
-ghost use Rattle.host.specs.Values.{numberOf, slotOf, faultOf, sizedOf, Spelled, Split, Ends, Readout};
+ghost use Rattle.host.specs.Values.{numberOf, slotOf, sizeFault, Spelled, Split, Ends, Readout};
 
 // number 0 and the integer by sign and magnitude, or 12.
 #[repr(C)]
@@ -60,7 +60,7 @@ pub extern "C" fn value_int(s: &[u8]) -> Number
     }
 }
 
-fn misspelt(number: u32, at: usize) -> Spelling
+fn refused_string(number: u32, at: usize) -> Spelling
     ensures { λ r. ⌜ r ≡ record { number = number; used = 0; written = 0; at = at } ⌝ }
 {
     Spelling {
@@ -78,7 +78,7 @@ pub extern "C" fn value_string(src: &[u8], out: &mut [u8]) -> Spelling
 {
     slices::zero(out);
     if out.len() < src.len() {
-        return misspelt(17, 0);
+        return refused_string(17, 0);
     }
     let d = scalar::string::decode(src, out);
     match d {
@@ -90,11 +90,11 @@ pub extern "C" fn value_string(src: &[u8], out: &mut [u8]) -> Spelling
         },
         Decoded::Escape { at, written: _ } => {
             slices::zero(out);
-            misspelt(8, at)
+            refused_string(8, at)
         }
         Decoded::Unended { written: _ } => {
             slices::zero(out);
-            misspelt(9, 0)
+            refused_string(9, 0)
         }
     }
 }
@@ -131,26 +131,13 @@ pub struct Segments {
     pub used: usize,
 }
 
-fn unsplit(number: u32) -> Segments
+fn refused_key(number: u32) -> Segments
     ensures { λ r. ⌜ r ≡ record { number = number; count = 0; used = 0 } ⌝ }
 {
     Segments {
         number,
         count: 0,
         used: 0,
-    }
-}
-
-// 01's number of a verdict, 0 for none.
-fn number_of(v: Verdict) -> u32
-    ensures { λ r. ⌜ r ≡ faultOf v ⌝ }
-{
-    match v {
-        Verdict::Fine => 0,
-        Verdict::Malformed => 7,
-        Verdict::Escape => 8,
-        Verdict::Unended => 9,
-        Verdict::TooMany => 15,
     }
 }
 
@@ -161,11 +148,11 @@ pub extern "C" fn value_key(s: &[u8], store: &mut [u8]) -> Segments
 {
     slices::zero(store);
     if store.len() < s.len() {
-        return unsplit(17);
+        return refused_key(17);
     }
-    let k = scalar::key::put_key(s, store, 0, 16);
+    let k = scalar::key::put_key(s, store, 0, SEGMENTS);
     let v = k.verdict;
-    let n = number_of(v);
+    let n = toml_lite::key_fault(v);
     if n == 0 {
         return Segments {
             number: 0,
@@ -174,7 +161,7 @@ pub extern "C" fn value_key(s: &[u8], store: &mut [u8]) -> Segments
         };
     }
     slices::zero(store);
-    unsplit(n)
+    refused_key(n)
 }
 
 // Where segment i of a key ends among its bytes; 0 where there is none. The room is all zero after it.
@@ -186,12 +173,12 @@ pub extern "C" fn value_key_end(s: &[u8], store: &mut [u8], i: usize) -> usize
     if store.len() < s.len() {
         return 0;
     }
-    let k = scalar::key::put_key(s, store, 0, 16);
+    let k = scalar::key::put_key(s, store, 0, SEGMENTS);
     let v = k.verdict;
-    let n = number_of(v);
+    let n = toml_lite::key_fault(v);
     slices::zero(store);
     if n == 0 {
-        if i < 16 {
+        if i < SEGMENTS {
             let ends = k.ends;
             return ends[i];
         }
@@ -208,7 +195,7 @@ pub struct ValueRead {
     pub made: usize,
 }
 
-fn unread(number: u32) -> ValueRead
+fn refused_value(number: u32) -> ValueRead
     ensures { λ r. ⌜ r ≡ record { number = number; used = 0; made = 0 } ⌝ }
 {
     ValueRead {
@@ -218,9 +205,9 @@ fn unread(number: u32) -> ValueRead
     }
 }
 
-// Whether the two rooms and a text are of 01's sizes: 0, or 17, or 1.
-fn sized(text: &[u8], store: &[u8], tree: &[u8]) -> u32
-    ensures { λ r. ⌜ r ≡ sizedOf (now (text .entry)) (now (store .entry)) (now (tree .entry)) ⌝ }
+// What the sizes of the two rooms and of a text are refused with: 17, then 1, or 0.
+fn size_fault(text: &[u8], store: &[u8], tree: &[u8]) -> u32
+    ensures { λ r. ⌜ r ≡ sizeFault (now (text .entry)) (now (store .entry)) (now (tree .entry)) ⌝ }
 {
     if toml_lite::rooms_suffice(store, tree) {
         if TEXT_BYTES < text.len() {
@@ -239,9 +226,9 @@ pub extern "C" fn value_read(text: &[u8], store: &mut [u8], tree: &mut [u8]) -> 
 {
     slices::zero(store);
     slices::zero(tree);
-    let n = sized(text, store, tree);
+    let n = size_fault(text, store, tree);
     if n != 0 {
-        return unread(n);
+        return refused_value(n);
     }
     let st = State { used: 0, made: 0 };
     let allowed = Allowed {
@@ -258,7 +245,7 @@ pub extern "C" fn value_read(text: &[u8], store: &mut [u8], tree: &mut [u8]) -> 
         Reply::Fault(m, _) => {
             slices::zero(store);
             slices::zero(tree);
-            unread(m)
+            refused_value(m)
         }
     }
 }

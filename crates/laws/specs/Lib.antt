@@ -1,4 +1,5 @@
 pub mod Cases
+pub mod Variants
 pub mod Tests
 pub mod Parts
 pub mod Chars

@@ -2,11 +2,8 @@
 use Prim.Native.Nat.{ℕ, _-_, _≤_}
 use mathlib.Core.Bool.{Bool, true, false}
 use mathlib.Core.List.{List, [], _∷_, map}
-use mathlib.Core.Logic.{inl, inr}
 use mathlib.Core.Path.{_≡_, refl, sym, ap, _∙_}
 use native.Mathlib.Omega.{arith}
-use denote.Enum.Declared.{tagOf}
-use types.Run.{OneOf}
 use lib.ListN.{length, take, drop, length-map}
 use lib.Seq.{length-take-le}
 use Rattle.meaning.specs.Base.{before}
@@ -14,7 +11,8 @@ use Rattle.meaning.specs.Rules.{nameOf}
 use Rattle.chars.specs.Trimmed.{Trimmed}
 use Rattle.chars.specs.declared.Span as chars
 use Rattle.slices.specs.Found.{Found}
-use Rattle.schema.proofs.Text.{the-type}
+use Rattle.laws.specs.Variants.{Left, others}
+use Rattle.schema.proofs.Text.{enum}
 use Rattle.schema.specs.declared.Text.{Text}
 use Rattle.schema.specs.declared.Text.the-variants as texts
 use Rattle.schema.specs.declared.Word.{Word}
@@ -44,24 +42,10 @@ parts-long store items count h = length-map (take count items) (partName store) 
 
 -- of a text's variants all but numbers 1 and 3, which have bytes here
 abbrev pub Nameless : Text → Type 0
-Nameless t = OneOf (0 ∷ 2 ∷ 4 ∷ []) (tagOf the-type t)
-
-stored-not : (n : ℕ) → OneOf (0 ∷ 2 ∷ 4 ∷ []) n → n ≡ 1 → ⊥
-stored-not n (inl a) e = omega arith
-stored-not n (inr (inl a)) e = omega arith
-stored-not n (inr (inr a)) e = omega arith
-
-fixed-not : (n : ℕ) → OneOf (0 ∷ 2 ∷ 4 ∷ []) n → n ≡ 3 → ⊥
-fixed-not n (inl a) e = omega arith
-fixed-not n (inr (inl a)) e = omega arith
-fixed-not n (inr (inr a)) e = omega arith
+Nameless t = Left enum (0 ∷ 2 ∷ 4 ∷ []) t
 
 aim-past : (cut : Bool) (store : List ℕ) (parts : List (List ℕ)) (t : Text) → Nameless t → length parts ≡ aim cut store parts t
-aim-past cut store parts texts.Absent o = refl
-aim-past cut store parts (texts.Stored from len) o = absurd (stored-not 1 o refl)
-aim-past cut store parts texts.Lent o = refl
-aim-past cut store parts (texts.Fixed w) o = absurd (fixed-not 3 o refl)
-aim-past cut store parts (texts.WithAic from len) o = refl
+aim-past cut store parts = others enum (λ t. length parts ≡ aim cut store parts t) (0 ∷ 2 ∷ 4 ∷ []) (λ _. refl) (λ _. refl) (λ _. refl)
 
 module _ (cut : Bool) (store : List ℕ) (items : List Partition) (count : ℕ) (t : Text) where
   pub aim-none : count ≤ 32 → length items ≡ 32 → Nameless t → count ≡ aim cut store (map (partName store) (take count items)) t

@@ -12,6 +12,8 @@ use Rattle.meaning.specs.Base.{nil?, ascii}
 use Rattle.meaning.specs.Listing.{decimal, dashed}
 use Rattle.laws.specs.Parts.{rest-of}
 use Rattle.laws.specs.Stored.{stored, length-stored}
+use Rattle.laws.specs.Variants.{Left, others}
+use Rattle.schema.proofs.Text.{enum}
 use Rattle.schema.specs.declared.Text.{Text}
 use Rattle.schema.specs.declared.Text.the-variants as texts
 use Rattle.schema.specs.declared.Word.{Word}
@@ -111,8 +113,8 @@ module _ (store name : List ℕ) (t : Text) where
   pub blank-by : (s : List ℕ) → s ≡ spelled store name t → eqb (length s) 0 ≡ nil? (spelled store name t)
   blank-by s e = rw (← e) (length-nil s)
 
-  pub blank-fixed : (w : Word) → t ≡ texts.Fixed w → false ≡ nil? (spelled store name t)
-  blank-fixed w e = rw e (sym (word-some w))
-
-  pub blank-aic : (from len : ℕ) → t ≡ texts.WithAic from len → false ≡ nil? (spelled store name t)
-  blank-aic from len e = rw e (sym (some-after (clip from len store) 46 (ascii "aic")))
+  -- a fixed word, or bytes with `.aic` after them
+  pub blank-not : Left enum (3 ∷ 4 ∷ []) t → false ≡ nil? (spelled store name t)
+  blank-not =
+      others enum (λ u. false ≡ nil? (spelled store name u)) (3 ∷ 4 ∷ [])
+      (λ v. sym (word-some (v .0))) (λ v. sym (some-after (clip (v .0) (v .1 .0) store) 46 (ascii "aic"))) t

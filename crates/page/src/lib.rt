@@ -111,8 +111,7 @@ fn blank(store: &[u8], name: &[u8], t: Text) -> bool
         Text::Absent => true,
         Text::Stored { from, len } => schema::stored(store, from, len).len() == 0,
         Text::Lent => name.len() == 0,
-        Text::Fixed(_) => false,
-        Text::WithAic { from: _, len: _ } => false,
+        _ => false,
     }
 }
 

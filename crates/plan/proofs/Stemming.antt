@@ -3,11 +3,8 @@ use Prim.Native.Nat.{ℕ, suc, _+_, _-_, _≤_, _<_}
 use mathlib.Core.Bool.{Bool, true, false}
 use mathlib.Core.List.{List as Seq, [], _∷_, _++_}
 use mathlib.Core.Path.{_≡_, refl, sym, ap, _∙_}
-use mathlib.Core.Logic.{inl, inr}
 use native.Mathlib.Omega.{arith}
 use borrow.Author.Tests.{eq-eqb, ne-eqb}
-use denote.Enum.Declared.{tagOf}
-use types.Run.{OneOf}
 use lib.Dec.{eqb}
 use lib.ListN.{length, take, getD}
 use lib.Seq.{take-length, take-suc, length-take-le}
@@ -25,9 +22,9 @@ use Rattle.tree.specs.declared.Found.the-variants as founds
 use Rattle.tree.specs.Room.{Finds}
 use Rattle.tree.specs.Doors.{Rooms, Stood, valueAt, fieldsOf}
 use Rattle.tree.specs.Laws.{found-below}
-use Rattle.schema.proofs.Kind.{the-type}
+use Rattle.laws.specs.Variants as variants
+use Rattle.schema.proofs.Kind.{enum}
 use Rattle.schema.specs.declared.Kind.{Kind}
-use Rattle.schema.specs.declared.Kind.the-variants as kinds
 use Rattle.schema.specs.declared.KindRead.{KindRead}
 use Rattle.schema.specs.declared.Text.{Text}
 use Rattle.schema.specs.declared.Text.the-variants as texts
@@ -112,11 +109,8 @@ or-given (texts.WithAic from len) d = refl
 -- ---- the first `app` component with a partition
 
 -- the kinds but number 0
-pub app-not : (k : Kind) → OneOf (1 ∷ 2 ∷ []) (tagOf the-type k) → false ≡ isApp k
-app-not kinds.App (inl a) = absurd (omega arith)
-app-not kinds.App (inr a) = absurd (omega arith)
-app-not kinds.Pbp o = refl
-app-not kinds.Raw o = refl
+pub app-not : (k : Kind) → variants.Left enum (1 ∷ 2 ∷ []) k → false ≡ isApp k
+app-not = variants.others enum (λ k. false ≡ isApp k) (1 ∷ 2 ∷ []) (λ _. refl) (λ _. refl)
 
 module _ (room store : Seq ℕ) (made : ℕ) where
   module _ (n : ℕ) (b : Bool) (e : b ≡ placed room store made n) where

@@ -2,16 +2,14 @@
 use Prim.Native.Nat.{ℕ, _+_, _-_, _≤_, _<_}
 use mathlib.Core.Bool.{Bool, true, false}
 use mathlib.Core.List.{List, [], _∷_, _++_}
-use mathlib.Core.Logic.{inl, inr}
 use mathlib.Core.Path.{_≡_, refl, sym, ap, subst, _∙_}
 use native.Mathlib.Omega.{arith}
 use borrow.Author.Tests.{le-leb, lt-leb, le-ltb, lt-ltb}
-use denote.Enum.Declared.{tagOf}
-use types.Run.{OneOf}
 use lib.ListN.{length, take, drop}
 use Rattle.meaning.specs.Base.{same, part}
 use Rattle.meaning.specs.Schema as meant
-use Rattle.schema.proofs.Text.{the-type}
+use Rattle.laws.specs.Variants.{Left, others}
+use Rattle.schema.proofs.Text.{enum}
 use Rattle.schema.specs.declared.Word.{Word}
 use Rattle.schema.specs.declared.Word.the-variants as words
 use Rattle.schema.specs.declared.Span.{Span}
@@ -51,47 +49,23 @@ word-is w s t r e h = h ∙ rw (e .is) (ap (same t) (word-part w))
 
 -- all but number 0, the absent one
 abbrev pub Given : Text → Type 0
-Given t = OneOf (1 ∷ 2 ∷ 3 ∷ 4 ∷ []) (tagOf the-type t)
-
-some : (n : ℕ) → OneOf (1 ∷ 2 ∷ 3 ∷ 4 ∷ []) n → n ≡ 0 → ⊥
-some n (inl a) e = omega arith
-some n (inr (inl a)) e = omega arith
-some n (inr (inr (inl a))) e = omega arith
-some n (inr (inr (inr a))) e = omega arith
+Given t = Left enum (1 ∷ 2 ∷ 3 ∷ 4 ∷ []) t
 
 -- all but number 1, a string of the store
 abbrev pub Elsewhere : Text → Type 0
-Elsewhere t = OneOf (0 ∷ 2 ∷ 3 ∷ 4 ∷ []) (tagOf the-type t)
-
-other : (n : ℕ) → OneOf (0 ∷ 2 ∷ 3 ∷ 4 ∷ []) n → n ≡ 1 → ⊥
-other n (inl a) e = omega arith
-other n (inr (inl a)) e = omega arith
-other n (inr (inr (inl a))) e = omega arith
-other n (inr (inr (inr a))) e = omega arith
+Elsewhere t = Left enum (0 ∷ 2 ∷ 3 ∷ 4 ∷ []) t
 
 -- what gives the same for all of these
 pub elsewhere {ℓ} : {X : Type ℓ} (g : Text → X) (x : X) → x ≡ g texts.Absent → x ≡ g texts.Lent → ((w : Word) → x ≡ g (texts.Fixed w)) → ((f n : ℕ) → x ≡ g (texts.WithAic f n))
     → (t : Text) → Elsewhere t → x ≡ g t
-elsewhere g x a l f w texts.Absent o = a
-elsewhere g x a l f w (texts.Stored from len) o = absurd (other 1 o refl)
-elsewhere g x a l f w texts.Lent o = l
-elsewhere g x a l f w (texts.Fixed v) o = f v
-elsewhere g x a l f w (texts.WithAic from len) o = w from len
+elsewhere g x a l f w = others enum (λ t. x ≡ g t) (0 ∷ 2 ∷ 3 ∷ 4 ∷ []) (λ _. a) (λ _. l) (λ v. f (v .0)) (λ v. w (v .0) (v .1 .0))
 
 -- ---- choices
 pub given-is : (t : Text) → Given t → true ≡ isGiven t
-given-is texts.Absent o = absurd (some 0 o refl)
-given-is (texts.Stored from len) o = refl
-given-is texts.Lent o = refl
-given-is (texts.Fixed w) o = refl
-given-is (texts.WithAic from len) o = refl
+given-is = others enum (λ t. true ≡ isGiven t) (1 ∷ 2 ∷ 3 ∷ 4 ∷ []) (λ _. refl) (λ _. refl) (λ _. refl) (λ _. refl)
 
 pub or-given : (t d : Text) → Given t → t ≡ orText t d
-or-given texts.Absent d o = absurd (some 0 o refl)
-or-given (texts.Stored from len) d o = refl
-or-given texts.Lent d o = refl
-or-given (texts.Fixed w) d o = refl
-or-given (texts.WithAic from len) d o = refl
+or-given t d = others enum (λ u. u ≡ orText u d) (1 ∷ 2 ∷ 3 ∷ 4 ∷ []) (λ _. refl) (λ _. refl) (λ _. refl) (λ _. refl) t
 
 pub start-none : (t : Text) → Elsewhere t → 0 ≡ startOf t
 start-none = elsewhere startOf 0 refl refl (λ _. refl) (λ _ _. refl)

@@ -46,14 +46,14 @@ pub settled-stays : (g : code.Grown) (used m p here : ℕ) → g ≡ At m p → 
 settled-stays g used m p here e = rw e
 
 -- ---- a verdict's number
-verdict-bad : {X : Type 0} (v : Verdict) (n : ℕ) (x : X) → n ≡ verdictNumber v → (n ≡ 0 → ⊥) → told v x ≡ bad n
+pub verdict-bad : {X : Type 0} (v : Verdict) (n : ℕ) (x : X) → n ≡ verdictNumber v → (n ≡ 0 → ⊥) → told v x ≡ bad n
 verdict-bad verdicts.Fine n x e f = absurd (f e)
 verdict-bad verdicts.Malformed n x e f = rw e
 verdict-bad verdicts.Escape n x e f = rw e
 verdict-bad verdicts.Unended n x e f = rw e
 verdict-bad verdicts.TooMany n x e f = rw e
 
-verdict-fine : (v : Verdict) (n : ℕ) → n ≡ verdictNumber v → n ≡ 0 → v ≡ verdicts.Fine
+pub verdict-fine : (v : Verdict) (n : ℕ) → n ≡ verdictNumber v → n ≡ 0 → v ≡ verdicts.Fine
 verdict-fine verdicts.Fine n e f = refl
 verdict-fine verdicts.Malformed n e f = absurd (omega arith)
 verdict-fine verdicts.Escape n e f = absurd (omega arith)

@@ -7,8 +7,8 @@ use Rattle.host.proofs.text_lines.Tie as tie
 zero-requires : tie.Need-zero-requires
 zero-requires c κs = search needs
 
-refused-requires : tie.Need-refused-requires
-refused-requires c κs = search needs
+refused-lines-requires : tie.Need-refused-lines-requires
+refused-lines-requires c κs = search needs
 
 same-length : tie.Need-same-length
 same-length c = search needs
@@ -34,8 +34,8 @@ enum-told c = search needs
 zero-requires-2 : tie.Need-zero-requires-2
 zero-requires-2 c κs = search needs
 
-refused-requires-2 : tie.Need-refused-requires-2
-refused-requires-2 c κs = search needs
+refused-lines-requires-2 : tie.Need-refused-lines-requires-2
+refused-lines-requires-2 c κs = search needs
 
 enum-told-2 : tie.Need-enum-told-2
 enum-told-2 c = search needs
@@ -43,8 +43,8 @@ enum-told-2 c = search needs
 zero-requires-3 : tie.Need-zero-requires-3
 zero-requires-3 c κs = search needs
 
-refused-requires-3 : tie.Need-refused-requires-3
-refused-requires-3 c κs = search needs
+refused-lines-requires-3 : tie.Need-refused-lines-requires-3
+refused-lines-requires-3 c κs = search needs
 
 enum-known-r-2 : tie.Need-enum-known-r-2
 enum-known-r-2 c = search needs
@@ -55,8 +55,8 @@ cast-place c = search (needs, over-fits)
 zero-requires-4 : tie.Need-zero-requires-4
 zero-requires-4 c κs = search needs
 
-refused-requires-4 : tie.Need-refused-requires-4
-refused-requires-4 c κs = search needs
+refused-lines-requires-4 : tie.Need-refused-lines-requires-4
+refused-lines-requires-4 c κs = search needs
 
 enum-known-r-3 : tie.Need-enum-known-r-3
 enum-known-r-3 c = search needs
@@ -67,8 +67,8 @@ cast-place-2 c = search (needs, open-fits)
 zero-requires-5 : tie.Need-zero-requires-5
 zero-requires-5 c κs = search needs
 
-refused-requires-5 : tie.Need-refused-requires-5
-refused-requires-5 c κs = search needs
+refused-lines-requires-5 : tie.Need-refused-lines-requires-5
+refused-lines-requires-5 c κs = search needs
 
 same-length-2 : tie.Need-same-length-2
 same-length-2 c = search needs
@@ -105,7 +105,7 @@ text-lines-spec =
     tie.close
     (tie.spec
     zero-requires
-    refused-requires
+    refused-lines-requires
     same-length
     returns
     of01-requires
@@ -114,18 +114,18 @@ text-lines-spec =
     cast-t19
     enum-told
     zero-requires-2
-    refused-requires-2
+    refused-lines-requires-2
     enum-told-2
     zero-requires-3
-    refused-requires-3
+    refused-lines-requires-3
     enum-known-r-2
     cast-place
     zero-requires-4
-    refused-requires-4
+    refused-lines-requires-4
     enum-known-r-3
     cast-place-2
     zero-requires-5
-    refused-requires-5
+    refused-lines-requires-5
     same-length-2
     returns-2
     same-length-3

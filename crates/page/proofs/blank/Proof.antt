@@ -1,6 +1,6 @@
 use borrow.Author.Needs.{needs}
 use Rattle.schema.proofs.Spelling.{spelled-stored, spelled-lent}
-use Rattle.page.proofs.Writing.{blank-by, blank-fixed, blank-aic}
+use Rattle.page.proofs.Writing.{blank-by, blank-not}
 use Rattle.page.proofs.blank.Statement.{statement}
 use Rattle.page.proofs.blank.Tie as tie
 
@@ -16,12 +16,6 @@ stored-requires c κs = search needs
 enum-told-2 : tie.Need-enum-told-2
 enum-told-2 c = search needs
 
-enum-told-3 : tie.Need-enum-told-3
-enum-told-3 c = search needs
-
-enum-told-4 : tie.Need-enum-told-4
-enum-told-4 c = search needs
-
 returns : tie.Need-returns
 returns c = search needs
 
@@ -32,10 +26,7 @@ returns-3 : tie.Need-returns-3
 returns-3 c = search (needs, blank-by, spelled-lent)
 
 returns-4 : tie.Need-returns-4
-returns-4 c = search (needs, blank-fixed)
-
-returns-5 : tie.Need-returns-5
-returns-5 c = search (needs, blank-aic)
+returns-4 c = search (needs, blank-not)
 
 pub blank-spec : {M : Type 1} → statement M
 blank-spec =
@@ -45,10 +36,7 @@ blank-spec =
     enum-known-t
     stored-requires
     enum-told-2
-    enum-told-3
-    enum-told-4
     returns
     returns-2
     returns-3
-    returns-4
-    returns-5)
+    returns-4)

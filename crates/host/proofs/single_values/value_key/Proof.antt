@@ -4,16 +4,16 @@ use Rattle.host.proofs.single_values.value_key.Statement.{statement}
 use Rattle.host.proofs.single_values.value_key.Tie as tie
 use Rattle.host.proofs.single_values.value_key.Reads as reads
 use Rattle.host.proofs.single_values.value_key.Lts as lts
-use Rattle.host.proofs.single_values.number_of.Reads as number-of-reads
-use Rattle.host.proofs.single_values.unsplit.Reads as unsplit-reads
+use Rattle.host.proofs.single_values.refused_key.Reads as refused-key-reads
 use Rattle.scalar.proofs.key.put_key.Reads as put-key-reads
 use Rattle.slices.proofs.zero.Reads as zero-reads
+use Rattle.toml_lite.proofs.key_fault.Reads as key-fault-reads
 
 zero-requires : tie.Need-zero-requires
 zero-requires c κs = search needs
 
-unsplit-requires : tie.Need-unsplit-requires
-unsplit-requires c κs = search needs
+refused-key-requires : tie.Need-refused-key-requires
+refused-key-requires c κs = search needs
 
 same-length : tie.Need-same-length
 same-length c = search needs
@@ -24,8 +24,8 @@ returns c = search (needs, key-short)
 put-key-requires : tie.Need-put-key-requires
 put-key-requires c κs = search needs
 
-number-of-requires : tie.Need-number-of-requires
-number-of-requires c κs = search needs
+key-fault-requires : tie.Need-key-fault-requires
+key-fault-requires c κs = search needs
 
 same-length-2 : tie.Need-same-length-2
 same-length-2 c = search needs
@@ -36,8 +36,8 @@ returns-2 c = search (needs, key-out)
 zero-requires-2 : tie.Need-zero-requires-2
 zero-requires-2 c κs = search needs
 
-unsplit-requires-2 : tie.Need-unsplit-requires-2
-unsplit-requires-2 c κs = search needs
+refused-key-requires-2 : tie.Need-refused-key-requires-2
+refused-key-requires-2 c κs = search needs
 
 same-length-3 : tie.Need-same-length-3
 same-length-3 c = search needs
@@ -50,14 +50,14 @@ value-key-spec =
     tie.close
     (tie.spec
     zero-requires
-    unsplit-requires
+    refused-key-requires
     same-length
     returns
     put-key-requires
-    number-of-requires
+    key-fault-requires
     same-length-2
     returns-2
     zero-requires-2
-    unsplit-requires-2
+    refused-key-requires-2
     same-length-3
     returns-3)

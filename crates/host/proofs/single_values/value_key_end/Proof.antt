@@ -4,9 +4,9 @@ use Rattle.host.proofs.single_values.value_key_end.Statement.{statement
 use Rattle.host.proofs.single_values.value_key_end.Tie as tie
 use Rattle.host.proofs.single_values.value_key_end.Reads as reads
 use Rattle.host.proofs.single_values.value_key_end.Lts as lts
-use Rattle.host.proofs.single_values.number_of.Reads as number-of-reads
 use Rattle.scalar.proofs.key.put_key.Reads as put-key-reads
 use Rattle.slices.proofs.zero.Reads as zero-reads
+use Rattle.toml_lite.proofs.key_fault.Reads as key-fault-reads
 
 zero-requires : tie.Need-zero-requires
 zero-requires c κs = search needs
@@ -20,8 +20,8 @@ returns c = search (needs, end-short)
 put-key-requires : tie.Need-put-key-requires
 put-key-requires c κs = search needs
 
-number-of-requires : tie.Need-number-of-requires
-number-of-requires c κs = search needs
+key-fault-requires : tie.Need-key-fault-requires
+key-fault-requires c κs = search needs
 
 zero-requires-2 : tie.Need-zero-requires-2
 zero-requires-2 c κs = search needs
@@ -58,7 +58,7 @@ value-key-end-spec =
     same-length
     returns
     put-key-requires
-    number-of-requires
+    key-fault-requires
     zero-requires-2
     mul-result
     array-read-result

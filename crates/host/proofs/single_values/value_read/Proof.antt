@@ -1,11 +1,11 @@
-use Rattle.host.proofs.Readouts.{unsized, ready, read-out, fault-out}
+use Rattle.host.proofs.Readouts.{size-refused, ready, read-out, fault-out}
 use borrow.Author.Needs.{needs}
 use Rattle.host.proofs.single_values.value_read.Statement.{statement}
 use Rattle.host.proofs.single_values.value_read.Tie as tie
 use Rattle.host.proofs.single_values.value_read.Reads as reads
 use Rattle.host.proofs.single_values.value_read.Lts as lts
-use Rattle.host.proofs.single_values.sized.Reads as sized-reads
-use Rattle.host.proofs.single_values.unread.Reads as unread-reads
+use Rattle.host.proofs.single_values.size_fault.Reads as size-fault-reads
+use Rattle.host.proofs.single_values.refused_value.Reads as refused-value-reads
 use Rattle.slices.proofs.zero.Reads as zero-reads
 use Rattle.values.proofs.value.value.Reads as value-reads
 
@@ -15,11 +15,11 @@ zero-requires c κs = search needs
 zero-requires-2 : tie.Need-zero-requires-2
 zero-requires-2 c κs = search needs
 
-sized-requires : tie.Need-sized-requires
-sized-requires c κs = search needs
+size-fault-requires : tie.Need-size-fault-requires
+size-fault-requires c κs = search needs
 
-unread-requires : tie.Need-unread-requires
-unread-requires c κs = search needs
+refused-value-requires : tie.Need-refused-value-requires
+refused-value-requires c κs = search needs
 
 same-length : tie.Need-same-length
 same-length c = search needs
@@ -28,10 +28,10 @@ same-length-2 : tie.Need-same-length-2
 same-length-2 c = search needs
 
 returns : tie.Need-returns
-returns c = search (needs, unsized)
+returns c = search (needs, size-refused)
 
 value-requires : tie.Need-value-requires
-value-requires c κs = let b = c .before .before in ready _ _ _ _ (b .before .sized .ensures) (b .if1 .left)
+value-requires c κs = let b = c .before .before in ready _ _ _ _ (b .before .size-fault .ensures) (b .if1 .left)
 
 enum-known-r : tie.Need-enum-known-r
 enum-known-r c = search needs
@@ -45,8 +45,8 @@ zero-requires-3 c κs = search needs
 zero-requires-4 : tie.Need-zero-requires-4
 zero-requires-4 c κs = search needs
 
-unread-requires-2 : tie.Need-unread-requires-2
-unread-requires-2 c κs = search needs
+refused-value-requires-2 : tie.Need-refused-value-requires-2
+refused-value-requires-2 c κs = search needs
 
 same-length-3 : tie.Need-same-length-3
 same-length-3 c = search needs
@@ -72,8 +72,8 @@ value-read-spec =
     (tie.spec
     zero-requires
     zero-requires-2
-    sized-requires
-    unread-requires
+    size-fault-requires
+    refused-value-requires
     same-length
     same-length-2
     returns
@@ -82,7 +82,7 @@ value-read-spec =
     enum-known-r-2
     zero-requires-3
     zero-requires-4
-    unread-requires-2
+    refused-value-requires-2
     same-length-3
     same-length-4
     returns-2

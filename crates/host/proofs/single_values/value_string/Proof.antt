@@ -4,15 +4,15 @@ use Rattle.host.proofs.single_values.value_string.Statement.{statement}
 use Rattle.host.proofs.single_values.value_string.Tie as tie
 use Rattle.host.proofs.single_values.value_string.Reads as reads
 use Rattle.host.proofs.single_values.value_string.Lts as lts
-use Rattle.host.proofs.single_values.misspelt.Reads as misspelt-reads
+use Rattle.host.proofs.single_values.refused_string.Reads as refused-string-reads
 use Rattle.scalar.proofs.string.decode.Reads as decode-reads
 use Rattle.slices.proofs.zero.Reads as zero-reads
 
 zero-requires : tie.Need-zero-requires
 zero-requires c κs = search needs
 
-misspelt-requires : tie.Need-misspelt-requires
-misspelt-requires c κs = search needs
+refused-string-requires : tie.Need-refused-string-requires
+refused-string-requires c κs = search needs
 
 same-length : tie.Need-same-length
 same-length c = search needs
@@ -32,8 +32,8 @@ enum-known-d-2 c = search needs
 zero-requires-2 : tie.Need-zero-requires-2
 zero-requires-2 c κs = search needs
 
-misspelt-requires-2 : tie.Need-misspelt-requires-2
-misspelt-requires-2 c κs = search needs
+refused-string-requires-2 : tie.Need-refused-string-requires-2
+refused-string-requires-2 c κs = search needs
 
 enum-told : tie.Need-enum-told
 enum-told c = search needs
@@ -41,8 +41,8 @@ enum-told c = search needs
 zero-requires-3 : tie.Need-zero-requires-3
 zero-requires-3 c κs = search needs
 
-misspelt-requires-3 : tie.Need-misspelt-requires-3
-misspelt-requires-3 c κs = search needs
+refused-string-requires-3 : tie.Need-refused-string-requires-3
+refused-string-requires-3 c κs = search needs
 
 same-length-2 : tie.Need-same-length-2
 same-length-2 c = search needs
@@ -67,17 +67,17 @@ value-string-spec =
     tie.close
     (tie.spec
     zero-requires
-    misspelt-requires
+    refused-string-requires
     same-length
     returns
     decode-requires
     enum-known-d
     enum-known-d-2
     zero-requires-2
-    misspelt-requires-2
+    refused-string-requires-2
     enum-told
     zero-requires-3
-    misspelt-requires-3
+    refused-string-requires-3
     same-length-2
     returns-2
     same-length-3
