@@ -1,3 +1,4 @@
+-- The definition asks the same of the byte: one more where it is c outside a string, and else n as it was.
 use Rattle.meaning.specs.Quote.{tally}
 use Rattle.laws.specs.Tests.{calls}
 use borrow.Author.Needs.{needs}

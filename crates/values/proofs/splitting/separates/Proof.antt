@@ -1,3 +1,4 @@
+-- Of a comma outside strings the counts of brackets decide, as in the definition; of any other byte both say false.
 use borrow.Author.Needs.{needs}
 use Rattle.meaning.specs.Values.{separates?}
 use Rattle.laws.specs.Tests.{calls}
