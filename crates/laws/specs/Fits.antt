@@ -17,7 +17,7 @@ use Rattle.meaning.specs.Reading.{Grown, grown, stuck, Got, got, failed, growMa
 use Rattle.meaning.specs.Tree.{Value, str, array, none′, item, empty, assign, push, openTables}
 use Rattle.meaning.specs.Keys.{keys, segments, segment, quoted, nonempty}
 use Rattle.meaning.specs.Space.{trim, blank}
-use Rattle.meaning.specs.Values.{Reader, each, aString, aPlain, one, anArray, brackets, value, stringOf, plain, itemsOf, nonblank, parts?}
+use Rattle.meaning.specs.Values.{Reader, each, aString, aPlain, one, anArray, brackets, value, stringOf, plain, itemsOf, nonblank, separates?}
 use Rattle.meaning.specs.declared.StringState.the-variants.{Outside}
 use Rattle.meaning.specs.Quote.{fresh, scan, step, upTo}
 use Rattle.meaning.specs.declared.StringByte.{StringByte}
@@ -97,7 +97,7 @@ nonblank-fits (l ∷ ls) =
 
 items-fit : (s : List ℕ) → total (itemsOf s) ≤ length s
 unfolding itemsOf
-items-fit s = omega (arith, nonblank-fits (split fresh step parts? fresh s), split-fits fresh step parts? fresh s)
+items-fit s = omega (arith, nonblank-fits (split fresh step separates? fresh s), split-fits fresh step separates? fresh s)
 
 -- ---- keys
 

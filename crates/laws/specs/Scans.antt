@@ -7,7 +7,7 @@ use native.Mathlib.Omega.{arith}
 use lib.ListN.{length}
 use Rattle.meaning.specs.declared.Scan.{Scan}
 use Rattle.meaning.specs.declared.StringState.{StringState}
-use Rattle.meaning.specs.Quote.{hits, tally, step, scan, upTo, stateAfter}
+use Rattle.meaning.specs.Quote.{equalsOutside, tally, step, scan, upTo, stateAfter}
 use Rattle.laws.specs.Cases.{on}
 
 -- carrying the scan onward is counting again over the whole (W-205)
@@ -17,7 +17,7 @@ scan-append c (b ∷ s) t = scan-append (step c b) s t
 
 pub tally-most : (c : ℕ) (st : StringState) (b n : ℕ) → tally c st b n ≤ n + 1
 unfolding tally
-tally-most c st b n = on (hits c st b) (λ e. rw e (omega arith)) (λ e. rw e (omega arith))
+tally-most c st b n = on (equalsOutside c st b) (λ e. rw e (omega arith)) (λ e. rw e (omega arith))
 
 pub step-opens : (x : Scan) (b : ℕ) → (step x b) .opens ≤ x .opens + 1
 unfolding step
@@ -29,4 +29,4 @@ step-closes x b = tally-most 93 (x .state) b (x .closes)
 
 pub up-to-fits : (c : ℕ) (st : StringState) (s : List ℕ) → upTo c st s ≤ length s
 up-to-fits c st [] = omega arith
-up-to-fits c st (b ∷ s) = on (hits c st b) (λ e. rw e (omega arith)) (λ e. rw e (omega (arith, up-to-fits c (stateAfter st b) s)))
+up-to-fits c st (b ∷ s) = on (equalsOutside c st b) (λ e. rw e (omega arith)) (λ e. rw e (omega (arith, up-to-fits c (stateAfter st b) s)))

@@ -16,7 +16,7 @@ pub record Before : Type 0 where
 abbrev pub nothingBefore : Before
 nothingBefore = record { names = []; end = 0 }
 
--- "Ends are sums without wrap-around"
+-- the end is the sum, without wrap-around
 abbrev pub endOf : Partition → ℕ
 endOf p = p .offset + p .size
 

@@ -1,4 +1,5 @@
--- "Reading .. start[s] from the text": a preset from a text and the lent rooms. Refusals 1 to 70.
+-- "Reading, validating and planning each start from the text": a preset from a text and the lent rooms. Refusals 1 to
+-- 70.
 use Prim.Native.Nat.{ℕ}
 use mathlib.Core.List.{List}
 use Rattle.meaning.specs.Limits.{Limits}

@@ -16,15 +16,15 @@ stateAfter Inside b = pick (eqb b backslash) Escaped (pick (eqb b quoteMark) Out
 stateAfter Escaped b = Inside
 
 -- b is c, outside a string
-unfoldable pub hits : ℕ → StringState → ℕ → Bool
-hits c Outside b = eqb b c
-hits c Inside b = false
-hits c Escaped b = false
+unfoldable pub equalsOutside : ℕ → StringState → ℕ → Bool
+equalsOutside c Outside b = eqb b c
+equalsOutside c Inside b = false
+equalsOutside c Escaped b = false
 
 -- how many bytes stand before the first c outside a string, or in all where there is none
 abbrev pub upTo : ℕ → StringState → List ℕ → ℕ
 upTo c state [] = 0
-upTo c state (b ∷ s) = pick (hits c state b) 0 (suc (upTo c (stateAfter state b) s))
+upTo c state (b ∷ s) = pick (equalsOutside c state b) 0 (suc (upTo c (stateAfter state b) s))
 
 -- a line starts outside strings, with no brackets
 abbrev pub fresh : Scan
@@ -32,7 +32,7 @@ fresh = record { state = Outside; opens = 0; closes = 0 }
 
 -- n and, where b is c outside a string, one more
 unfoldable pub tally : ℕ → StringState → ℕ → ℕ → ℕ
-tally c state b n = pick (hits c state b) (n + 1) n
+tally c state b n = pick (equalsOutside c state b) (n + 1) n
 
 -- the string state, and the brackets `[` and `]` outside strings, after one more byte
 unfoldable pub step : Scan → ℕ → Scan
@@ -47,5 +47,5 @@ scan c [] = c
 scan c (b ∷ s) = scan (step c b) s
 
 unfoldable pub computes : Unit {0}
-unfolding stateAfter hits tally step
+unfolding stateAfter equalsOutside tally step
 computes = tt

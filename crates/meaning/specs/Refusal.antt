@@ -35,7 +35,7 @@ abbrev pub okThen : {X Y : Type 0} → R X → (X → R Y) → R Y
 okThen (ok x) f = f x
 okThen (bad n) f = bad n
 
--- "A refusal returns its number, a section and a place"
+-- "A refusal returns its number, a section .. and a place"
 pub data Answer (X : Type 0) : Type 0 where
   accepted : X → Answer X
   refused : Fault → ℕ → ℕ → Answer X

@@ -7,7 +7,7 @@ use lib.Dec.{eqb, ltb}
 use lib.ListN.{take}
 use Rattle.meaning.specs.Base.{pick, between}
 
--- "%xLOW-HIGH"
+-- what the ABNF writes as `%x80-BF`: the bytes from a lowest to a highest
 pub record Range : Type 0 where
   pub low : ℕ
   pub high : ℕ

@@ -8,7 +8,7 @@ use Rattle.meaning.specs.Base.{pick, ascii, same, final, split}
 use Rattle.meaning.specs.Bytes.{quoteMark, comma, openBracket, closeBracket}
 use Rattle.meaning.specs.Refusal.{R, ok, bad, okThen, numbered}
 use Rattle.meaning.specs.Space.{blank, trim}
-use Rattle.meaning.specs.Quote.{Scan, fresh, step, hits}
+use Rattle.meaning.specs.Quote.{Scan, fresh, step, equalsOutside}
 use Rattle.meaning.specs.declared.StringByte.the-variants.{Plain}
 use Rattle.meaning.specs.Strings.{decode, ifEnded}
 use Rattle.meaning.specs.Integers.{integer}
@@ -33,8 +33,8 @@ plain s =
 -- ---- "An array's items are values again"
 
 -- "Items split at commas outside strings where the bracket count is zero"
-unfoldable pub parts? : Scan → ℕ → Bool
-parts? c b = pick (hits comma (c .state) b) (eqb (c .opens) (c .closes)) false
+unfoldable pub separates? : Scan → ℕ → Bool
+separates? c b = pick (equalsOutside comma (c .state) b) (eqb (c .opens) (c .closes)) false
 
 -- "blank items are dropped"
 abbrev pub nonblank : List (List ℕ) → List (List ℕ)
@@ -43,7 +43,7 @@ nonblank (l ∷ ls) = pick (blank l) (nonblank ls) (l ∷ nonblank ls)
 
 -- the items between an array's brackets
 unfoldable pub itemsOf : List ℕ → List (List ℕ)
-itemsOf s = nonblank (split fresh step parts? fresh s)
+itemsOf s = nonblank (split fresh step separates? fresh s)
 
 -- ---- values made
 
@@ -91,7 +91,7 @@ module _ (limit : ℕ) where
   value depth s made = one (brackets depth) (trim s) made
 
 unfoldable pub computes : Unit {0}
-unfolding stringOf plain parts? itemsOf aString aPlain one anArray value
+unfolding stringOf plain separates? itemsOf aString aPlain one anArray value
     Rattle.meaning.specs.Space.computes
     Rattle.meaning.specs.Quote.computes
     Rattle.meaning.specs.Strings.computes

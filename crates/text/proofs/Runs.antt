@@ -11,7 +11,7 @@ use lib.Seq.{take-suc}
 use Rattle.meaning.specs.declared.Scan.{Scan}
 use Rattle.meaning.specs.declared.StringState.{StringState}
 use Rattle.meaning.specs.declared.StringState.the-variants.{Outside, Inside}
-use Rattle.meaning.specs.Quote.{stateAfter, hits, tally, step, scan}
+use Rattle.meaning.specs.Quote.{stateAfter, equalsOutside, tally, step, scan}
 use Rattle.laws.specs.Cases.{never}
 use Rattle.text.specs.Runs.{marked, Quiet, Quiets, Run}
 
@@ -23,7 +23,7 @@ unmarked set b r e h n m q = let t : r ≡ true = rw q at e ∙ m in never {b = 
 
 module _ (st : StringState) (b : ℕ) (z : st ≡ Outside) where
   bare : (b ≡ 10 → ⊥) → (b ≡ 34 → ⊥) → (b ≡ 91 → ⊥) → (b ≡ 93 → ⊥) → Quiet st b
-  unfolding stateAfter hits
+  unfolding stateAfter equalsOutside
   bare l q o k = record {
     line = l;
     same = rw (z, ne-eqb b 34 q);
@@ -39,7 +39,7 @@ module _ (st : StringState) (b : ℕ) (z : st ≡ Outside) where
 
 module _ (st : StringState) (b : ℕ) (z : st ≡ Inside) where
   held : (b ≡ 10 → ⊥) → (b ≡ 34 → ⊥) → (b ≡ 92 → ⊥) → Quiet st b
-  unfolding stateAfter hits
+  unfolding stateAfter equalsOutside
   held l q k = record {
     line = l;
     same = rw (z, ne-eqb b 92 k, ne-eqb b 34 q);

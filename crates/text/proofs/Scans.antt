@@ -13,13 +13,13 @@ use Rattle.meaning.specs.declared.Scan.{Scan}
 use Rattle.meaning.specs.Base.{pick, before}
 use Rattle.meaning.specs.declared.StringState.{StringState}
 use Rattle.meaning.specs.declared.StringState.the-variants.{Outside, Inside, Escaped}
-use Rattle.meaning.specs.Quote.{stateAfter, hits, tally, step, scan, fresh, upTo}
+use Rattle.meaning.specs.Quote.{stateAfter, equalsOutside, tally, step, scan, fresh, upTo}
 use Rattle.meaning.specs.Lines.{quotesClosed}
 use Rattle.laws.specs.Cases.{on, never}
 use Rattle.laws.specs.Parts.{rest-of}
 use Rattle.laws.specs.Scans.{step-opens, step-closes}
 use Rattle.slices.specs.Found.{Found}
-use Rattle.text.specs.Runs.{Quoted}
+use Rattle.text.specs.Runs.{StringEnd}
 
 pub step-is : (c : Scan) (b : ℕ) (n : StringState) (o k : ℕ) → n ≡ stateAfter (c .state) b
     → o ≡ tally 91 (c .state) b (c .opens) → k ≡ tally 93 (c .state) b (c .closes)
@@ -56,15 +56,15 @@ pub record Quoting (s : List ℕ) (i : ℕ) (st : StringState) : Type 0 where
   pub inside : quotesClosed st ≡ false
   pub left : (c : ℕ) → upTo c Inside s ≡ i + upTo c st (drop i s)
 
-pub quoted-start : (s : List ℕ) → Quoting s 0 Inside
-quoted-start s = record { high = omega arith; inside = refl; left = λ c. omega arith }
+pub quoting-start : (s : List ℕ) → Quoting s 0 Inside
+quoting-start s = record { high = omega arith; inside = refl; left = λ c. omega arith }
 
 -- inside a string nothing is found
-no-hit : (c : ℕ) (st : StringState) (b : ℕ) → quotesClosed st ≡ false → hits c st b ≡ false
-unfolding hits
-no-hit c Outside b e = never refl e
-no-hit c Inside b e = refl
-no-hit c Escaped b e = refl
+none-inside : (c : ℕ) (st : StringState) (b : ℕ) → quotesClosed st ≡ false → equalsOutside c st b ≡ false
+unfolding equalsOutside
+none-inside c Outside b e = never refl e
+none-inside c Inside b e = refl
+none-inside c Escaped b e = refl
 
 -- where quotes are closed the state is that outside strings
 closed-is : (st : StringState) → quotesClosed st ≡ true → st ≡ Outside
@@ -74,20 +74,20 @@ closed-is Escaped e = never e refl
 
 module _ (s : List ℕ) (i : ℕ) (st : StringState) (k : Quoting s i st) where
   module _ (h : i < length s) (n : StringState) (g : n ≡ stateAfter st (getD s i 0)) (r : Bool) (q : r ≡ quotesClosed n) where
-    quoted-left : (c : ℕ) → upTo c Inside s ≡ i + 1 + upTo c n (drop (i + 1) s)
-    quoted-left c =
+    quoting-left : (c : ℕ) → upTo c Inside s ≡ i + 1 + upTo c n (drop (i + 1) s)
+    quoting-left c =
         let t : upTo c st (drop i s) ≡ suc (upTo c n (drop (i + 1) s)) =
-        rw (drop-cons s i 0 h, add-one, no-hit c st (getD s i 0) (k .inside), ← g) in
+        rw (drop-cons s i 0 h, add-one, none-inside c st (getD s i 0) (k .inside), ← g) in
         omega (arith, k .left c)
 
-    pub quoted-on : r ≡ false → Quoting s (i + 1) n
-    quoted-on z = record { high = omega arith; inside = sym q ∙ z; left = quoted-left }
+    pub quoting-on : r ≡ false → Quoting s (i + 1) n
+    quoting-on z = record { high = omega arith; inside = sym q ∙ z; left = quoting-left }
 
-    pub quoted-out : r ≡ true → Quoted s (i + 1)
-    quoted-out z = record { fits = omega arith; is = rw (closed-is n (sym q ∙ z)) at quoted-left }
+    pub quoting-out : r ≡ true → StringEnd s (i + 1)
+    quoting-out z = record { fits = omega arith; is = rw (closed-is n (sym q ∙ z)) at quoting-left }
 
-  pub quoted-end : length s ≤ i → Quoted s i
-  quoted-end h = record { fits = k .high; is = λ c. rw (drop-of-length-le s h) (rw (drop-of-length-le s h) at (k .left c)) }
+  pub quoting-end : length s ≤ i → StringEnd s i
+  quoting-end h = record { fits = k .high; is = λ c. rw (drop-of-length-le s h) (rw (drop-of-length-le s h) at (k .left c)) }
 
 -- ---- the first byte c outside a string
 pub record Seeking (s : List ℕ) (c i : ℕ) : Type 0 where
@@ -97,28 +97,28 @@ pub record Seeking (s : List ℕ) (c i : ℕ) : Type 0 where
 module _ (s : List ℕ) (c i : ℕ) (k : Seeking s c i) where
   module _ (h : i < length s) where
     pub seek-hit : getD s i 0 ≡ c → i ≡ upTo c Outside s
-    unfolding hits
+    unfolding equalsOutside
     seek-hit e =
         let t : upTo c Outside (drop i s) ≡ 0 = rw (drop-cons s i 0 h, eq-eqb (getD s i 0) c e) in
         omega (arith, k .left)
 
     module _ (n : getD s i 0 ≡ c → ⊥) where
       pub seek-on : (getD s i 0 ≡ 34 → ⊥) → Seeking s c (i + 1)
-      unfolding hits stateAfter
+      unfolding equalsOutside stateAfter
       seek-on q =
           let t : upTo c Outside (drop i s) ≡ suc (upTo c Outside (drop (i + 1) s)) =
           rw (drop-cons s i 0 h, add-one, ne-eqb (getD s i 0) c n, ne-eqb (getD s i 0) 34 q) in
           record { high = omega arith; left = omega (arith, k .left) }
 
-      module _ (q : getD s i 0 ≡ 34) (m : ℕ) (p : Quoted (take (length s - (i + 1)) (drop (i + 1) s)) m) where
-        there : Quoted (drop (i + 1) s) m
+      module _ (q : getD s i 0 ≡ 34) (m : ℕ) (p : StringEnd (take (length s - (i + 1)) (drop (i + 1) s)) m) where
+        there : StringEnd (drop (i + 1) s) m
         there = rw (rest-of s (i + 1)) at p
 
         string-bound : i + 1 + m ≤ length s
         string-bound = omega (arith, there .fits, length-drop (i + 1) s)
 
         pub seek-string : Seeking s c (i + 1 + m)
-        unfolding hits stateAfter
+        unfolding equalsOutside stateAfter
         seek-string =
             let t : upTo c Outside (drop i s) ≡ suc (upTo c Inside (drop (i + 1) s)) =
             rw (drop-cons s i 0 h, add-one, ne-eqb (getD s i 0) c n, eq-eqb (getD s i 0) 34 q) in
@@ -130,8 +130,8 @@ module _ (s : List ℕ) (c i : ℕ) (k : Seeking s c i) where
       omega (arith, k .left)
 
 -- a list without c has none outside a string
-none-here : (c : ℕ) (st : StringState) (b : ℕ) → eqb b c ≡ false → hits c st b ≡ false
-unfolding hits
+none-here : (c : ℕ) (st : StringState) (b : ℕ) → eqb b c ≡ false → equalsOutside c st b ≡ false
+unfolding equalsOutside
 none-here c Outside b e = e
 none-here c Inside b e = refl
 none-here c Escaped b e = refl

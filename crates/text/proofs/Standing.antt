@@ -13,7 +13,7 @@ use lib.Seq.{length-take-le, take-all, getD-take, getD-drop, drop-cons}
 use Rattle.meaning.specs.Base.{pick, before}
 use Rattle.meaning.specs.declared.StringState.{StringState}
 use Rattle.meaning.specs.declared.StringState.the-variants.{Outside, Inside, Escaped}
-use Rattle.meaning.specs.Quote.{stateAfter, hits, upTo}
+use Rattle.meaning.specs.Quote.{stateAfter, equalsOutside, upTo}
 use Rattle.meaning.specs.Lines.{dropCr, kept, physical}
 use Rattle.laws.specs.Cases.{on}
 use Rattle.chars.specs.Under.{or-left, or-right}
@@ -46,8 +46,8 @@ module _ (s : List ℕ) (i m : ℕ) (a : Marking s i m) where
       rw n at (a .all (eqb-true m 0 e))
 
 -- ---- a bare line is kept whole
-no-comment : (st : StringState) (b : ℕ) → Bare b → hits 35 st b ≡ false
-unfolding hits
+no-comment : (st : StringState) (b : ℕ) → Bare b → equalsOutside 35 st b ≡ false
+unfolding equalsOutside
 no-comment Outside b h = ne-eqb b 35 (h .comment)
 no-comment Inside b h = refl
 no-comment Escaped b h = refl

@@ -14,7 +14,7 @@ use Rattle.meaning.specs.declared.StringState.{StringState}
 use Rattle.meaning.specs.declared.StringState.the-variants.{Outside, Inside, Escaped}
 use Rattle.meaning.specs.declared.Scan.{Scan}
 use Rattle.meaning.specs.declared.Fate.the-variants.{Whole, Unended}
-use Rattle.meaning.specs.Quote.{stateAfter, hits}
+use Rattle.meaning.specs.Quote.{stateAfter, equalsOutside}
 use Rattle.meaning.specs.Lines.{quotesClosed, fate}
 
 -- ---- the state after a byte
@@ -43,9 +43,9 @@ module _ (state : StringState) (b : ℕ) where
       stays-in q = rw (i, ne-eqb b 92 k, ne-eqb b 34 q)
 
 -- ---- a byte outside strings
-pub find-outside : (c : ℕ) (state : StringState) (b : ℕ) → state ≡ Outside → eqb b c ≡ hits c state b
-unfolding hits
-find-outside c state b o = rw o
+pub outside-equals : (c : ℕ) (state : StringState) (b : ℕ) → state ≡ Outside → eqb b c ≡ equalsOutside c state b
+unfolding equalsOutside
+outside-equals c state b o = rw o
 
 -- of the variants this is not number 0
 abbrev pub NotOutside : StringState → Type 0
@@ -60,11 +60,11 @@ still-open Outside o = absurd (not-first o)
 still-open Inside o = refl
 still-open Escaped o = refl
 
-pub no-find : (c : ℕ) (state : StringState) (b : ℕ) → NotOutside state → false ≡ hits c state b
-unfolding hits
-no-find c Outside b o = absurd (not-first o)
-no-find c Inside b o = refl
-no-find c Escaped b o = refl
+pub never-inside : (c : ℕ) (state : StringState) (b : ℕ) → NotOutside state → false ≡ equalsOutside c state b
+unfolding equalsOutside
+never-inside c Outside b o = absurd (not-first o)
+never-inside c Inside b o = refl
+never-inside c Escaped b o = refl
 
 -- ---- a line with as many `]` as `[`
 module _ (c : Scan) (r : Bool) (over : c .closes ≤ c .opens) (under : c .opens ≤ c .closes) (e : r ≡ quotesClosed (c .state)) where

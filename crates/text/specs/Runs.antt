@@ -7,14 +7,14 @@ use lib.Dec.{eqb}
 use lib.ListN.{length, take, drop}
 use Rattle.meaning.specs.declared.StringState.{StringState}
 use Rattle.meaning.specs.declared.StringState.the-variants.{Outside, Inside}
-use Rattle.meaning.specs.Quote.{stateAfter, hits, upTo}
+use Rattle.meaning.specs.Quote.{stateAfter, equalsOutside, upTo}
 
 -- in string state st the byte b ends no line, opens and closes nothing
 pub record Quiet (st : StringState) (b : ℕ) : Type 0 where
   pub line : b ≡ 10 → ⊥
   pub same : stateAfter st b ≡ st
-  pub opens : hits 91 st b ≡ false
-  pub closes : hits 93 st b ≡ false
+  pub opens : equalsOutside 91 st b ≡ false
+  pub closes : equalsOutside 93 st b ≡ false
 
 -- the bit of b's number modulo 64 is up in a set of 64
 abbrev pub marked : ℕ → ℕ → Bool
@@ -29,7 +29,8 @@ pub record Run (st : StringState) (s : List ℕ) (r : ℕ) : Type 0 where
   pub fits : r ≤ length s
   pub all : Quiets st (take r s)
 
--- s stands inside a string, which ends with its first r bytes, or with all of them: the bytes after them stand outside, whatever is looked for
-pub record Quoted (s : List ℕ) (r : ℕ) : Type 0 where
+-- s stands inside a string, which ends with its first r bytes, or with all of them: the bytes after them stand outside,
+-- whatever is looked for
+pub record StringEnd (s : List ℕ) (r : ℕ) : Type 0 where
   pub fits : r ≤ length s
   pub is : (c : ℕ) → upTo c Inside s ≡ r + upTo c Outside (drop r s)

@@ -14,7 +14,7 @@ ghost use Rattle.text.specs.Laid.{Begins, Fitting, Lays1, Lays, Bare, Ba
 ghost use Rattle.text.specs.Walk as walk;
 ghost use Rattle.text.specs.Answers.{Between, Checks, Roomy, Reads};
 ghost use Rattle.text.specs.Runs as runs;
-ghost use Rattle.text.specs.Runs.{Quiet, Run, Quoted};
+ghost use Rattle.text.specs.Runs.{Quiet, Run, StringEnd};
 
 // A place between joined lines of a laid text: an offset, and the number of the line there.
 pub struct Place {
@@ -90,8 +90,8 @@ fn state_after(state: StringState, b: u8) -> StringState
 }
 
 // Whether b is c, outside a string.
-pub fn hits(c: u8, state: StringState, b: u8) -> bool
-    ensures { λ r. ⌜ r ≡ quotes.hits c state b ⌝ }
+pub fn equals_outside(c: u8, state: StringState, b: u8) -> bool
+    ensures { λ r. ⌜ r ≡ quotes.equalsOutside c state b ⌝ }
 {
     match state {
         StringState::Outside => b == c,
@@ -104,7 +104,7 @@ fn tally(c: u8, state: StringState, b: u8, n: usize) -> usize
     requires { ⌜ n < 18446744073709551615 ⌝ }
     ensures { λ r. ⌜ r ≡ quotes.tally c state b n ⌝ }
 {
-    if hits(c, state, b) {
+    if equals_outside(c, state, b) {
         return n + 1;
     }
     n
@@ -195,8 +195,8 @@ fn quotes_closed(state: StringState) -> bool
 }
 
 // How many bytes a string has from after its opening quote on, with the closing one; or all of them.
-fn quoted(s: &[u8]) -> usize
-    ensures { λ r. ⌜ Quoted (now (s .entry)) r ⌝ }
+fn string_end(s: &[u8]) -> usize
+    ensures { λ r. ⌜ StringEnd (now (s .entry)) r ⌝ }
 {
     let mut i = 0;
     let mut state = StringState::Inside;
@@ -222,7 +222,7 @@ pub fn outside(s: &[u8], c: u8) -> usize
         }
         if b == b'"' {
             i += 1;
-            let n = quoted(&s[i..]);
+            let n = string_end(&s[i..]);
             i += n;
         } else {
             i += 1;

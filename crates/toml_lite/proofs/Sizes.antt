@@ -16,7 +16,7 @@ use Rattle.meaning.specs.Strings.{Ending, closed, escape, unended, decode}
 use Rattle.meaning.specs.Integers.{clean, most, within, magnitude, sign, body, signed}
 use Rattle.meaning.specs.Integers as ints
 use Rattle.meaning.specs.declared.Signed.{Signed}
-use Rattle.meaning.specs.Values.{parts?}
+use Rattle.meaning.specs.Values.{separates?}
 use Rattle.laws.specs.Cases.{on, picked}
 use Rattle.tree.specs.declared.Slot.{Slot}
 use Rattle.tree.specs.Room.{Sized}
@@ -146,9 +146,9 @@ module _ (limit : ℕ) (few : limit < 65000) where
   unfolding valueOut
   brackets-bare zero parent used made s p l m = rw (brackets-none limit parent used made s) (wrong-bare 14 [])
   brackets-bare (suc depth) parent used made s p l m =
-      let ls : List (List ℕ) = split fresh step parts? fresh (take (length s - 1) s) in
+      let ls : List (List ℕ) = split fresh step separates? fresh (take (length s - 1) s) in
       let v : ℕ → ℕ → List ℕ → Out = λ u n x. oneOut limit (bracketsOut limit depth) (made + 2) u n (trim x) in
-      let t : used + total ls < 65536 = omega (arith, split-short fresh step parts? fresh (take (length s - 1) s), length-take (length s - 1) s) in
+      let t : used + total ls < 65536 = omega (arith, split-short fresh step separates? fresh (take (length s - 1) s), length-take (length s - 1) s) in
       rw (brackets-by limit depth parent used made s)
       (picked Bare (eqb (final s) 93)
       (λ _. picked Bare (leb limit made) (λ _. wrong-bare 16 [])

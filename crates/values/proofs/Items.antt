@@ -13,7 +13,7 @@ use borrow.Author.Tests.{ltb-false, eq-eqb}
 use Rattle.meaning.specs.Base.{pick}
 use Rattle.meaning.specs.Space.{blank}
 use Rattle.meaning.specs.Quote.{fresh, step}
-use Rattle.meaning.specs.Values.{parts?}
+use Rattle.meaning.specs.Values.{separates?}
 use Rattle.laws.specs.Cases.{on}
 use Rattle.laws.specs.Parts.{rest-of}
 use Rattle.laws.specs.Splits.{others, split-step}
@@ -41,7 +41,7 @@ module _ (limit depth parent : ℕ) where
   list-nil u m = rw blank-nil
 
   -- no further part is as good as an empty one
-  rest-same : (k u m : ℕ) (t : List ℕ) → itemsOut limit one u m (others step parts? fresh k t) ≡ list u m (drop (suc k) t)
+  rest-same : (k u m : ℕ) (t : List ℕ) → itemsOut limit one u m (others step separates? fresh k t) ≡ list u m (drop (suc k) t)
   unfolding listOut
   rest-same k u m t =
       on (ltb k (length t)) (λ e. rw e)
@@ -54,9 +54,9 @@ module _ (limit depth parent : ℕ) where
   abbrev headed : ℕ → ℕ → ℕ → List ℕ → (ℕ → ℕ → Out) → Out
   headed u m k t f = pick (blank (take k t)) (f u m) (andThen u m (one u m (take k t)) f)
 
-  first : (u m : ℕ) (t : List ℕ) → list u m t ≡ headed u m (itemSize t) t (λ x y. itemsOut limit one x y (others step parts? fresh (itemSize t) t))
+  first : (u m : ℕ) (t : List ℕ) → list u m t ≡ headed u m (itemSize t) t (λ x y. itemsOut limit one x y (others step separates? fresh (itemSize t) t))
   unfolding listOut
-  first u m t = ap (itemsOut limit one u m) (split-step step parts? fresh fresh t)
+  first u m t = ap (itemsOut limit one u m) (split-step step separates? fresh fresh t)
 
   -- the first item, and those after its comma
   pub next-list : (u m : ℕ) (t : List ℕ) → list u m t ≡ headed u m (itemSize t) t (λ x y. list x y (drop (suc (itemSize t)) t))

@@ -19,7 +19,7 @@ use Rattle.meaning.specs.Integers.{signed, integer, numberOf}
 use Rattle.meaning.specs.declared.Signed.{Signed}
 use Rattle.meaning.specs.Reading.{Got, got, failed, storing, adding, gotThen, gotMap, okThenGot, make}
 use Rattle.meaning.specs.Tree.{Value, Items, str, int, boolean, array, item}
-use Rattle.meaning.specs.Values.{stringOf, plain, parts?, nonblank, itemsOf, Reader, each, aString, aPlain, one, anArray, brackets, value}
+use Rattle.meaning.specs.Values.{stringOf, plain, separates?, nonblank, itemsOf, Reader, each, aString, aPlain, one, anArray, brackets, value}
 use Rattle.tree.specs.declared.Slot.{Slot}
 use Rattle.laws.specs.Cases.{on, picked}
 use Rattle.values.specs.Out.{Out, fine, wrong, join, andThen}
@@ -217,7 +217,7 @@ module _ (limit : ℕ) where
       ≡ pick (eqb (final s) 93)
       (pick (leb limit made) (wrong 16 [])
       (join (fine [] (arraySlot parent ∷ []))
-      (itemsOut limit (λ u m l. oneOut limit (bracketsOut limit depth) (made + 2) u m (trim l)) used (made + 1) (split fresh step parts? fresh (take (length s - 1) s)))))
+      (itemsOut limit (λ u m l. oneOut limit (bracketsOut limit depth) (made + 2) u m (trim l)) used (made + 1) (split fresh step separates? fresh (take (length s - 1) s)))))
       (wrong 11 [])
   unfolding bracketsOut openOut makes
   brackets-by depth parent used made s =
@@ -232,11 +232,11 @@ module _ (limit : ℕ) where
       (λ e. on (leb limit made) (λ f. rw (e, f) (record { is = refl; some = λ z. omega arith }))
       (λ f. rw (e, f)
       (boxed parent used made
-      (each (λ l. one limit (brackets limit depth) (trim l)) (nonblank (split fresh step parts? fresh (take (length s - 1) s))) (made + 1))
-      (itemsOut limit (λ u m l. oneOut limit (bracketsOut limit depth) (made + 2) u m (trim l)) used (made + 1) (split fresh step parts? fresh (take (length s - 1) s)))
+      (each (λ l. one limit (brackets limit depth) (trim l)) (nonblank (split fresh step separates? fresh (take (length s - 1) s))) (made + 1))
+      (itemsOut limit (λ u m l. oneOut limit (bracketsOut limit depth) (made + 2) u m (trim l)) used (made + 1) (split fresh step separates? fresh (take (length s - 1) s)))
       (items-meet (made + 2) (λ l. one limit (brackets limit depth) (trim l)) (λ u m l. oneOut limit (bracketsOut limit depth) (made + 2) u m (trim l))
       (λ u m l. one-meets (brackets limit depth) (bracketsOut limit depth) (λ p u n t. brackets-meet depth p u n t) (made + 2) u m (trim l))
-      (split fresh step parts? fresh (take (length s - 1) s)) used (made + 1)))))
+      (split fresh step separates? fresh (take (length s - 1) s)) used (made + 1)))))
       (λ e. rw e (record { is = refl; some = λ z. omega arith })))
 
   pub value-meets : (depth parent used made : ℕ) (s : List ℕ) → Meets (Lays parent used made) (value limit depth s made) (valueOut limit depth parent used made s)

@@ -19,7 +19,7 @@ use Rattle.meaning.specs.declared.Act.{Act}
 use Rattle.meaning.specs.declared.Act.the-variants.{End, Hold, Put, Fault}
 use Rattle.meaning.specs.Integers.{signed}
 use Rattle.meaning.specs.declared.Signed.{Signed}
-use Rattle.meaning.specs.Values.{parts?}
+use Rattle.meaning.specs.Values.{separates?}
 use Rattle.tree.specs.declared.Slot.{Slot}
 use Rattle.laws.specs.Cases.{on, picked}
 use Rattle.laws.specs.Trim.{on-bytes, forwards, backwards, whiteAt, whiteEnd}
@@ -167,13 +167,13 @@ module _ (limit : ℕ) where
   pub brackets-bounded : (depth parent used made : ℕ) (s : List ℕ) → Bounded limit made (length s) (bracketsOut limit depth parent used made s)
   brackets-bounded zero parent used made s = rw (brackets-none limit parent used made s) (wrong-bounded made (length s) 14 [] (omega arith))
   brackets-bounded (suc depth) parent used made s =
-      let ls : List (List ℕ) = split fresh step parts? fresh (take (length s - 1) s) in
+      let ls : List (List ℕ) = split fresh step separates? fresh (take (length s - 1) s) in
       let v : ℕ → ℕ → List ℕ → Out = λ u m l. oneOut limit (bracketsOut limit depth) (made + 2) u m (trim l) in
       let a : Bounded limit (made + 1) (total ls) (itemsOut limit v used (made + 1) ls) =
       items-bounded v (λ u m l. trim-bounded (bracketsOut limit depth) (λ q w n t. brackets-bounded depth q w n t) (made + 2) u m l) ls used (made + 1) in
       let b : Bounded limit (made + 1) (length s) (itemsOut limit v used (made + 1) ls) =
       record {
-        short = omega (arith, a .short, split-short fresh step parts? fresh (take (length s - 1) s), length-take (length s - 1) s);
+        short = omega (arith, a .short, split-short fresh step separates? fresh (take (length s - 1) s), length-take (length s - 1) s);
         most = a .most;
       } in
       rw (brackets-by limit depth parent used made s)

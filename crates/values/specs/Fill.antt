@@ -12,7 +12,7 @@ use Rattle.meaning.specs.declared.StringByte.the-variants.{Plain}
 use Rattle.meaning.specs.Strings.{Ending, closed, escape, unended, decode}
 use Rattle.meaning.specs.Integers.{signed}
 use Rattle.meaning.specs.declared.Signed.{Signed}
-use Rattle.meaning.specs.Values.{parts?}
+use Rattle.meaning.specs.Values.{separates?}
 use Rattle.tree.specs.declared.Slot.{Slot}
 use Rattle.values.specs.Out.{Out, fine, wrong, andThen}
 
@@ -89,14 +89,14 @@ module _ (limit : ℕ) where
   bracketsOut zero parent used made s = wrong 14 []
   bracketsOut (suc depth) parent used made s =
       andThen used made (openOut parent made s)
-      (λ u m. itemsOut (λ v n l. oneOut (bracketsOut depth) (made + 2) v n (trim l)) u m (split fresh step parts? fresh (take (length s - 1) s)))
+      (λ u m. itemsOut (λ v n l. oneOut (bracketsOut depth) (made + 2) v n (trim l)) u m (split fresh step separates? fresh (take (length s - 1) s)))
 
   unfoldable pub valueOut : ℕ → ℕ → ℕ → ℕ → List ℕ → Out
   valueOut depth parent used made s = oneOut (bracketsOut depth) parent used made (trim s)
 
   -- the items of a text, each a value under the parent
   unfoldable pub listOut : ℕ → ℕ → ℕ → ℕ → List ℕ → Out
-  listOut depth parent used made s = itemsOut (λ u m l. valueOut depth parent u m l) used made (split fresh step parts? fresh s)
+  listOut depth parent used made s = itemsOut (λ u m l. valueOut depth parent u m l) used made (split fresh step separates? fresh s)
 
 unfoldable pub computes : Unit {0}
 unfolding makes stringOut plainOut oneOut openOut bracketsOut valueOut listOut Rattle.meaning.specs.Values.computes

@@ -1,4 +1,4 @@
-// Where the items of an array part.
+// Where the items of an array end.
 
 use meaning::Scan;
 use meaning::StringState;
@@ -6,18 +6,18 @@ ghost use mathlib.Core.Path.{_≡_};
 ghost use Rattle.meaning.specs.Values as meant;
 ghost use Rattle.values.specs.Item.{Item};
 
-// Whether b parts two items.
-fn parts(c: Scan, b: u8) -> bool
-    ensures { λ r. ⌜ r ≡ meant.parts? c b ⌝ }
+// Whether b separates two items.
+fn separates(c: Scan, b: u8) -> bool
+    ensures { λ r. ⌜ r ≡ meant.separates? c b ⌝ }
 {
     let state = c.state;
-    if text::hits(b',', state, b) {
+    if text::equals_outside(b',', state, b) {
         return c.opens == c.closes;
     }
     false
 }
 
-// How many bytes stand before the first comma that parts items, or all of them.
+// How many bytes stand before the first comma that separates items, or all of them.
 pub fn item(s: &[u8]) -> usize
     ensures { λ r. ⌜ Item (now (s .entry)) r ⌝ }
 {
@@ -29,7 +29,7 @@ pub fn item(s: &[u8]) -> usize
     };
     while i < s.len() {
         let b = s[i];
-        if parts(x, b) {
+        if separates(x, b) {
             return i;
         }
         x = text::step(x, b);

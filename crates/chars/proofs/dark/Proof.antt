@@ -1,3 +1,4 @@
+-- True is said only of a byte over 32 and below 128, which is no white space; of false nothing is claimed.
 use borrow.Author.Needs.{needs}
 use mathlib.Core.Bool.{false}
 use mathlib.Core.Path.{refl}

@@ -1,3 +1,4 @@
+-- No byte is over the bitwise or of all eight, so one test below 128 bounds each; of false nothing is claimed.
 use mathlib.Core.Bool.{false}
 use mathlib.Core.Path.{refl}
 use Rattle.laws.specs.Cases.{never}

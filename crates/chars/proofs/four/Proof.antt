@@ -1,3 +1,4 @@
+-- The three rows of UTF8-4 are tried in the definition's order: one that fits says true, and the last decides.
 use Rattle.chars.specs.Rows.{four}
 use Rattle.laws.specs.Tests.{calls}
 use borrow.Author.Needs.{needs}

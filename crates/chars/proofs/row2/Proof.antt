@@ -1,3 +1,4 @@
+-- Where the first byte is in its range the second decides, as in the definition, and elsewhere both say false.
 use Rattle.chars.specs.Rows.{row2}
 use Rattle.laws.specs.Tests.{calls}
 use borrow.Author.Needs.{needs}

@@ -1,3 +1,4 @@
+-- The second byte is asked where the first is in range, the third where both are; else code and definition say false.
 use Rattle.chars.specs.Rows.{row3}
 use Rattle.laws.specs.Tests.{calls}
 use borrow.Author.Needs.{needs}

@@ -1,3 +1,4 @@
+-- Where the first three bytes are a row the fourth decides, as in the definition, and elsewhere both say false.
 use Rattle.chars.specs.Rows.{row4}
 use Rattle.laws.specs.Tests.{calls}
 use borrow.Author.Needs.{needs}

@@ -1,3 +1,4 @@
+-- True is said only where the first byte and the last are dark; of false, as for an empty text, nothing is claimed.
 use borrow.Author.Needs.{needs}
 use mathlib.Core.Bool.{false}
 use mathlib.Core.Path.{refl}

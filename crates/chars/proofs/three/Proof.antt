@@ -1,3 +1,4 @@
+-- The four rows of UTF8-3 are tried in the definition's order: one that fits says true, and the last decides.
 use Rattle.chars.specs.Rows.{three}
 use Rattle.laws.specs.Tests.{calls}
 use borrow.Author.Needs.{needs}

@@ -1,3 +1,4 @@
+-- Without a character it is 0; a character has at most 4 bytes, all in s, so its code point is read, and that decides.
 use Rattle.chars.proofs.Spaces.{at-none, in-reach, at-white, at-plain}
 use borrow.Author.Needs.{needs}
 use Rattle.chars.proofs.white_at.Statement.{statement}

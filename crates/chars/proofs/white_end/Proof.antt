@@ -1,3 +1,4 @@
+-- Widths 1 to 4 are tried in the definition's order: the first at which s ends in white space is it, else it is 0.
 use Rattle.laws.specs.Trim.{whiteEnd}
 use Rattle.laws.specs.Tests.{calls}
 use borrow.Author.Needs.{needs}

@@ -1,3 +1,4 @@
+-- The span lies in the rooms and holds all items of the list, so the items counted there are all of them.
 use borrow.Author.Needs.{needs}
 use Rattle.features.proofs.Tallying.{span-in, span-all}
 use Rattle.features.proofs.count_features.Statement.{statement}

@@ -1,3 +1,4 @@
+-- Of no list and of a string the span is all values, and of an array it is what `fields_at` says of its place.
 use borrow.Author.Needs.{needs}
 use Rattle.features.proofs.Tallying.{span-items, span-not}
 use Rattle.features.proofs.span.Statement.{statement}

@@ -1,3 +1,4 @@
+-- An empty name has the early fault 42 and any other name 0, and the late fault is what `span_fault` says.
 use borrow.Author.Needs.{needs}
 use mathlib.Core.Logic.{⊎-elim}
 use Rattle.layout.proofs.Marking.{mark-empty, mark-named}

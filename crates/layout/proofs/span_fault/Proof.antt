@@ -1,3 +1,4 @@
+-- 44 to 47 are tested in the definition's order, and where none is met the exact end decides between 48 and 0.
 use borrow.Author.Needs.{needs}
 use native.Mathlib.Omega.{arith}
 use Rattle.laws.specs.Tests.{tests}

@@ -1,3 +1,4 @@
+-- An empty text is laid as itself, and so is one that ends in LF without `#` or CR; of false nothing is claimed.
 use borrow.Author.Needs.{needs}
 use mathlib.Core.Bool.{false}
 use mathlib.Core.Path.{refl}

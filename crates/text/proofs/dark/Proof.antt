@@ -1,3 +1,4 @@
+-- A byte over 32 and below 128 is no LF and no white space, so no line begun by it is blank; false claims nothing.
 use mathlib.Core.Bool.{false}
 use mathlib.Core.Path.{refl}
 use Rattle.laws.specs.Cases.{never}

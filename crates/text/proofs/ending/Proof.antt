@@ -1,3 +1,4 @@
+-- The definition asks the same of m: 1 is nothing, and any other number is a line that is still open.
 use Rattle.laws.specs.Tests.{tests}
 use Rattle.text.specs.Walk.{ending}
 use Rattle.text.proofs.ending.Statement.{statement}

@@ -1,3 +1,4 @@
+-- The counts are compared in the definition's order, and where neither is larger the string state decides.
 use Rattle.meaning.specs.Lines.{fate}
 use Rattle.laws.specs.Tests.{tests}
 use borrow.Author.Needs.{needs}

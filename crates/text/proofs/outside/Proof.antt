@@ -24,17 +24,17 @@ returns c = search (needs, seek-hit)
 add-i : tie.Need-add-i Inv-loop μ-loop
 add-i c = search needs
 
-sub-quoted : tie.Need-sub-quoted Inv-loop μ-loop
-sub-quoted c = search needs
+sub-string-end : tie.Need-sub-string-end Inv-loop μ-loop
+sub-string-end c = search needs
 
-part-quoted-start : tie.Need-part-quoted-start Inv-loop μ-loop
-part-quoted-start c = search needs
+part-string-end-start : tie.Need-part-string-end-start Inv-loop μ-loop
+part-string-end-start c = search needs
 
-part-quoted-end : tie.Need-part-quoted-end Inv-loop μ-loop
-part-quoted-end c = search needs
+part-string-end-end : tie.Need-part-string-end-end Inv-loop μ-loop
+part-string-end-end c = search needs
 
-quoted-requires : tie.Need-quoted-requires Inv-loop μ-loop
-quoted-requires c κs = search needs
+string-end-requires : tie.Need-string-end-requires Inv-loop μ-loop
+string-end-requires c κs = search needs
 
 add-i-2 : tie.Need-add-i-2 Inv-loop μ-loop
 add-i-2 c = search needs
@@ -67,10 +67,10 @@ outside-spec =
     shared-slice-read-b
     returns
     add-i
-    sub-quoted
-    part-quoted-start
-    part-quoted-end
-    quoted-requires
+    sub-string-end
+    part-string-end-start
+    part-string-end-end
+    string-end-requires
     add-i-2
     loop-less
     loop-again

@@ -1,3 +1,4 @@
+-- In each arm the state is known, and the bytes that change it are tested there in the definition's order.
 use Rattle.meaning.specs.Quote.{stateAfter}
 use Rattle.text.proofs.States.{opens, stays-out, escapes, closes, stays-in}
 use borrow.Author.Needs.{needs}

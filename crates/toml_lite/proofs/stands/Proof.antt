@@ -1,3 +1,4 @@
+-- True is said only of a text within the limit that is clean and valid; of false nothing is claimed.
 use borrow.Author.Needs.{needs}
 use mathlib.Core.Bool.{false}
 use mathlib.Core.Path.{refl}

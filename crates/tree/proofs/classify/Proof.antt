@@ -1,3 +1,4 @@
+-- Each of the six kinds gives the value of its own arm, and any other number is absent, as in the definition.
 use Rattle.tree.proofs.Opening.{kind-integer, kind-flag, kind-array, kind-table, kind-minus}
 use Rattle.tree.specs.Doors.{valueOf}
 use Rattle.laws.specs.Tests.{tests}

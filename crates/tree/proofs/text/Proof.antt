@@ -1,3 +1,4 @@
+-- Data over 32 bits give nothing; else start and length are below 65,536, their sum is exact, and the size decides.
 use Rattle.tree.specs.Doors.{textOf}
 use Rattle.laws.specs.Tests.{tests}
 use borrow.Author.Needs.{needs}

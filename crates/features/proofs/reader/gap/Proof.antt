@@ -1,3 +1,4 @@
+-- A space is a gap by the first test, and of any other byte the test for a comma decides, as in the definition.
 use Rattle.laws.specs.Tests.{tests}
 use Rattle.meaning.specs.Features.{gap}
 use Rattle.features.proofs.reader.gap.Statement.{statement}

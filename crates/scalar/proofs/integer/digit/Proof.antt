@@ -1,3 +1,4 @@
+-- The bounds of the three ranges are tested in the definition's order, and no byte there is below what is taken off.
 use Rattle.meaning.specs.Integers.{digit}
 use Rattle.laws.specs.Tests.{tests}
 use borrow.Author.Needs.{needs}

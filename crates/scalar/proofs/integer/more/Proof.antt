@@ -1,3 +1,4 @@
+-- An acc over limit / base is too large with any digit; else acc * base is at most limit, and nothing wraps.
 use Rattle.scalar.proofs.Integers.{under, more-stray, more-over, more-big, more-fits}
 use native.Mathlib.Omega.{arith}
 use borrow.Author.Needs.{needs}

@@ -1,3 +1,4 @@
+-- For each sign the definition computes to the figure: 2^63 with a minus, and one less without.
 use Rattle.meaning.specs.Integers.{most}
 use borrow.Author.Needs.{needs}
 use Rattle.scalar.proofs.integer.most.Statement.{statement}

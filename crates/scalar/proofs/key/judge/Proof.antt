@@ -1,3 +1,4 @@
+-- Without the end quote the segment is malformed, and with it only an empty one is, tested in the definition's order.
 use Rattle.laws.specs.Tests.{tests}
 use Rattle.scalar.specs.Segments.{judged}
 use Rattle.scalar.proofs.key.judge.Statement.{statement}

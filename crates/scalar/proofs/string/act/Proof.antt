@@ -1,3 +1,4 @@
+-- In each arm the state is known, and its bytes are tested in the definition's order: two, or the five of an escape.
 use Rattle.meaning.specs.Strings.{actOf}
 use Rattle.laws.specs.Tests.{tests}
 use Rattle.scalar.proofs.Decoding.{act-at}

@@ -1,3 +1,4 @@
+-- The three words are tried in the definition's order: one that fits gives its kind, and where none does it is 22.
 use Rattle.laws.specs.Tests.{calls}
 use Rattle.schema.specs.Words.{kindRead}
 use borrow.Author.Needs.{needs}

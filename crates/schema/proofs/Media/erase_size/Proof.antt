@@ -1,3 +1,4 @@
+-- The arm says which medium it is, and of that medium the definition computes to the same figure.
 use Rattle.schema.proofs.Wording.{erase-for}
 use Rattle.meaning.specs.Schema.{erase}
 use borrow.Author.Needs.{needs}

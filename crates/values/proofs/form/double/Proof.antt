@@ -1,3 +1,4 @@
+-- A line under 4 bytes is none; of any other the two first and two last bytes are tested in the definition's order.
 use Rattle.meaning.specs.Document as meant
 use Rattle.laws.specs.Tests.{tests}
 use borrow.Author.Needs.{needs}

@@ -1,3 +1,4 @@
+-- A line under 2 bytes is none; of any other the first, second and last are tested in the definition's order.
 use Rattle.meaning.specs.Document as meant
 use Rattle.laws.specs.Tests.{tests}
 use borrow.Author.Needs.{needs}

@@ -1,4 +1,4 @@
--- No comma before i parts items, and the scan is that of the bytes before i.
+-- No comma before i separates items, and the scan is that of the bytes before i.
 use borrow.Author.Needs.{needs}
 use Rattle.values.proofs.Parting.{Parting, part-start, part-on, part-hit, part-end}
 use lib.ListN.{length}
@@ -7,7 +7,7 @@ use Rattle.values.proofs.splitting.item.Statement.{statement}
 use Rattle.values.proofs.splitting.item.Tie as tie
 use Rattle.values.proofs.splitting.item.Reads as reads
 use Rattle.values.proofs.splitting.item.Lts as lts
-use Rattle.values.proofs.splitting.parts.Reads as parts-reads
+use Rattle.values.proofs.splitting.separates.Reads as separates-reads
 use Rattle.text.proofs.step.Reads as step-reads
 
 abbrev Inv-loop : tie.InvT-loop
@@ -22,8 +22,8 @@ loop-holds c = search (needs, part-start)
 shared-slice-read-b : tie.Need-shared-slice-read-b Inv-loop μ-loop
 shared-slice-read-b c = search needs
 
-parts-requires : tie.Need-parts-requires Inv-loop μ-loop
-parts-requires c κs = search needs
+separates-requires : tie.Need-separates-requires Inv-loop μ-loop
+separates-requires c κs = search needs
 
 returns : tie.Need-returns Inv-loop μ-loop
 returns c = search (needs, part-hit)
@@ -51,7 +51,7 @@ item-spec =
     μ-loop
     loop-holds
     shared-slice-read-b
-    parts-requires
+    separates-requires
     returns
     step-requires
     add-i
