@@ -80,7 +80,7 @@ pub extern "C" fn text_valid(s: &[u8]) -> bool
 pub extern "C" fn text_kept(line: &[u8]) -> usize
     ensures { λ r. ⌜ r ≡ quotes.upTo 35 StringState.Outside (now (line .entry)) ⌝ }
 {
-    text::outside(line, b'#')
+    text::find_outside(line, b'#')
 }
 
 // The number of a string state: 0 outside a string, 1 inside, 2 inside and after a backslash.

@@ -211,7 +211,7 @@ fn string_end(s: &[u8]) -> usize
 }
 
 // How many bytes stand before the first c outside a string, or all of them.
-pub fn outside(s: &[u8], c: u8) -> usize
+pub fn find_outside(s: &[u8], c: u8) -> usize
     ensures { λ r. ⌜ r ≡ quotes.upTo c StringState.Outside (now (s .entry)) ⌝ }
 {
     let mut i = 0;
@@ -273,7 +273,7 @@ fn kept(line: &[u8]) -> usize
     if slices::find(line, b'#') == line.len() {
         return line.len();
     }
-    outside(line, b'#')
+    find_outside(line, b'#')
 }
 
 // Lays a line and an LF at the head of out.

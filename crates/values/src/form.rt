@@ -59,7 +59,7 @@ pub fn classify(l: &[u8]) -> Form
     if single(l) {
         return Form::Heads;
     }
-    let at = text::outside(l, b'=');
+    let at = text::find_outside(l, b'=');
     if at < l.len() {
         return Form::Sets(at);
     }

@@ -9,11 +9,11 @@ find-requires c κs = search needs
 returns : tie.Need-returns
 returns c = search (needs, found-none)
 
-outside-requires : tie.Need-outside-requires
-outside-requires c κs = search needs
+find-outside-requires : tie.Need-find-outside-requires
+find-outside-requires c κs = search needs
 
 returns-2 : tie.Need-returns-2
 returns-2 c = search needs
 
 pub kept-spec : {M : Type 1} → statement M
-kept-spec = tie.close (tie.spec find-requires returns outside-requires returns-2)
+kept-spec = tie.close (tie.spec find-requires returns find-outside-requires returns-2)

@@ -4,7 +4,7 @@ use Rattle.values.proofs.form.classify.Statement.{statement}
 use Rattle.values.proofs.form.classify.Tie as tie
 use Rattle.values.proofs.form.classify.Reads as reads
 use Rattle.values.proofs.form.classify.Lts as lts
-use Rattle.text.proofs.outside.Reads as outside-reads
+use Rattle.text.proofs.find_outside.Reads as find-outside-reads
 use Rattle.values.proofs.form.double.Reads as double-reads
 use Rattle.values.proofs.form.single.Reads as single-reads
 
@@ -20,8 +20,8 @@ single-requires c κs = search needs
 returns-2 : tie.Need-returns-2
 returns-2 c = search (needs, heads)
 
-outside-requires : tie.Need-outside-requires
-outside-requires c κs = search needs
+find-outside-requires : tie.Need-find-outside-requires
+find-outside-requires c κs = search needs
 
 returns-3 : tie.Need-returns-3
 returns-3 c = search (needs, sets)
@@ -37,6 +37,6 @@ classify-spec =
     returns
     single-requires
     returns-2
-    outside-requires
+    find-outside-requires
     returns-3
     returns-4)

@@ -3,8 +3,8 @@ use borrow.Author.Needs.{needs}
 use Rattle.text.proofs.Scans.{Seeking, seek-hit, seek-on, seek-string, seek-end}
 use lib.ListN.{length}
 use Prim.Native.Nat.{_-_}
-use Rattle.text.proofs.outside.Statement.{statement}
-use Rattle.text.proofs.outside.Tie as tie
+use Rattle.text.proofs.find_outside.Statement.{statement}
+use Rattle.text.proofs.find_outside.Tie as tie
 
 abbrev Inv-loop : tie.InvT-loop
 Inv-loop s c i₀ i = Seeking s c i
@@ -57,8 +57,8 @@ loop-again-2 c = search (needs, seek-on)
 returns-2 : tie.Need-returns-2 Inv-loop μ-loop
 returns-2 c = search (needs, seek-end)
 
-pub outside-spec : {M : Type 1} → statement M
-outside-spec =
+pub find-outside-spec : {M : Type 1} → statement M
+find-outside-spec =
     tie.close
     (tie.spec
     Inv-loop
