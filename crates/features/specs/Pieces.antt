@@ -100,7 +100,7 @@ module _ (room store : List ℕ) where
     abbrev pub StepsIn : Features → ℕ → Raw → Type 0
     StepsIn f at r = Steps (piecesFrom f) (bound f) at r
 
-    -- "32 counted before that": 25; "feature item, of the wrong kind": 20
+    -- 25: "list too long", told before a "feature item, of the wrong kind": 20
     abbrev pub itemsFault : ℕ → ℕ → ℕ
     itemsFault limit place = pick (ltb limit (length (items room made place 0))) 25 (pick (allTexts (items room made place 0)) 0 20)
 

@@ -22,12 +22,12 @@ use Rattle.toml_lite.specs.Rooms.{judged, treeOf}
 use Rattle.host.specs.declared.documents.Outcome.{Outcome}
 use Rattle.host.specs.declared.documents.At.{At}
 
--- "A refusal returns its number, a section and a place"
+-- "A refusal returns its number, a section .. and a place"
 abbrev pub outcomeOf : Answer Parsed → Outcome
 outcomeOf (accepted p) = record { number = 0; section = 0; place = 0; made = p .made }
 outcomeOf (refused f section place) = record { number = numberOf f; section = section; place = place; made = 0 }
 
--- "every key segment and string value, decoded", then zeros; "all lent rooms then hold zero"
+-- "Every key segment and string value is decoded into the store .. The rest of both rooms is zero"; "all lent rooms then hold zero"
 abbrev pub storeOf : ℕ → Answer Parsed → List ℕ
 storeOf n (accepted p) = over (p .bytes) (zeros n)
 storeOf n (refused f section place) = zeros n

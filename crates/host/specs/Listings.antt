@@ -12,7 +12,7 @@ use Rattle.scalar.specs.Stores.{over}
 use Rattle.host.specs.declared.listings.Listed.{Listed}
 use Rattle.host.specs.Presets.{storeBy, treeBy, Records}
 
--- "A refusal returns its number, a section and a place"
+-- "A refusal returns its number, a section .. and a place"
 abbrev pub listedBy : Answer meant.Listed → Listed
 listedBy (accepted l) = record { number = 0; section = 0; place = 0; written = length (l .lines) }
 listedBy (refused f section place) = record { number = numberOf f; section = section; place = place; written = 0 }

@@ -18,7 +18,7 @@ use Rattle.parse.specs.Whole.{presetMeant}
 use Rattle.host.specs.declared.documents.Outcome.{Outcome}
 use Rattle.host.specs.Documents.{Shown}
 
--- "A refusal returns its number, a section and a place"
+-- "A refusal returns its number, a section .. and a place"
 abbrev pub outcomeBy : Answer Read → Outcome
 outcomeBy (accepted p) = record { number = 0; section = 0; place = 0; made = p .parsed .made }
 outcomeBy (refused f section place) = record { number = numberOf f; section = section; place = place; made = 0 }

@@ -48,7 +48,7 @@ fn span_fault(p: Partition, end: u64, block: u32) -> u32
     0
 }
 
-// "Ends are sums without wrap-around."
+// The end is the sum, without wrap-around.
 pub fn end_of(p: Partition) -> u64
     ensures { λ r. ⌜ r ≡ parts.endOf p ⌝ }
 {

@@ -209,6 +209,6 @@ pub record Roomy (store tree : List ℕ) : Type 0 where
 unfoldable pub suffice : ℕ → ℕ → Bool
 suffice store tree = pick (ltb store 32768) false (pick (ltb tree 65536) false true)
 
--- "17: a lent room is too small", before all else
+-- 17: "a lent room is too small", before all else
 unfoldable pub judged : List ℕ → ℕ → ℕ → Answer Doc
 judged s store tree = pick (suffice store tree) (documentS of01 s) (atNoLine 17)
