@@ -41,7 +41,7 @@ fn wide(b: u8) -> u32
 }
 
 // The byte at i as a wider number, or 0 from the end on.
-fn at(s: &[u8], i: usize) -> u32
+fn byte_or_zero(s: &[u8], i: usize) -> u32
     ensures { λ r. ⌜ (r ≡ getD (now (s .entry)) i 0) × (r < 256) ⌝ }
 {
     wide(slices::peek(s, i))
@@ -116,16 +116,16 @@ fn width(s: &[u8]) -> usize
     if s.len() == 0 {
         return 0;
     }
-    let b = at(s, 0);
+    let b = byte_or_zero(s, 0);
     if between(0x00, 0x7f, b) {
         return 1;
     }
-    let c = at(s, 1);
+    let c = byte_or_zero(s, 1);
     if row2(0xc2, 0xdf, b, c) {
         return 2;
     }
-    let d = at(s, 2);
-    let e = at(s, 3);
+    let d = byte_or_zero(s, 2);
+    let e = byte_or_zero(s, 3);
     let head = Head { b, c, d, e };
     if three(head) {
         return 3;
@@ -137,23 +137,23 @@ fn width(s: &[u8]) -> usize
 }
 
 // The code point of the n bytes at the head of s.
-fn point(s: &[u8], n: usize) -> u32
+fn code_point(s: &[u8], n: usize) -> u32
     requires { ⌜ (0 < n) × (n ≤ 4) × (n ≤ length (now s)) ⌝ }
     ensures { λ r. ⌜ r ≡ utf8.point (take n (now (s .entry))) ⌝ }
 {
-    let b = at(s, 0);
+    let b = byte_or_zero(s, 0);
     if n == 1 {
         return b;
     }
-    let c = at(s, 1);
+    let c = byte_or_zero(s, 1);
     if n == 2 {
         return b % 32 * 64 + c % 64;
     }
-    let d = at(s, 2);
+    let d = byte_or_zero(s, 2);
     if n == 3 {
         return b % 16 * 4096 + c % 64 * 64 + d % 64;
     }
-    let e = at(s, 3);
+    let e = byte_or_zero(s, 3);
     b % 8 * 262144 + c % 64 * 4096 + d % 64 * 64 + e % 64
 }
 
@@ -230,7 +230,7 @@ fn white_at(s: &[u8]) -> usize
     if n == 0 {
         return 0;
     }
-    if white(point(s, n)) {
+    if white(code_point(s, n)) {
         return n;
     }
     0
@@ -342,28 +342,28 @@ fn trim_wide(s: &[u8]) -> Span
 }
 
 // Whether b is surely no white space by itself.
-fn dark(b: u8) -> bool
+fn surely_no_space(b: u8) -> bool
     ensures { λ r. ⌜ (r ≡ true → Dark b) ⌝ }
 {
     if b' ' < b { b < 128 } else { false }
 }
 
 // Whether s surely has no white space at its ends.
-fn snug(s: &[u8]) -> bool
+fn surely_trimmed(s: &[u8]) -> bool
     ensures { λ r. ⌜ (r ≡ true → Snug (now (s .entry))) ⌝ }
 {
     let n = s.len();
     if n == 0 {
         return false;
     }
-    if dark(s[0]) {
-        return dark(s[n - 1]);
+    if surely_no_space(s[0]) {
+        return surely_no_space(s[n - 1]);
     }
     false
 }
 
 // Past the spaces at the head.
-fn lead(s: &[u8]) -> usize
+fn after_spaces(s: &[u8]) -> usize
     ensures { λ r. ⌜ Starting (now (s .entry)) r ⌝ }
 {
     let mut i = 0;
@@ -377,7 +377,7 @@ fn lead(s: &[u8]) -> usize
 }
 
 // Back over the spaces at the end.
-fn tail(s: &[u8]) -> usize
+fn before_spaces(s: &[u8]) -> usize
     ensures { λ r. ⌜ Ending (now (s .entry)) r ⌝ }
 {
     let mut e = s.len();
@@ -394,9 +394,9 @@ fn tail(s: &[u8]) -> usize
 pub fn trim(s: &[u8]) -> Span
     ensures { λ r. ⌜ Trimmed (now (s .entry)) r ⌝ }
 {
-    let from = lead(s);
-    let end = from + tail(&s[from..]);
-    if snug(&s[from..end]) {
+    let from = after_spaces(s);
+    let end = from + before_spaces(&s[from..]);
+    if surely_trimmed(&s[from..end]) {
         return Span { from, end };
     }
     trim_wide(s)
@@ -409,7 +409,7 @@ pub fn blank(s: &[u8]) -> bool
     if s.len() == 0 {
         return true;
     }
-    if dark(s[0]) {
+    if surely_no_space(s[0]) {
         return false;
     }
     let t = trim_wide(s);
@@ -417,7 +417,7 @@ pub fn blank(s: &[u8]) -> bool
 }
 
 // A number that none of the four bytes from i on is over.
-fn most(s: &[u8], i: usize) -> u8
+fn bound_of_4(s: &[u8], i: usize) -> u8
     requires { ⌜ i + 4 ≤ length (now s) ⌝ }
     ensures { λ r. ⌜ Under (now (s .entry)) i 4 r ⌝ }
 {
@@ -425,14 +425,14 @@ fn most(s: &[u8], i: usize) -> u8
 }
 
 // Whether there are eight bytes from i on, and all of them are ASCII.
-fn eight(s: &[u8], i: usize) -> bool
+fn ascii_8(s: &[u8], i: usize) -> bool
     requires { ⌜ i ≤ length (now s) ⌝ }
     ensures { λ r. ⌜ (r ≡ true → Under (now (s .entry)) i 8 127) ⌝ }
 {
     if s.len() - i < 8 {
         return false;
     }
-    most(s, i) | most(s, i + 4) < 128
+    bound_of_4(s, i) | bound_of_4(s, i + 4) < 128
 }
 
 // Whether all bytes are ASCII: together, since that takes many at once.
@@ -457,7 +457,7 @@ pub fn valid(s: &[u8]) -> bool
     }
     let mut i = 0;
     while i < s.len() {
-        if eight(s, i) {
+        if ascii_8(s, i) {
             i += 8;
         } else {
             let n = width(&s[i..]);

@@ -154,7 +154,7 @@ fn items_fault(tree: &[u8], store: &[u8], made: usize, place: u16, limit: usize)
     }
 }
 
-fn wrong(fault: u32) -> FeaturesRead
+fn refused_list(fault: u32) -> FeaturesRead
     ensures { λ r. ⌜ r ≡ record { fault = fault; features = Features.Absent } ⌝ }
 {
     FeaturesRead {
@@ -168,7 +168,7 @@ fn few_words(store: &[u8], from: usize, len: usize, limit: usize) -> FeaturesRea
 {
     let words = reader::count(schema::stored(store, from, len));
     if limit < words {
-        return wrong(TOO_MANY);
+        return refused_list(TOO_MANY);
     }
     FeaturesRead {
         fault: 0,
@@ -182,7 +182,7 @@ fn few_items(tree: &[u8], store: &[u8], made: usize, place: u16, limit: usize) -
 {
     let fault = items_fault(tree, store, made, place, limit);
     if fault != 0 {
-        return wrong(fault);
+        return refused_list(fault);
     }
     FeaturesRead {
         fault: 0,
@@ -196,10 +196,10 @@ pub fn read(tree: &[u8], store: &[u8], made: usize, v: Value, limit: usize) -> F
     ensures { λ r. ⌜ r ≡ piece.featuresRead (now (tree .entry)) (now (store .entry)) made limit v ⌝ }
 {
     match v {
-        Value::Absent => wrong(0),
+        Value::Absent => refused_list(0),
         Value::Text { from, len } => few_words(store, from, len, limit),
         Value::Array(place) => few_items(tree, store, made, place, limit),
-        _ => wrong(WRONG_KIND),
+        _ => refused_list(WRONG_KIND),
     }
 }
 
@@ -221,7 +221,7 @@ fn behind(store: &[u8], after: Feature, p: Piece) -> bool
     }
 }
 
-fn ahead(store: &[u8], best: Feature, p: Piece) -> bool
+fn comes_before(store: &[u8], best: Feature, p: Piece) -> bool
     ensures { λ r. ⌜ r ≡ piece.ahead (now (store .entry)) best p ⌝ }
 {
     match best {
@@ -235,7 +235,7 @@ fn better(store: &[u8], after: Feature, best: Feature, p: Piece) -> Feature
     ensures { λ r. ⌜ r ≡ piece.better (now (store .entry)) after best p ⌝ }
 {
     if behind(store, after, p) {
-        if ahead(store, best, p) {
+        if comes_before(store, best, p) {
             return Feature::At(p);
         }
         return best;
@@ -303,7 +303,7 @@ fn same_feature(store: &[u8], x: Feature, y: Feature) -> bool
 }
 
 // Two lists with the same items in the order of the text are told by one scan of each.
-fn alike(tree: &[u8], store: &[u8], made: usize, f: Features, g: Features) -> bool
+fn same_as_written(tree: &[u8], store: &[u8], made: usize, f: Features, g: Features) -> bool
     requires { ⌜ Rooms (now tree) made ⌝ }
     ensures { λ r. ⌜ ordered.AlikeIn (now (tree .entry)) (now (store .entry)) made f g r ⌝ }
 {
@@ -356,14 +356,14 @@ pub fn equal(tree: &[u8], store: &[u8], made: usize, f: Features, g: Features) -
     requires { ⌜ Rooms (now tree) made ⌝ }
     ensures { λ r. ⌜ r ≡ ordered.equalIn (now (tree .entry)) (now (store .entry)) made f g ⌝ }
 {
-    if alike(tree, store, made, f, g) {
+    if same_as_written(tree, store, made, f, g) {
         return true;
     }
     equal_slow(tree, store, made, f, g)
 }
 
 // No list has more items.
-fn most(store: &[u8], made: usize, f: Features) -> usize
+fn most_items(store: &[u8], made: usize, f: Features) -> usize
     ensures { λ r. ⌜ r ≡ piece.bound (now (store .entry)) (now (store .entry)) made f ⌝ }
 {
     match f {
@@ -394,7 +394,7 @@ fn tally(tree: &[u8], store: &[u8], made: usize, f: Features, from: usize) -> us
     requires { ⌜ Rooms (now tree) made × (from ≤ piece.bound (now tree) (now store) made f) ⌝ }
     ensures { λ r. ⌜ r ≡ ordered.countFrom (now (tree .entry)) (now (store .entry)) made f from ⌝ }
 {
-    let end = most(store, made, f);
+    let end = most_items(store, made, f);
     let mut after = Feature::Nothing;
     for n in 0..end {
         after = nearest(tree, store, made, f, from, after);

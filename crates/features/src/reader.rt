@@ -25,7 +25,7 @@ pub struct Step<'a> {
     pub rest: Reader<'a>,
 }
 
-fn gap(b: u8) -> bool
+fn is_gap(b: u8) -> bool
     ensures { λ r. ⌜ r ≡ meant.gap b ⌝ }
 {
     if b == b' ' {
@@ -40,7 +40,7 @@ fn skip(s: &[u8], at: usize) -> usize
 {
     let mut i = at;
     while i < s.len() {
-        if gap(s[i]) {
+        if is_gap(s[i]) {
             i += 1;
         } else {
             return i;
@@ -55,7 +55,7 @@ fn stop(s: &[u8], at: usize) -> usize
 {
     let mut i = at;
     while i < s.len() {
-        if gap(s[i]) {
+        if is_gap(s[i]) {
             return i;
         }
         i += 1;

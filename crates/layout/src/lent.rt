@@ -1,6 +1,6 @@
 // A partition by its name among lent partitions: what `crate::find_partition` says of an array by value.
 
-use crate::bears;
+use crate::has_name;
 use schema::MOST_PARTITIONS;
 use schema::Partition;
 ghost use mathlib.Core.Path.{_≡_};
@@ -17,7 +17,7 @@ pub fn scan(bytes: &[u8], items: &[Partition], count: usize, name: &[u8]) -> usi
 {
     let mut i = 0;
     while i < count {
-        if bears(bytes, items[i], name) {
+        if has_name(bytes, items[i], name) {
             return i;
         }
         i += 1;

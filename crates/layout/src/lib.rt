@@ -124,7 +124,7 @@ pub fn check_layout(
 }
 
 // One test for both lookups, of an array here and of lent partitions in `lent`.
-fn bears(bytes: &[u8], p: Partition, name: &[u8]) -> bool
+fn has_name(bytes: &[u8], p: Partition, name: &[u8]) -> bool
     ensures { λ r. ⌜ r ≡ same (now (name .entry)) (parts.partName (now (bytes .entry)) p) ⌝ }
 {
     slices::same(name, schema::stored(bytes, p.from, p.len))
@@ -141,7 +141,7 @@ pub fn find_partition(
     ensures { λ r. ⌜ r ≡ rank (now (name .entry)) (map (parts.partName (now (bytes .entry))) (take count items)) ⌝ }
 {
     for i in 0..count {
-        if bears(bytes, items[i], name) {
+        if has_name(bytes, items[i], name) {
             return i;
         }
     }

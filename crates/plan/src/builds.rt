@@ -53,7 +53,7 @@ pub enum BuildFound {
 }
 
 // The use of a package: its bin is the package itself where none is given.
-fn using(package: Text, bin: Text, features: Features) -> Use
+fn use_of(package: Text, bin: Text, features: Features) -> Use
     ensures { λ r. ⌜ r ≡ builds.useOf «package» bin features ⌝ }
 {
     Use {
@@ -106,8 +106,8 @@ fn wanted_at(tree: &[u8], store: &[u8], made: usize, n: usize) -> Wanted
     let pbp_features = l.pbp_features;
     let pbp_package = o.text;
     Wanted {
-        own: using(package, bin, features),
-        pbp: using(pbp_package, Text::Absent, pbp_features),
+        own: use_of(package, bin, features),
+        pbp: use_of(pbp_package, Text::Absent, pbp_features),
     }
 }
 

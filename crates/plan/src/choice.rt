@@ -21,7 +21,7 @@ pub enum Choice {
 }
 
 // Whether value number n has the key.
-fn keyed(tree: &[u8], store: &[u8], n: usize, key: &[u8]) -> bool
+fn has_key(tree: &[u8], store: &[u8], n: usize, key: &[u8]) -> bool
     requires { ⌜ Stood (now tree) n ⌝ }
     ensures { λ r. ⌜ r ≡ choices.keyed (now (tree .entry)) (now (store .entry)) (now (key .entry)) n ⌝ }
 {
@@ -42,7 +42,7 @@ fn declared(tree: &[u8], store: &[u8], made: usize, list: List, key: &[u8]) -> C
         match step {
             Key::End => return Choice::Undeclared,
             Key::At { value, rest } => {
-                if keyed(tree, store, value, key) {
+                if has_key(tree, store, value, key) {
                     return Choice::At { place: i, value };
                 }
                 w = rest;
@@ -79,7 +79,7 @@ fn named(tree: &[u8], store: &[u8], made: usize, n: usize, name: &[u8]) -> bool
 }
 
 // Whether some component has the name.
-fn taken(tree: &[u8], store: &[u8], made: usize, name: &[u8]) -> bool
+fn is_component_name(tree: &[u8], store: &[u8], made: usize, name: &[u8]) -> bool
     requires { ⌜ Rooms (now tree) made ⌝ }
     ensures { λ r. ⌜ r ≡ choices.taken (now (tree .entry)) (now (store .entry)) made (now (name .entry)) ⌝ }
 {
@@ -108,7 +108,7 @@ fn check_name(tree: &[u8], store: &[u8], made: usize, place: usize, n: usize) ->
     let a = r.application;
     let name = a.name;
     let own = schema::stored(store, name.start(), name.length());
-    if taken(tree, store, made, own) {
+    if is_component_name(tree, store, made, own) {
         return parse::refusal_at(parse::IN_APPLICATION, 81, place);
     }
     parse::refusal_at(0, 0, 0)

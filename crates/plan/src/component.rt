@@ -46,7 +46,7 @@ pub enum PlannedFound {
 }
 
 // A package with the bin of one use: the package itself where none is given.
-fn built(package: Text, bin: Text, features: Features) -> Build
+fn build_of(package: Text, bin: Text, features: Features) -> Build
     ensures { λ r. ⌜ r ≡ plans.built «package» bin features ⌝ }
 {
     Build {
@@ -64,7 +64,7 @@ fn payload(h: Head, features: Features) -> Source
     let bin = h.bin;
     let file = h.file;
     if package.is_given() {
-        return Source::Package(built(package, bin, features));
+        return Source::Package(build_of(package, bin, features));
     }
     Source::File(file.or(Text::Stored { from: 0, len: 0 }))
 }
@@ -79,7 +79,7 @@ fn pbp_payload(b: Boot, features: Features) -> Source
         return Source::File(pbp);
     }
     if package.is_given() {
-        return Source::Package(built(package, Text::Absent, features));
+        return Source::Package(build_of(package, Text::Absent, features));
     }
     Source::Nothing
 }
@@ -173,7 +173,7 @@ pub fn component_of(a: Application) -> Component
             target_filename: Text::Absent,
         },
         boot: no_boot(),
-        load: loads(load_address, entry_offset),
+        load: load_of(load_address, entry_offset),
     }
 }
 
@@ -189,7 +189,7 @@ fn no_boot() -> Boot
     }
 }
 
-fn loads(load_address: Number, entry_offset: Number) -> Load
+fn load_of(load_address: Number, entry_offset: Number) -> Load
     ensures { λ r. ⌜ r ≡ plans.loads «load_address» «entry_offset» ⌝ }
 {
     Load {
@@ -215,7 +215,7 @@ pub fn placed(tree: &[u8], store: &[u8], made: usize, n: usize) -> bool
 }
 
 // How many components stand before the first with a partition.
-fn ahead(tree: &[u8], store: &[u8], made: usize) -> usize
+fn before_first_placed(tree: &[u8], store: &[u8], made: usize) -> usize
     requires { ⌜ Rooms (now tree) made ⌝ }
     ensures { λ r. ⌜ r ≡ plans.ahead (now (tree .entry)) (now (store .entry)) made ⌝ }
 {
@@ -238,7 +238,7 @@ fn ahead(tree: &[u8], store: &[u8], made: usize) -> usize
 }
 
 // Component number i of the preset, planned.
-fn own(tree: &[u8], store: &[u8], made: usize, i: usize) -> PlannedFound
+fn planned_component(tree: &[u8], store: &[u8], made: usize, i: usize) -> PlannedFound
     requires { ⌜ Rooms (now tree) made ⌝ }
     ensures { λ r. ⌜ r ≡ plans.own (now (tree .entry)) (now (store .entry)) made i ⌝ }
 {
@@ -264,14 +264,14 @@ fn composed(tree: &[u8], store: &[u8], made: usize, n: usize, i: usize) -> Plann
     requires { ⌜ Rooms (now tree) made × Stood (now tree) n ⌝ }
     ensures { λ r. ⌜ r ≡ plans.composed (now (tree .entry)) (now (store .entry)) made n i ⌝ }
 {
-    let at = ahead(tree, store, made);
+    let at = before_first_placed(tree, store, made);
     if i < at {
-        return own(tree, store, made, i);
+        return planned_component(tree, store, made, i);
     }
     if i == at {
         return planned_application(tree, store, made, n);
     }
-    own(tree, store, made, i - 1)
+    planned_component(tree, store, made, i - 1)
 }
 
 // How many components the plan has.
@@ -294,7 +294,7 @@ pub fn component(tree: &[u8], store: &[u8], made: usize, c: Choice, i: usize) ->
     ensures { λ r. ⌜ r ≡ plans.component (now (tree .entry)) (now (store .entry)) made c i ⌝ }
 {
     match c {
-        Choice::BootChain => own(tree, store, made, i),
+        Choice::BootChain => planned_component(tree, store, made, i),
         Choice::Undeclared => PlannedFound::Nothing,
         Choice::At { place: _, value } => composed(tree, store, made, value, i),
     }

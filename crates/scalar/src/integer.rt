@@ -50,7 +50,7 @@ fn digit(b: u8) -> u8
 }
 
 // One digit more after the value acc; the quotient tells what would not fit before it is made.
-fn more(base: u64, limit: u64, acc: u64, b: u8) -> Digits
+fn add_digit(base: u64, limit: u64, acc: u64, b: u8) -> Digits
     ensures { λ r. ⌜ digitsOf r ≡ more base limit acc b ⌝ }
 {
     let d = digit(b) as u64;
@@ -79,7 +79,7 @@ fn digits_at(s: &[u8], from: usize, base: u64, limit: u64) -> Digits
         if b == b'_' {
             i += 1;
         } else {
-            match more(base, limit, acc, b) {
+            match add_digit(base, limit, acc, b) {
                 Digits::Count(v) => {
                     acc = v;
                     i += 1;
@@ -94,7 +94,7 @@ fn digits_at(s: &[u8], from: usize, base: u64, limit: u64) -> Digits
 }
 
 // The largest magnitude.
-fn most(neg: bool) -> u64
+fn largest_magnitude(neg: bool) -> u64
     ensures { λ r. ⌜ r ≡ meant.most neg ⌝ }
 {
     if neg {
@@ -129,7 +129,7 @@ fn first(s: &[u8], i: usize) -> u8
 }
 
 // Past that byte.
-fn past(s: &[u8], i: usize) -> usize
+fn after_byte(s: &[u8], i: usize) -> usize
     requires { ⌜ i ≤ length (now s) ⌝ }
     ensures { λ r. ⌜ Passed (now (s .entry)) i r ⌝ }
 {
@@ -145,7 +145,7 @@ fn magnitude(s: &[u8], i: usize, neg: bool, base: u64) -> Int
     if skip(s, i) == s.len() {
         return Int::Wrong;
     }
-    match digits_at(s, i, base, most(neg)) {
+    match digits_at(s, i, base, largest_magnitude(neg)) {
         Digits::Count(n) => Int::Value(Signed { neg, mag: n }),
         Digits::Stray => Int::Wrong,
     }
@@ -157,7 +157,7 @@ fn sign(s: &[u8], i: usize, base: u64) -> Int
     ensures { λ r. ⌜ intOf r ≡ meant.sign base (meant.clean (drop i (now (s .entry)))) ⌝ }
 {
     let b = first(s, i);
-    let j = past(s, i);
+    let j = after_byte(s, i);
     if b == b'-' {
         return magnitude(s, j, true, base);
     }
@@ -172,9 +172,9 @@ pub fn read_int(s: &[u8]) -> Int
     ensures { λ r. ⌜ intOf r ≡ meant.signed (now (s .entry)) ⌝ }
 {
     let a = first(s, 0);
-    let j = past(s, 0);
+    let j = after_byte(s, 0);
     let b = first(s, j);
-    let k = past(s, j);
+    let k = after_byte(s, j);
     if a == b'0' {
         if b == b'x' {
             return sign(s, k, 16);

@@ -42,7 +42,7 @@ fn is_fine(v: Verdict) -> bool
 }
 
 // The last byte, or 0 where there is none.
-fn last(s: &[u8]) -> u8
+fn last_byte(s: &[u8]) -> u8
     ensures { λ r. ⌜ r ≡ base.final (now (s .entry)) ⌝ }
 {
     let n = s.len();
@@ -66,7 +66,7 @@ fn judge(end: u8, written: usize) -> Verdict
 }
 
 // Lays p into the store.
-fn lay(p: &[u8], store: &mut [u8], used: usize)
+fn put_piece(p: &[u8], store: &mut [u8], used: usize)
     requires { ⌜ Room (now p) (now store) used ⌝ }
     ensures { λ _. ⌜ now (store .exit) ≡ stored (now (store .entry)) used (now (p .entry)) ⌝ }
 {
@@ -79,7 +79,7 @@ fn put_bare(p: &[u8], store: &mut [u8], used: usize) -> Segment
     ensures { λ r. ⌜ BareSegment (now (p .entry)) (now (store .entry)) used (now (store .exit)) r ⌝ }
 {
     let n = p.len();
-    lay(p, store, used);
+    put_piece(p, store, used);
     if n == 0 {
         return Segment {
             verdict: Verdict::Malformed,
@@ -97,7 +97,7 @@ fn put_quoted(p: &[u8], store: &mut [u8], used: usize) -> Segment
     requires { ⌜ Room (now p) (now store) used ⌝ }
     ensures { λ r. ⌜ QuotedSegment (now (p .entry)) (now (store .entry)) used (now (store .exit)) r ⌝ }
 {
-    let end = last(p);
+    let end = last_byte(p);
     let d = put_string(p, store, used);
     match d {
         Decoded::Done { used: _, written } => {

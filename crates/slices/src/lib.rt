@@ -20,33 +20,33 @@ pub fn peek(s: &[u8], i: usize) -> u8
 }
 
 // 0 only for a byte that is not c.
-fn hit(b: u8, c: u8) -> u8
+fn meets(b: u8, c: u8) -> u8
     ensures { λ r. ⌜ (r ≡ 0 → Other c b) ⌝ }
 {
     if b == c { 1 } else { 0 }
 }
 
 // Whether none of the 16 bytes at a place is c. No byte ends the loop, so that the machine takes them at once.
-fn free(s: &[u8], at: usize, c: u8) -> bool
+fn none_of_16(s: &[u8], at: usize, c: u8) -> bool
     requires { ⌜ at + 16 ≤ length (now s) ⌝ }
     ensures { λ r. ⌜ (r ≡ true → Free c (now (s .entry)) at 16) ⌝ }
 {
     let mut k = 0;
     let mut r: u8 = 0;
     while k < 16 {
-        r = r | hit(s[at + k], c);
+        r = r | meets(s[at + k], c);
         k += 1;
     }
     r == 0
 }
 
 // How many bytes stand before the first c at least, as far as blocks of 16 go.
-fn past(s: &[u8], c: u8) -> usize
+fn before_first(s: &[u8], c: u8) -> usize
     ensures { λ r. ⌜ Passed c (now (s .entry)) r ⌝ }
 {
     let mut i = 0;
     while 16 <= s.len() - i {
-        if free(s, i, c) {
+        if none_of_16(s, i, c) {
             i += 16;
         } else {
             return i;
@@ -59,7 +59,7 @@ fn past(s: &[u8], c: u8) -> usize
 pub fn find(s: &[u8], c: u8) -> usize
     ensures { λ r. ⌜ Found c (now (s .entry)) r ⌝ }
 {
-    let mut i = past(s, c);
+    let mut i = before_first(s, c);
     while i < s.len() {
         if s[i] == c {
             return i;
@@ -87,7 +87,7 @@ pub fn same(a: &[u8], b: &[u8]) -> bool
 }
 
 // Whether the 8 bytes at a place are the same in both. No byte ends the loop, so that the machine takes them at once.
-fn alike(a: &[u8], b: &[u8], at: usize) -> bool
+fn same_8(a: &[u8], b: &[u8], at: usize) -> bool
     requires { ⌜ (at + 8 ≤ length (now a)) × (at + 8 ≤ length (now b)) ⌝ }
     ensures { λ r. ⌜ r ≡ clear 8 (xors (now (a .entry)) (now (b .entry))) at ⌝ }
 {
@@ -109,7 +109,7 @@ fn shared(a: &[u8], b: &[u8]) -> usize
         if b.len() - i < 8 {
             return i;
         }
-        if alike(a, b, i) {
+        if same_8(a, b, i) {
             i += 8;
         } else {
             return i;
@@ -148,7 +148,7 @@ pub fn copy(src: &[u8], dst: &mut [u8])
 }
 
 // Whether the 256 bytes at a place are all zero. No byte ends the loop, so that the machine takes many of them at once.
-fn still(s: &[u8], at: usize) -> bool
+fn zero_256(s: &[u8], at: usize) -> bool
     requires { ⌜ at + 256 ≤ length (now s) ⌝ }
     ensures { λ r. ⌜ r ≡ clear 256 (now (s .entry)) at ⌝ }
 {
@@ -162,7 +162,7 @@ fn still(s: &[u8], at: usize) -> bool
 }
 
 // Lays n zeros.
-fn wipe(s: &mut [u8], at: usize, n: usize)
+fn put_zeros(s: &mut [u8], at: usize, n: usize)
     requires { ⌜ at + n ≤ length (now s) ⌝ }
     ensures { λ _. ⌜ now (s .exit) ≡ stored (now (s .entry)) at (base.zeros n) ⌝ }
 {
@@ -175,14 +175,14 @@ fn wipe(s: &mut [u8], at: usize, n: usize)
 }
 
 // Lays 256 zeros, unless they stand there already: to read them is quicker than to write them.
-fn wipe_block(s: &mut [u8], at: usize)
+fn put_zero_block(s: &mut [u8], at: usize)
     requires { ⌜ at + 256 ≤ length (now s) ⌝ }
     ensures { λ _. ⌜ now (s .exit) ≡ stored (now (s .entry)) at (base.zeros 256) ⌝ }
 {
-    if still(s, at) {
+    if zero_256(s, at) {
         return;
     }
-    wipe(s, at, 256);
+    put_zeros(s, at, 256);
 }
 
 // Makes every byte zero.
@@ -191,15 +191,15 @@ pub fn zero(s: &mut [u8])
 {
     let mut i = 0;
     while 256 <= s.len() - i {
-        wipe_block(s, i);
+        put_zero_block(s, i);
         i += 256;
     }
     let left = s.len() - i;
-    wipe(s, i, left);
+    put_zeros(s, i, left);
 }
 
 // Lays the k bytes of n, the least first.
-fn lay(s: &mut [u8], at: usize, k: usize, n: u64)
+fn put_bytes(s: &mut [u8], at: usize, k: usize, n: u64)
     requires { ⌜ at + k ≤ length (now s) ⌝ }
     ensures { λ _. ⌜ now (s .exit) ≡ stored (now (s .entry)) at (little k n) ⌝ }
 {
@@ -214,7 +214,7 @@ fn lay(s: &mut [u8], at: usize, k: usize, n: u64)
 }
 
 // The number that k bytes make, the least first.
-fn sum(s: &[u8], at: usize, k: usize) -> u64
+fn sum_bytes(s: &[u8], at: usize, k: usize) -> u64
     requires { ⌜ Reading (now s) at k ⌝ }
     ensures { λ r. ⌜ Read (now (s .entry)) at k r ⌝ }
 {
@@ -231,26 +231,26 @@ pub fn put2(s: &mut [u8], at: usize, n: u16)
     requires { ⌜ at + 2 ≤ length (now s) ⌝ }
     ensures { λ _. ⌜ now (s .exit) ≡ stored (now (s .entry)) at (little 2 n) ⌝ }
 {
-    lay(s, at, 2, n as u64);
+    put_bytes(s, at, 2, n as u64);
 }
 
 pub fn put8(s: &mut [u8], at: usize, n: u64)
     requires { ⌜ at + 8 ≤ length (now s) ⌝ }
     ensures { λ _. ⌜ now (s .exit) ≡ stored (now (s .entry)) at (little 8 n) ⌝ }
 {
-    lay(s, at, 8, n);
+    put_bytes(s, at, 8, n);
 }
 
 pub fn get2(s: &[u8], at: usize) -> u16
     requires { ⌜ at + 2 ≤ length (now s) ⌝ }
     ensures { λ r. ⌜ r ≡ number 2 (now (s .entry)) at ⌝ }
 {
-    sum(s, at, 2) as u16
+    sum_bytes(s, at, 2) as u16
 }
 
 pub fn get8(s: &[u8], at: usize) -> u64
     requires { ⌜ at + 8 ≤ length (now s) ⌝ }
     ensures { λ r. ⌜ r ≡ number 8 (now (s .entry)) at ⌝ }
 {
-    sum(s, at, 8)
+    sum_bytes(s, at, 8)
 }

@@ -140,7 +140,7 @@ fn marked(set: u64, b: u8) -> bool
 }
 
 // Whether b is surely one that a pass may leave out: a few more share the bit of one that it stops at.
-fn quiet(state: StringState, b: u8) -> bool
+fn may_leave_out(state: StringState, b: u8) -> bool
     ensures { λ r. ⌜ (r ≡ true → Quiet state b) ⌝ }
 {
     match state {
@@ -151,13 +151,13 @@ fn quiet(state: StringState, b: u8) -> bool
 }
 
 // How many bytes at the head of s a pass may leave out.
-fn run(s: &[u8], state: StringState) -> usize
+fn left_out(s: &[u8], state: StringState) -> usize
     ensures { λ r. ⌜ Run state (now (s .entry)) r ⌝ }
 {
     let mut i = 0;
     while i < s.len() {
         let b = s[i];
-        if quiet(state, b) {
+        if may_leave_out(state, b) {
             i += 1;
         } else {
             return i;
@@ -267,7 +267,7 @@ fn line_bytes(s: &[u8], n: usize) -> usize
 
 // How many bytes of a line stand before its comment, or all of them. Most lines have no `#`, and a search for one is
 // quick.
-fn kept(line: &[u8]) -> usize
+fn before_comment(line: &[u8]) -> usize
     ensures { λ r. ⌜ r ≡ quotes.upTo 35 StringState.Outside (now (line .entry)) ⌝ }
 {
     if slices::find(line, b'#') == line.len() {
@@ -293,7 +293,7 @@ fn lay_line(rest: &[u8], out: &mut [u8]) -> Piece
 {
     let n = slices::find(rest, b'\n');
     let m = line_bytes(rest, n);
-    let k = kept(&rest[..m]);
+    let k = before_comment(&rest[..m]);
     put_line(&rest[..k], out);
     if n < rest.len() {
         return Piece {
@@ -324,7 +324,7 @@ pub fn lay(text: &[u8], scratch: &mut [u8]) -> usize
 }
 
 // 0 only for a byte that stays as it is where lines are laid.
-fn mark(b: u8) -> u8
+fn changed_when_laid(b: u8) -> u8
     ensures { λ r. ⌜ (r ≡ 0 → Bare b) ⌝ }
 {
     if b == b'#' {
@@ -337,13 +337,13 @@ fn mark(b: u8) -> u8
 }
 
 // Whether there is no `#` and no CR: of all bytes together, since that takes many at once.
-fn bare(s: &[u8]) -> bool
+fn no_hash_no_cr(s: &[u8]) -> bool
     ensures { λ r. ⌜ (r ≡ true → Bares (now (s .entry)) (length (now (s .entry)))) ⌝ }
 {
     let mut i = 0;
     let mut m: u8 = 0;
     while i < s.len() {
-        m = m | mark(s[i]);
+        m = m | changed_when_laid(s[i]);
         i += 1;
     }
     m == 0
@@ -358,7 +358,7 @@ pub fn clean(s: &[u8]) -> bool
         return true;
     }
     if s[n - 1] == b'\n' {
-        return bare(s);
+        return no_hash_no_cr(s);
     }
     false
 }
@@ -387,7 +387,7 @@ fn join_line(s: &[u8]) -> Joint
     };
     while i < s.len() {
         let state = c.state;
-        let n = run(&s[i..], state);
+        let n = left_out(&s[i..], state);
         i += n;
         if s.len() <= i {
             return ending(m);
@@ -417,7 +417,7 @@ fn join_line(s: &[u8]) -> Joint
 }
 
 // Whether a line that begins with b is surely not blank.
-fn dark(b: u8) -> bool
+fn surely_not_blank(b: u8) -> bool
     ensures { λ r. ⌜ (r ≡ true → walk.Dark b) ⌝ }
 {
     if b' ' < b { b < 128 } else { false }
@@ -431,7 +431,7 @@ fn skip(s: &[u8], at: usize, line: usize) -> Place
     let mut i = at;
     let mut n = line;
     while i < s.len() {
-        if dark(s[i]) {
+        if surely_not_blank(s[i]) {
             return Place { at: i, line: n };
         }
         let k = slices::find(&s[i..], b'\n');
@@ -481,7 +481,7 @@ pub fn next_line(s: &[u8], at: usize, line: usize) -> Next
 }
 
 // 3 and 4 over a laid text from a place between joined lines on: how many joined lines it has, or the first fault.
-pub fn check(s: &[u8], at: usize, line: usize) -> Checked
+pub fn check_joined(s: &[u8], at: usize, line: usize) -> Checked
     requires { ⌜ Between (now s) at line ⌝ }
     ensures { λ r. ⌜ Checks (now (s .entry)) at line r ⌝ }
 {
@@ -525,7 +525,7 @@ pub fn lines(text: &[u8], scratch: &mut [u8], limits: Limits) -> Reading
     }
     if chars::valid(text) {
         let used = lay(text, scratch);
-        let c = check(&scratch[..used], 0, 1);
+        let c = check_joined(&scratch[..used], 0, 1);
         match c {
             Checked::Fine(n) => Reading::Fine { lines: n, used },
             Checked::Over(l) => Reading::Over(l),

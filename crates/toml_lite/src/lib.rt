@@ -282,7 +282,7 @@ fn first_fault(s: &[u8], next: Place, number: u32, line: usize) -> Read
     requires { ⌜ AfterLine (now s) next line ⌝ }
     ensures { λ r. ⌜ Told (length (now (s .entry))) (faultAfter (now (s .entry)) next number line) r ⌝ }
 {
-    let c = text::check(s, next.at, next.line);
+    let c = text::check_joined(s, next.at, next.line);
     match c {
         Checked::Fine(_) => Read::Fault { number, line },
         Checked::Over(l) => Read::Fault { number: 3, line: l },

@@ -128,7 +128,7 @@ pub fn capacity(tree: &[u8]) -> usize
 }
 
 // The kind and the spare byte after it.
-fn mark(tree: &mut [u8], at: usize, kind: u8)
+fn put_kind(tree: &mut [u8], at: usize, kind: u8)
     requires { ⌜ at + 2 ≤ length (now tree) ⌝ }
     ensures { λ _. ⌜ now (tree .exit) ≡ stored (now (tree .entry)) at (kind ∷ 0 ∷ []) ⌝ }
 {
@@ -137,7 +137,7 @@ fn mark(tree: &mut [u8], at: usize, kind: u8)
 }
 
 // Where a value hangs: its parent, its key and the key's length.
-fn link(tree: &mut [u8], at: usize, v: Slot)
+fn put_place(tree: &mut [u8], at: usize, v: Slot)
     requires { ⌜ at + 6 ≤ length (now tree) ⌝ }
     ensures { λ _. ⌜ now (tree .exit) ≡ stored (now (tree .entry)) at (room.place v) ⌝ }
 {
@@ -147,7 +147,7 @@ fn link(tree: &mut [u8], at: usize, v: Slot)
 }
 
 // What a value is, and the spare bytes after it.
-fn fill(tree: &mut [u8], at: usize, v: Slot)
+fn put_payload(tree: &mut [u8], at: usize, v: Slot)
     requires { ⌜ at + 24 ≤ length (now tree) ⌝ }
     ensures { λ _. ⌜ now (tree .exit) ≡ stored (now (tree .entry)) at (room.body v) ⌝ }
 {
@@ -162,9 +162,9 @@ pub fn put(tree: &mut [u8], n: usize, v: Slot)
     ensures { λ _. ⌜ now (tree .exit) ≡ stored (now (tree .entry)) (32 * n) (cell v) ⌝ }
 {
     let at = VALUE_BYTES * n;
-    mark(tree, at, v.kind);
-    link(tree, at + 2, v);
-    fill(tree, at + 8, v);
+    put_kind(tree, at, v.kind);
+    put_place(tree, at + 2, v);
+    put_payload(tree, at + 8, v);
 }
 
 // Reads value number n.
@@ -232,7 +232,7 @@ pub fn hang(tree: &mut [u8], n: usize, parent: u16, key: u16, len: u16)
 }
 
 // Whether value number n hangs under the parent.
-fn under(tree: &[u8], n: usize, parent: u16) -> bool
+fn hangs_under(tree: &[u8], n: usize, parent: u16) -> bool
     requires { ⌜ Holds (now tree) (n + 1) ⌝ }
     ensures { λ r. ⌜ r ≡ room.under (now (tree .entry)) n parent ⌝ }
 {
@@ -243,13 +243,13 @@ fn under(tree: &[u8], n: usize, parent: u16) -> bool
 // Whether none of a block of values from number n on hangs under the parent. Their tests stand one after the other
 // in the machine's code,
 // which is quicker than a loop over all values.
-fn idle(tree: &[u8], n: usize, parent: u16) -> bool
+fn none_under(tree: &[u8], n: usize, parent: u16) -> bool
     requires { ⌜ Holds (now tree) (n + 8) ⌝ }
     ensures { λ r. ⌜ r ≡ room.idle (now (tree .entry)) parent 8 n ⌝ }
 {
     let mut k = 0;
     while k < BLOCK {
-        if under(tree, n + k, parent) {
+        if hangs_under(tree, n + k, parent) {
             return false;
         }
         k += 1;
@@ -267,7 +267,7 @@ fn skip_up(tree: &[u8], made: usize, parent: u16, from: usize) -> usize
     }
     let mut n = from;
     while BLOCK <= made - n {
-        if idle(tree, n, parent) {
+        if none_under(tree, n, parent) {
             n += BLOCK;
         } else {
             return n;
@@ -283,7 +283,7 @@ fn skip_down(tree: &[u8], made: usize, parent: u16) -> usize
 {
     let mut i = made;
     while BLOCK <= i {
-        if idle(tree, i - BLOCK, parent) {
+        if none_under(tree, i - BLOCK, parent) {
             i -= BLOCK;
         } else {
             return i;
@@ -293,7 +293,7 @@ fn skip_down(tree: &[u8], made: usize, parent: u16) -> usize
 }
 
 // Whether the value's key is these bytes.
-fn keyed(store: &[u8], v: Slot, key: &[u8]) -> bool
+fn key_is(store: &[u8], v: Slot, key: &[u8]) -> bool
     ensures { λ r. ⌜ r ≡ room.keyed (now (store .entry)) v (now (key .entry)) ⌝ }
 {
     let from = v.key as usize;
@@ -304,13 +304,13 @@ fn keyed(store: &[u8], v: Slot, key: &[u8]) -> bool
     slices::same(&store[from..end], key)
 }
 
-fn mine(tree: &[u8], store: &[u8], n: usize, parent: u16, key: &[u8]) -> bool
+fn is_named_child(tree: &[u8], store: &[u8], n: usize, parent: u16, key: &[u8]) -> bool
     requires { ⌜ Holds (now tree) (n + 1) ⌝ }
     ensures { λ r. ⌜ r ≡ room.mine (now (tree .entry)) (now (store .entry)) n parent (now (key .entry)) ⌝ }
 {
-    if under(tree, n, parent) {
+    if hangs_under(tree, n, parent) {
         let v = get(tree, n);
-        return keyed(store, v, key);
+        return key_is(store, v, key);
     }
     false
 }
@@ -324,7 +324,7 @@ fn seek(tree: &[u8], store: &[u8], from: usize, to: usize, parent: u16, key: &[u
     let mut i = to;
     while from < i {
         i -= 1;
-        if mine(tree, store, i, parent, key) {
+        if is_named_child(tree, store, i, parent, key) {
             return Found::At(i);
         }
     }
@@ -337,7 +337,7 @@ fn seek_block(tree: &[u8], store: &[u8], n: usize, parent: u16, key: &[u8]) -> F
     ensures { λ r. ⌜ Finds n (n + 8)
         (doors.lookIn (now (tree .entry)) (now (store .entry)) n 8 parent (now (key .entry))) r ⌝ }
 {
-    if idle(tree, n, parent) {
+    if none_under(tree, n, parent) {
         return Found::Nothing;
     }
     seek(tree, store, n, n + BLOCK, parent, key)
@@ -368,7 +368,7 @@ fn child(tree: &[u8], made: usize, parent: u16, from: usize) -> Found
 {
     let mut n = skip_up(tree, made, parent, from);
     while n < made {
-        if under(tree, n, parent) {
+        if hangs_under(tree, n, parent) {
             return Found::At(n);
         }
         n += 1;
@@ -417,7 +417,7 @@ pub fn count_items(tree: &[u8], made: usize, parent: u16) -> usize
     let mut n: usize = 0;
     let mut i = 0;
     while i < made {
-        if under(tree, i, parent) {
+        if hangs_under(tree, i, parent) {
             n += 1;
             i += 1;
         } else {
@@ -454,7 +454,7 @@ fn before(store: &[u8], v: Slot, w: Slot) -> bool
 }
 
 // Whether v has a key above that of the value found before.
-fn above(tree: &[u8], store: &[u8], after: Found, v: Slot) -> bool
+fn key_is_above(tree: &[u8], store: &[u8], after: Found, v: Slot) -> bool
     requires { ⌜ Stands (now tree) after ⌝ }
     ensures { λ r. ⌜ r ≡ order.above (slotAt (now (tree .entry))) (now (store .entry)) after v ⌝ }
 {
@@ -486,9 +486,9 @@ fn follows(tree: &[u8], store: &[u8], parent: u16, after: Found, n: usize) -> bo
     requires { ⌜ Holds (now tree) (n + 1) × Stands (now tree) after ⌝ }
     ensures { λ r. ⌜ r ≡ order.follows (slotAt (now (tree .entry))) (now (store .entry)) parent after n ⌝ }
 {
-    if under(tree, n, parent) {
+    if hangs_under(tree, n, parent) {
         let v = get(tree, n);
-        return above(tree, store, after, v);
+        return key_is_above(tree, store, after, v);
     }
     false
 }
@@ -652,7 +652,7 @@ fn newest(tree: &[u8], made: usize, parent: u16) -> usize
 {
     let mut i = skip_down(tree, made, parent);
     while 0 < i {
-        if under(tree, i - 1, parent) {
+        if hangs_under(tree, i - 1, parent) {
             return i;
         }
         i -= 1;
@@ -678,7 +678,7 @@ pub fn fields_at(tree: &[u8], made: usize, place: u16) -> Fields
 }
 
 // The newest of a table's fields with the key.
-fn among(tree: &[u8], store: &[u8], f: Fields, key: &[u8]) -> Found
+fn newest_field(tree: &[u8], store: &[u8], f: Fields, key: &[u8]) -> Found
     requires { ⌜ Spread (now tree) f ⌝ }
     ensures { λ r. ⌜ Finds (f .from) (f .to) (doors.among (now (tree .entry)) (now (store .entry)) f (now (key .entry)))
         r ⌝ }
@@ -691,7 +691,7 @@ pub fn field(tree: &[u8], store: &[u8], f: Fields, key: &[u8]) -> Value
     requires { ⌜ Spread (now tree) f ⌝ }
     ensures { λ r. ⌜ r ≡ doors.field (now (tree .entry)) (now (store .entry)) f (now (key .entry)) ⌝ }
 {
-    let found = among(tree, store, f, key);
+    let found = newest_field(tree, store, f, key);
     match found {
         Found::At(n) => value_at(tree, store, n),
         Found::Nothing => Value::Absent,
@@ -706,7 +706,7 @@ pub fn nth_item(tree: &[u8], made: usize, parent: u16, i: usize) -> Found
     let mut left = i;
     let mut from = 0;
     while from < made {
-        if under(tree, from, parent) {
+        if hangs_under(tree, from, parent) {
             if left == 0 {
                 return Found::At(from);
             }

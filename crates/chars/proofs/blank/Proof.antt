@@ -6,11 +6,11 @@ use Rattle.chars.proofs.blank.Tie as tie
 returns : tie.Need-returns
 returns c = search (needs, blank-none)
 
-shared-slice-read-dark : tie.Need-shared-slice-read-dark
-shared-slice-read-dark c = search needs
+shared-slice-read-surely-no-space : tie.Need-shared-slice-read-surely-no-space
+shared-slice-read-surely-no-space c = search needs
 
-dark-requires : tie.Need-dark-requires
-dark-requires c κs = search needs
+surely-no-space-requires : tie.Need-surely-no-space-requires
+surely-no-space-requires c κs = search needs
 
 returns-2 : tie.Need-returns-2
 returns-2 c = search (needs, blank-dark)
@@ -24,4 +24,4 @@ returns-3 c = search (needs, blank-told)
 pub blank-spec : {M : Type 1} → statement M
 blank-spec =
     tie.close
-    (tie.spec returns shared-slice-read-dark dark-requires returns-2 trim-wide-requires returns-3)
+    (tie.spec returns shared-slice-read-surely-no-space surely-no-space-requires returns-2 trim-wide-requires returns-3)

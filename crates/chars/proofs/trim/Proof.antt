@@ -3,35 +3,35 @@ use Rattle.chars.proofs.Ends.{snug-both}
 use Rattle.chars.proofs.trim.Statement.{statement}
 use Rattle.chars.proofs.trim.Tie as tie
 
-lead-requires : tie.Need-lead-requires
-lead-requires c κs = search needs
+after-spaces-requires : tie.Need-after-spaces-requires
+after-spaces-requires c κs = search needs
 
-sub-tail : tie.Need-sub-tail
-sub-tail c = search needs
+sub-before-spaces : tie.Need-sub-before-spaces
+sub-before-spaces c = search needs
 
-part-tail-start : tie.Need-part-tail-start
-part-tail-start c = search needs
+part-before-spaces-start : tie.Need-part-before-spaces-start
+part-before-spaces-start c = search needs
 
-part-tail-end : tie.Need-part-tail-end
-part-tail-end c = search needs
+part-before-spaces-end : tie.Need-part-before-spaces-end
+part-before-spaces-end c = search needs
 
-tail-requires : tie.Need-tail-requires
-tail-requires c κs = search needs
+before-spaces-requires : tie.Need-before-spaces-requires
+before-spaces-requires c κs = search needs
 
 add-end : tie.Need-add-end
 add-end c = search needs
 
-sub-snug : tie.Need-sub-snug
-sub-snug c = search needs
+sub-surely-trimmed : tie.Need-sub-surely-trimmed
+sub-surely-trimmed c = search needs
 
-part-snug-start : tie.Need-part-snug-start
-part-snug-start c = search needs
+part-surely-trimmed-start : tie.Need-part-surely-trimmed-start
+part-surely-trimmed-start c = search needs
 
-part-snug-end : tie.Need-part-snug-end
-part-snug-end c = search needs
+part-surely-trimmed-end : tie.Need-part-surely-trimmed-end
+part-surely-trimmed-end c = search needs
 
-snug-requires : tie.Need-snug-requires
-snug-requires c κs = search needs
+surely-trimmed-requires : tie.Need-surely-trimmed-requires
+surely-trimmed-requires c κs = search needs
 
 returns : tie.Need-returns
 returns c = search (needs, snug-both)
@@ -46,16 +46,16 @@ pub trim-spec : {M : Type 1} → statement M
 trim-spec =
     tie.close
     (tie.spec
-    lead-requires
-    sub-tail
-    part-tail-start
-    part-tail-end
-    tail-requires
+    after-spaces-requires
+    sub-before-spaces
+    part-before-spaces-start
+    part-before-spaces-end
+    before-spaces-requires
     add-end
-    sub-snug
-    part-snug-start
-    part-snug-end
-    snug-requires
+    sub-surely-trimmed
+    part-surely-trimmed-start
+    part-surely-trimmed-end
+    surely-trimmed-requires
     returns
     trim-wide-requires
     returns-2)

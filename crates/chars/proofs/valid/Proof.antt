@@ -22,8 +22,8 @@ returns c = search (needs, all-ascii)
 loop-holds : tie.Need-loop-holds Inv-loop μ-loop
 loop-holds c = search needs
 
-eight-requires : tie.Need-eight-requires Inv-loop μ-loop
-eight-requires c κs = search needs
+ascii-8-requires : tie.Need-ascii-8-requires Inv-loop μ-loop
+ascii-8-requires c κs = search needs
 
 add-i : tie.Need-add-i Inv-loop μ-loop
 add-i c = search needs
@@ -70,7 +70,7 @@ valid-spec =
     ascii-requires
     returns
     loop-holds
-    eight-requires
+    ascii-8-requires
     add-i
     loop-less
     loop-again

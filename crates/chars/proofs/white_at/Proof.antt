@@ -10,8 +10,8 @@ width-requires c κs = search needs
 returns : tie.Need-returns
 returns c = search (needs, at-none)
 
-point-requires : tie.Need-point-requires
-point-requires c κs = in-reach _ _ (c .before .width .ensures) (c .if1 .left)
+code-point-requires : tie.Need-code-point-requires
+code-point-requires c κs = in-reach _ _ (c .before .width .ensures) (c .if1 .left)
 
 white-requires : tie.Need-white-requires
 white-requires c κs = search needs
@@ -24,4 +24,4 @@ returns-3 c = search (needs, at-plain)
 
 pub white-at-spec : {M : Type 1} → statement M
 white-at-spec =
-    tie.close (tie.spec width-requires returns point-requires white-requires returns-2 returns-3)
+    tie.close (tie.spec width-requires returns code-point-requires white-requires returns-2 returns-3)

@@ -6,8 +6,8 @@ use Rattle.chars.proofs.width.Tie as tie
 returns : tie.Need-returns
 returns c = search (needs, none)
 
-at-requires : tie.Need-at-requires
-at-requires c κs = search needs
+byte-or-zero-requires : tie.Need-byte-or-zero-requires
+byte-or-zero-requires c κs = search needs
 
 between-requires : tie.Need-between-requires
 between-requires c κs = search needs
@@ -15,8 +15,8 @@ between-requires c κs = search needs
 returns-2 : tie.Need-returns-2
 returns-2 c = search (needs, one-byte)
 
-at-requires-2 : tie.Need-at-requires-2
-at-requires-2 c κs = search needs
+byte-or-zero-requires-2 : tie.Need-byte-or-zero-requires-2
+byte-or-zero-requires-2 c κs = search needs
 
 row2-requires : tie.Need-row2-requires
 row2-requires c κs = search needs
@@ -24,11 +24,11 @@ row2-requires c κs = search needs
 returns-3 : tie.Need-returns-3
 returns-3 c = search (needs, two-bytes)
 
-at-requires-3 : tie.Need-at-requires-3
-at-requires-3 c κs = search needs
+byte-or-zero-requires-3 : tie.Need-byte-or-zero-requires-3
+byte-or-zero-requires-3 c κs = search needs
 
-at-requires-4 : tie.Need-at-requires-4
-at-requires-4 c κs = search needs
+byte-or-zero-requires-4 : tie.Need-byte-or-zero-requires-4
+byte-or-zero-requires-4 c κs = search needs
 
 three-requires : tie.Need-three-requires
 three-requires c κs = search needs
@@ -50,14 +50,14 @@ width-spec =
     tie.close
     (tie.spec
     returns
-    at-requires
+    byte-or-zero-requires
     between-requires
     returns-2
-    at-requires-2
+    byte-or-zero-requires-2
     row2-requires
     returns-3
-    at-requires-3
-    at-requires-4
+    byte-or-zero-requires-3
+    byte-or-zero-requires-4
     three-requires
     returns-4
     four-requires

@@ -4,14 +4,14 @@ use Rattle.features.proofs.better.Statement.{statement}
 use Rattle.features.proofs.better.Tie as tie
 use Rattle.features.proofs.better.Reads as reads
 use Rattle.features.proofs.better.Lts as lts
-use Rattle.features.proofs.ahead.Reads as ahead-reads
+use Rattle.features.proofs.comes_before.Reads as comes-before-reads
 use Rattle.features.proofs.behind.Reads as behind-reads
 
 behind-requires : tie.Need-behind-requires
 behind-requires c κs = search needs
 
-ahead-requires : tie.Need-ahead-requires
-ahead-requires c κs = search needs
+comes-before-requires : tie.Need-comes-before-requires
+comes-before-requires c κs = search needs
 
 returns : tie.Need-returns
 returns c = search (needs, better-it)
@@ -23,4 +23,4 @@ returns-3 : tie.Need-returns-3
 returns-3 c = search (needs, better-not)
 
 pub better-spec : {M : Type 1} → statement M
-better-spec = tie.close (tie.spec behind-requires ahead-requires returns returns-2 returns-3)
+better-spec = tie.close (tie.spec behind-requires comes-before-requires returns returns-2 returns-3)

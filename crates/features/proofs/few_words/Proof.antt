@@ -5,7 +5,7 @@ use Rattle.features.proofs.few_words.Tie as tie
 use Rattle.features.proofs.few_words.Reads as reads
 use Rattle.features.proofs.few_words.Lts as lts
 use Rattle.features.proofs.reader.count.Reads as count-reads
-use Rattle.features.proofs.wrong.Reads as wrong-reads
+use Rattle.features.proofs.refused_list.Reads as refused-list-reads
 use Rattle.schema.proofs.stored.Reads as stored-reads
 
 stored-requires : tie.Need-stored-requires
@@ -14,8 +14,8 @@ stored-requires c κs = search needs
 count-requires : tie.Need-count-requires
 count-requires c κs = search needs
 
-wrong-requires : tie.Need-wrong-requires
-wrong-requires c κs = search needs
+refused-list-requires : tie.Need-refused-list-requires
+refused-list-requires c κs = search needs
 
 returns : tie.Need-returns
 returns c = search (needs, words-many)
@@ -25,4 +25,4 @@ returns-2 c = search (needs, words-few)
 
 pub few-words-spec : {M : Type 1} → statement M
 few-words-spec =
-    tie.close (tie.spec stored-requires count-requires wrong-requires returns returns-2)
+    tie.close (tie.spec stored-requires count-requires refused-list-requires returns returns-2)

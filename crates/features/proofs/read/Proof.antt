@@ -6,13 +6,13 @@ use Rattle.features.proofs.read.Reads as reads
 use Rattle.features.proofs.read.Lts as lts
 use Rattle.features.proofs.few_items.Reads as few-items-reads
 use Rattle.features.proofs.few_words.Reads as few-words-reads
-use Rattle.features.proofs.wrong.Reads as wrong-reads
+use Rattle.features.proofs.refused_list.Reads as refused-list-reads
 
 enum-told : tie.Need-enum-told
 enum-told c = search needs
 
-wrong-requires : tie.Need-wrong-requires
-wrong-requires c κs = search needs
+refused-list-requires : tie.Need-refused-list-requires
+refused-list-requires c κs = search needs
 
 enum-known-v : tie.Need-enum-known-v
 enum-known-v c = search needs
@@ -26,8 +26,8 @@ enum-known-v-2 c = search needs
 few-items-requires : tie.Need-few-items-requires
 few-items-requires c κs = search needs
 
-wrong-requires-2 : tie.Need-wrong-requires-2
-wrong-requires-2 c κs = search needs
+refused-list-requires-2 : tie.Need-refused-list-requires-2
+refused-list-requires-2 c κs = search needs
 
 returns : tie.Need-returns
 returns c = search (needs, read-absent)
@@ -42,4 +42,4 @@ returns-4 : tie.Need-returns-4
 returns-4 c = search (needs, read-not)
 
 pub read-spec : {M : Type 1} → statement M
-read-spec = tie.close (tie.spec enum-told wrong-requires enum-known-v few-words-requires enum-known-v-2 few-items-requires wrong-requires-2 returns returns-2 returns-3 returns-4)
+read-spec = tie.close (tie.spec enum-told refused-list-requires enum-known-v few-words-requires enum-known-v-2 few-items-requires refused-list-requires-2 returns returns-2 returns-3 returns-4)

@@ -7,7 +7,7 @@ use Rattle.features.proofs.tally.Statement.{statement}
 use Rattle.features.proofs.tally.Tie as tie
 use Rattle.features.proofs.tally.Reads as reads
 use Rattle.features.proofs.tally.Lts as lts
-use Rattle.features.proofs.most.Reads as most-reads
+use Rattle.features.proofs.most_items.Reads as most-items-reads
 use Rattle.features.proofs.nearest.Reads as nearest-reads
 
 abbrev Inv-loop : tie.InvT-loop
@@ -16,8 +16,8 @@ Inv-loop tree store made f from end after₀ n₀ after n = Tallied store (piece
 abbrev μ-loop : tie.MeasureT-loop
 μ-loop tree store made f from end after₀ n₀ after n = end - n
 
-most-requires : tie.Need-most-requires Inv-loop μ-loop
-most-requires c κs = search needs
+most-items-requires : tie.Need-most-items-requires Inv-loop μ-loop
+most-items-requires c κs = search needs
 
 loop-holds : tie.Need-loop-holds Inv-loop μ-loop
 loop-holds c = search (needs, tally-start)
@@ -52,7 +52,7 @@ tally-spec =
     (tie.spec
     Inv-loop
     μ-loop
-    most-requires
+    most-items-requires
     loop-holds
     nearest-requires
     enum-told

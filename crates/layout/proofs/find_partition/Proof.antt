@@ -6,7 +6,7 @@ use Rattle.layout.proofs.find_partition.Statement.{statement}
 use Rattle.layout.proofs.find_partition.Tie as tie
 use Rattle.layout.proofs.find_partition.Reads as reads
 use Rattle.layout.proofs.find_partition.Lts as lts
-use Rattle.layout.proofs.bears.Reads as bears-reads
+use Rattle.layout.proofs.has_name.Reads as has-name-reads
 
 abbrev Inv-loop : tie.InvT-loop
 Inv-loop bytes count name items i₀ i = Seeking name bytes items count i
@@ -17,14 +17,14 @@ abbrev μ-loop : tie.MeasureT-loop
 loop-holds : tie.Need-loop-holds Inv-loop μ-loop
 loop-holds c = search (needs, find-start)
 
-mul-bears : tie.Need-mul-bears Inv-loop μ-loop
-mul-bears c = search needs
+mul-has-name : tie.Need-mul-has-name Inv-loop μ-loop
+mul-has-name c = search needs
 
-array-copy-out-bears : tie.Need-array-copy-out-bears Inv-loop μ-loop
-array-copy-out-bears c = search needs
+array-copy-out-has-name : tie.Need-array-copy-out-has-name Inv-loop μ-loop
+array-copy-out-has-name c = search needs
 
-bears-requires : tie.Need-bears-requires Inv-loop μ-loop
-bears-requires c κs = search needs
+has-name-requires : tie.Need-has-name-requires Inv-loop μ-loop
+has-name-requires c κs = search needs
 
 returns : tie.Need-returns Inv-loop μ-loop
 returns c = search (needs, find-hit)
@@ -48,9 +48,9 @@ find-partition-spec =
     Inv-loop
     μ-loop
     loop-holds
-    mul-bears
-    array-copy-out-bears
-    bears-requires
+    mul-has-name
+    array-copy-out-has-name
+    has-name-requires
     returns
     add-i
     loop-less

@@ -13,8 +13,8 @@ Inv-loop s c i₀ i = Passed c s i
 abbrev μ-loop : tie.MeasureT-loop
 μ-loop s c i₀ i = length s - i
 
-past-requires : tie.Need-past-requires Inv-loop μ-loop
-past-requires c κs = search needs
+before-first-requires : tie.Need-before-first-requires Inv-loop μ-loop
+before-first-requires c κs = search needs
 
 loop-holds : tie.Need-loop-holds Inv-loop μ-loop
 loop-holds c = search needs
@@ -43,7 +43,7 @@ find-spec =
     (tie.spec
     Inv-loop
     μ-loop
-    past-requires
+    before-first-requires
     loop-holds
     shared-slice-read-if1
     returns

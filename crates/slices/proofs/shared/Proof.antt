@@ -25,8 +25,8 @@ sub-if1 c = search needs
 returns : tie.Need-returns Inv-loop μ-loop
 returns c = search needs
 
-alike-requires : tie.Need-alike-requires Inv-loop μ-loop
-alike-requires c κs = search needs
+same-8-requires : tie.Need-same-8-requires Inv-loop μ-loop
+same-8-requires c κs = search needs
 
 add-i : tie.Need-add-i Inv-loop μ-loop
 add-i c = search needs
@@ -35,7 +35,7 @@ loop-less : tie.Need-loop-less Inv-loop μ-loop
 loop-less c = search needs
 
 loop-again : tie.Need-loop-again Inv-loop μ-loop
-loop-again c = shared-on _ _ _ _ (search needs) (search needs) (search needs) (c .before .alike .ensures) (c .if2 .taken)
+loop-again c = shared-on _ _ _ _ (search needs) (search needs) (search needs) (c .before .same-8 .ensures) (c .if2 .taken)
 
 returns-2 : tie.Need-returns-2 Inv-loop μ-loop
 returns-2 c = search needs
@@ -53,7 +53,7 @@ shared-spec =
     sub-loop
     sub-if1
     returns
-    alike-requires
+    same-8-requires
     add-i
     loop-less
     loop-again

@@ -18,8 +18,8 @@ loop-holds c = search (needs, empty-start)
 sub-loop : tie.Need-sub-loop Inv-loop μ-loop
 sub-loop c = search needs
 
-wipe-block-requires : tie.Need-wipe-block-requires Inv-loop μ-loop
-wipe-block-requires c κs = search needs
+put-zero-block-requires : tie.Need-put-zero-block-requires Inv-loop μ-loop
+put-zero-block-requires c κs = search needs
 
 add-i : tie.Need-add-i Inv-loop μ-loop
 add-i c = search needs
@@ -33,8 +33,8 @@ loop-again c = search (needs, empty-on)
 sub-left : tie.Need-sub-left Inv-loop μ-loop
 sub-left c = search needs
 
-wipe-requires : tie.Need-wipe-requires Inv-loop μ-loop
-wipe-requires c κs = search needs
+put-zeros-requires : tie.Need-put-zeros-requires Inv-loop μ-loop
+put-zeros-requires c κs = search needs
 
 same-length : tie.Need-same-length Inv-loop μ-loop
 same-length c = search needs
@@ -50,11 +50,11 @@ zero-spec =
     μ-loop
     loop-holds
     sub-loop
-    wipe-block-requires
+    put-zero-block-requires
     add-i
     loop-less
     loop-again
     sub-left
-    wipe-requires
+    put-zeros-requires
     same-length
     returns)

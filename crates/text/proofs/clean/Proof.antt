@@ -16,8 +16,8 @@ sub-if2 c = search needs
 shared-slice-read-if2 : tie.Need-shared-slice-read-if2
 shared-slice-read-if2 c = search needs
 
-bare-requires : tie.Need-bare-requires
-bare-requires c κs = search needs
+no-hash-no-cr-requires : tie.Need-no-hash-no-cr-requires
+no-hash-no-cr-requires c κs = search needs
 
 returns-2 : tie.Need-returns-2
 returns-2 c = search (needs, clean-so)
@@ -27,4 +27,4 @@ returns-3 c = λ e. never {b = false} e refl
 
 pub clean-spec : {M : Type 1} → statement M
 clean-spec =
-    tie.close (tie.spec returns sub-if2 shared-slice-read-if2 bare-requires returns-2 returns-3)
+    tie.close (tie.spec returns sub-if2 shared-slice-read-if2 no-hash-no-cr-requires returns-2 returns-3)

@@ -15,17 +15,17 @@ abbrev μ-loop : tie.MeasureT-loop
 loop-holds : tie.Need-loop-holds Inv-loop μ-loop
 loop-holds c = search (needs, gather-start)
 
-sub-run : tie.Need-sub-run Inv-loop μ-loop
-sub-run c = search needs
+sub-left-out : tie.Need-sub-left-out Inv-loop μ-loop
+sub-left-out c = search needs
 
-part-run-start : tie.Need-part-run-start Inv-loop μ-loop
-part-run-start c = search needs
+part-left-out-start : tie.Need-part-left-out-start Inv-loop μ-loop
+part-left-out-start c = search needs
 
-part-run-end : tie.Need-part-run-end Inv-loop μ-loop
-part-run-end c = search needs
+part-left-out-end : tie.Need-part-left-out-end Inv-loop μ-loop
+part-left-out-end c = search needs
 
-run-requires : tie.Need-run-requires Inv-loop μ-loop
-run-requires c κs = search needs
+left-out-requires : tie.Need-left-out-requires Inv-loop μ-loop
+left-out-requires c κs = search needs
 
 add-i : tie.Need-add-i Inv-loop μ-loop
 add-i c = search needs
@@ -97,10 +97,10 @@ join-line-spec =
     Inv-loop
     μ-loop
     loop-holds
-    sub-run
-    part-run-start
-    part-run-end
-    run-requires
+    sub-left-out
+    part-left-out-start
+    part-left-out-end
+    left-out-requires
     add-i
     ending-requires
     returns

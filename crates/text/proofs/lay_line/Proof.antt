@@ -9,11 +9,11 @@ find-requires c κs = search needs
 line-bytes-requires : tie.Need-line-bytes-requires
 line-bytes-requires c κs = search needs
 
-slice-aggregate-kept : tie.Need-slice-aggregate-kept
-slice-aggregate-kept c = search (needs, line-count)
+slice-aggregate-before-comment : tie.Need-slice-aggregate-before-comment
+slice-aggregate-before-comment c = search (needs, line-count)
 
-kept-requires : tie.Need-kept-requires
-kept-requires c κs = search needs
+before-comment-requires : tie.Need-before-comment-requires
+before-comment-requires c κs = search needs
 
 slice-aggregate-put-line : tie.Need-slice-aggregate-put-line
 slice-aggregate-put-line c = search (needs, kept-count)
@@ -48,8 +48,8 @@ lay-line-spec =
     (tie.spec
     find-requires
     line-bytes-requires
-    slice-aggregate-kept
-    kept-requires
+    slice-aggregate-before-comment
+    before-comment-requires
     slice-aggregate-put-line
     put-line-requires
     add-t15

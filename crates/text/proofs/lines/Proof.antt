@@ -12,14 +12,14 @@ valid-requires c κs = search needs
 lay-requires : tie.Need-lay-requires
 lay-requires c κs = search needs
 
-slice-reshare-prefix-check : tie.Need-slice-reshare-prefix-check
-slice-reshare-prefix-check c = search needs
+slice-reshare-prefix-check-joined : tie.Need-slice-reshare-prefix-check-joined
+slice-reshare-prefix-check-joined c = search needs
 
-slice-aggregate-check : tie.Need-slice-aggregate-check
-slice-aggregate-check c = search (needs, prefix-count)
+slice-aggregate-check-joined : tie.Need-slice-aggregate-check-joined
+slice-aggregate-check-joined c = search (needs, prefix-count)
 
-check-requires : tie.Need-check-requires
-check-requires c κs = search (needs, from-start)
+check-joined-requires : tie.Need-check-joined-requires
+check-joined-requires c κs = search (needs, from-start)
 
 enum-known-c : tie.Need-enum-known-c
 enum-known-c c = search needs
@@ -58,9 +58,9 @@ lines-spec =
     returns
     valid-requires
     lay-requires
-    slice-reshare-prefix-check
-    slice-aggregate-check
-    check-requires
+    slice-reshare-prefix-check-joined
+    slice-aggregate-check-joined
+    check-joined-requires
     enum-known-c
     enum-known-c-2
     enum-known-c-3

@@ -15,11 +15,11 @@ abbrev μ-loop : tie.MeasureT-loop
 loop-holds : tie.Need-loop-holds Inv-loop μ-loop
 loop-holds c = search (needs, skip-start)
 
-shared-slice-read-dark : tie.Need-shared-slice-read-dark Inv-loop μ-loop
-shared-slice-read-dark c = search needs
+shared-slice-read-surely-not-blank : tie.Need-shared-slice-read-surely-not-blank Inv-loop μ-loop
+shared-slice-read-surely-not-blank c = search needs
 
-dark-requires : tie.Need-dark-requires Inv-loop μ-loop
-dark-requires c κs = search needs
+surely-not-blank-requires : tie.Need-surely-not-blank-requires Inv-loop μ-loop
+surely-not-blank-requires c κs = search needs
 
 returns : tie.Need-returns Inv-loop μ-loop
 returns c = search (needs, skip-dark)
@@ -82,8 +82,8 @@ skip-spec =
     Inv-loop
     μ-loop
     loop-holds
-    shared-slice-read-dark
-    dark-requires
+    shared-slice-read-surely-not-blank
+    surely-not-blank-requires
     returns
     sub-find
     part-find-start

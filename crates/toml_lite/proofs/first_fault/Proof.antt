@@ -4,10 +4,10 @@ use Rattle.toml_lite.proofs.first_fault.Statement.{statement}
 use Rattle.toml_lite.proofs.first_fault.Tie as tie
 use Rattle.toml_lite.proofs.first_fault.Reads as reads
 use Rattle.toml_lite.proofs.first_fault.Lts as lts
-use Rattle.text.proofs.check.Reads as check-reads
+use Rattle.text.proofs.check_joined.Reads as check-joined-reads
 
-check-requires : tie.Need-check-requires
-check-requires c κs = search needs
+check-joined-requires : tie.Need-check-joined-requires
+check-joined-requires c κs = search needs
 
 enum-told : tie.Need-enum-told
 enum-told c = search needs
@@ -30,4 +30,4 @@ returns-3 c = search (needs, fault-open)
 pub first-fault-spec : {M : Type 1} → statement M
 first-fault-spec =
     tie.close
-    (tie.spec check-requires enum-told enum-known-c enum-known-c-2 returns returns-2 returns-3)
+    (tie.spec check-joined-requires enum-told enum-known-c enum-known-c-2 returns returns-2 returns-3)

@@ -8,7 +8,7 @@ use Rattle.tree.proofs.child.Tie as tie
 use Rattle.tree.proofs.child.Reads as reads
 use Rattle.tree.proofs.child.Lts as lts
 use Rattle.tree.proofs.skip_up.Reads as skip-up-reads
-use Rattle.tree.proofs.under.Reads as under-reads
+use Rattle.tree.proofs.hangs_under.Reads as hangs-under-reads
 
 abbrev Inv-loop : tie.InvT-loop
 Inv-loop tree made parent from n₀ n = Walking tree made parent from n
@@ -22,8 +22,8 @@ skip-up-requires c κs = search needs
 loop-holds : tie.Need-loop-holds Inv-loop μ-loop
 loop-holds c = search (needs, walk-skipped)
 
-under-requires : tie.Need-under-requires Inv-loop μ-loop
-under-requires c κs = search (needs, holds-next)
+hangs-under-requires : tie.Need-hangs-under-requires Inv-loop μ-loop
+hangs-under-requires c κs = search (needs, holds-next)
 
 returns : tie.Need-returns Inv-loop μ-loop
 returns c = search (needs, walk-hit)
@@ -48,7 +48,7 @@ child-spec =
     μ-loop
     skip-up-requires
     loop-holds
-    under-requires
+    hangs-under-requires
     returns
     add-n
     loop-less

@@ -6,7 +6,7 @@ use Rattle.tree.proofs.count_items.Statement.{statement}
 use Rattle.tree.proofs.count_items.Tie as tie
 use Rattle.tree.proofs.count_items.Reads as reads
 use Rattle.tree.proofs.count_items.Lts as lts
-use Rattle.tree.proofs.under.Reads as under-reads
+use Rattle.tree.proofs.hangs_under.Reads as hangs-under-reads
 
 abbrev Inv-loop : tie.InvT-loop
 Inv-loop tree made parent n₀ i₀ n i = Counting tree made parent n i
@@ -17,8 +17,8 @@ abbrev μ-loop : tie.MeasureT-loop
 loop-holds : tie.Need-loop-holds Inv-loop μ-loop
 loop-holds c = search needs
 
-under-requires : tie.Need-under-requires Inv-loop μ-loop
-under-requires c κs = search (needs, holds-next)
+hangs-under-requires : tie.Need-hangs-under-requires Inv-loop μ-loop
+hangs-under-requires c κs = search (needs, holds-next)
 
 add-n : tie.Need-add-n Inv-loop μ-loop
 add-n c = search needs
@@ -51,7 +51,7 @@ count-items-spec =
     Inv-loop
     μ-loop
     loop-holds
-    under-requires
+    hangs-under-requires
     add-n
     add-i
     loop-less

@@ -4,11 +4,11 @@ use Rattle.tree.proofs.field.Statement.{statement}
 use Rattle.tree.proofs.field.Tie as tie
 use Rattle.tree.proofs.field.Reads as reads
 use Rattle.tree.proofs.field.Lts as lts
-use Rattle.tree.proofs.among.Reads as among-reads
+use Rattle.tree.proofs.newest_field.Reads as newest-field-reads
 use Rattle.tree.proofs.value_at.Reads as value-at-reads
 
-among-requires : tie.Need-among-requires
-among-requires c κs = search needs
+newest-field-requires : tie.Need-newest-field-requires
+newest-field-requires c κs = search needs
 
 enum-known-found : tie.Need-enum-known-found
 enum-known-found c = search needs
@@ -28,4 +28,4 @@ returns-2 c = search (needs, field-none)
 pub field-spec : {M : Type 1} → statement M
 field-spec =
     tie.close
-    (tie.spec among-requires enum-known-found value-at-requires enum-told returns returns-2)
+    (tie.spec newest-field-requires enum-known-found value-at-requires enum-told returns returns-2)

@@ -7,7 +7,7 @@ use Rattle.tree.proofs.newest.Tie as tie
 use Rattle.tree.proofs.newest.Reads as reads
 use Rattle.tree.proofs.newest.Lts as lts
 use Rattle.tree.proofs.skip_down.Reads as skip-down-reads
-use Rattle.tree.proofs.under.Reads as under-reads
+use Rattle.tree.proofs.hangs_under.Reads as hangs-under-reads
 
 abbrev Inv-loop : tie.InvT-loop
 Inv-loop tree made parent i₀ i = Sinking tree made parent i
@@ -21,11 +21,11 @@ skip-down-requires c κs = search needs
 loop-holds : tie.Need-loop-holds Inv-loop μ-loop
 loop-holds c = search (needs, sink-skipped)
 
-sub-under : tie.Need-sub-under Inv-loop μ-loop
-sub-under c = search needs
+sub-hangs-under : tie.Need-sub-hangs-under Inv-loop μ-loop
+sub-hangs-under c = search needs
 
-under-requires : tie.Need-under-requires Inv-loop μ-loop
-under-requires c κs = search (needs, sink-room)
+hangs-under-requires : tie.Need-hangs-under-requires Inv-loop μ-loop
+hangs-under-requires c κs = search (needs, sink-room)
 
 returns : tie.Need-returns Inv-loop μ-loop
 returns c = search (needs, sink-hit)
@@ -50,8 +50,8 @@ newest-spec =
     μ-loop
     skip-down-requires
     loop-holds
-    sub-under
-    under-requires
+    sub-hangs-under
+    hangs-under-requires
     returns
     sub-i
     loop-less

@@ -7,7 +7,7 @@ use Rattle.tree.proofs.nth_item.Statement.{statement}
 use Rattle.tree.proofs.nth_item.Tie as tie
 use Rattle.tree.proofs.nth_item.Reads as reads
 use Rattle.tree.proofs.nth_item.Lts as lts
-use Rattle.tree.proofs.under.Reads as under-reads
+use Rattle.tree.proofs.hangs_under.Reads as hangs-under-reads
 
 abbrev Inv-loop : tie.InvT-loop
 Inv-loop tree made parent i left₀ from₀ left from = Passing tree made parent i left from
@@ -18,8 +18,8 @@ abbrev μ-loop : tie.MeasureT-loop
 loop-holds : tie.Need-loop-holds Inv-loop μ-loop
 loop-holds c = search (needs, pass-start)
 
-under-requires : tie.Need-under-requires Inv-loop μ-loop
-under-requires c κs = search (needs, holds-next)
+hangs-under-requires : tie.Need-hangs-under-requires Inv-loop μ-loop
+hangs-under-requires c κs = search (needs, holds-next)
 
 returns : tie.Need-returns Inv-loop μ-loop
 returns c = search (needs, pass-hit)
@@ -55,7 +55,7 @@ nth-item-spec =
     Inv-loop
     μ-loop
     loop-holds
-    under-requires
+    hangs-under-requires
     returns
     sub-left
     add-from

@@ -4,27 +4,27 @@ use Rattle.tree.proofs.put.Statement.{statement}
 use Rattle.tree.proofs.put.Tie as tie
 use Rattle.tree.proofs.put.Reads as reads
 use Rattle.tree.proofs.put.Lts as lts
-use Rattle.tree.proofs.fill.Reads as fill-reads
-use Rattle.tree.proofs.link.Reads as link-reads
-use Rattle.tree.proofs.mark.Reads as mark-reads
+use Rattle.tree.proofs.put_payload.Reads as put-payload-reads
+use Rattle.tree.proofs.put_place.Reads as put-place-reads
+use Rattle.tree.proofs.put_kind.Reads as put-kind-reads
 
 mul-at : tie.Need-mul-at
 mul-at c = search needs
 
-mark-requires : tie.Need-mark-requires
-mark-requires c κs = search needs
+put-kind-requires : tie.Need-put-kind-requires
+put-kind-requires c κs = search needs
 
-add-link : tie.Need-add-link
-add-link c = search needs
+add-put-place : tie.Need-add-put-place
+add-put-place c = search needs
 
-link-requires : tie.Need-link-requires
-link-requires c κs = search needs
+put-place-requires : tie.Need-put-place-requires
+put-place-requires c κs = search needs
 
-add-fill : tie.Need-add-fill
-add-fill c = search needs
+add-put-payload : tie.Need-add-put-payload
+add-put-payload c = search needs
 
-fill-requires : tie.Need-fill-requires
-fill-requires c κs = search needs
+put-payload-requires : tie.Need-put-payload-requires
+put-payload-requires c κs = search needs
 
 same-length : tie.Need-same-length
 same-length c = search needs
@@ -37,10 +37,10 @@ put-spec =
     tie.close
     (tie.spec
     mul-at
-    mark-requires
-    add-link
-    link-requires
-    add-fill
-    fill-requires
+    put-kind-requires
+    add-put-place
+    put-place-requires
+    add-put-payload
+    put-payload-requires
     same-length
     returns)

@@ -6,7 +6,7 @@ use Rattle.tree.proofs.seek.Statement.{statement}
 use Rattle.tree.proofs.seek.Tie as tie
 use Rattle.tree.proofs.seek.Reads as reads
 use Rattle.tree.proofs.seek.Lts as lts
-use Rattle.tree.proofs.mine.Reads as mine-reads
+use Rattle.tree.proofs.is_named_child.Reads as is-named-child-reads
 
 abbrev Inv-loop : tie.InvT-loop
 Inv-loop tree store from to parent key i₀ i = Seeking tree store key from to parent i
@@ -20,8 +20,8 @@ loop-holds c = search (needs, seek-start)
 sub-i : tie.Need-sub-i Inv-loop μ-loop
 sub-i c = search needs
 
-mine-requires : tie.Need-mine-requires Inv-loop μ-loop
-mine-requires c κs = search (needs, seek-room)
+is-named-child-requires : tie.Need-is-named-child-requires Inv-loop μ-loop
+is-named-child-requires c κs = search (needs, seek-room)
 
 returns : tie.Need-returns Inv-loop μ-loop
 returns c = search (needs, seek-hit)
@@ -43,7 +43,7 @@ seek-spec =
     μ-loop
     loop-holds
     sub-i
-    mine-requires
+    is-named-child-requires
     returns
     loop-less
     loop-again

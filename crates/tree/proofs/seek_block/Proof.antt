@@ -4,11 +4,11 @@ use Rattle.tree.proofs.seek_block.Statement.{statement}
 use Rattle.tree.proofs.seek_block.Tie as tie
 use Rattle.tree.proofs.seek_block.Reads as reads
 use Rattle.tree.proofs.seek_block.Lts as lts
-use Rattle.tree.proofs.idle.Reads as idle-reads
+use Rattle.tree.proofs.none_under.Reads as none-under-reads
 use Rattle.tree.proofs.seek.Reads as seek-reads
 
-idle-requires : tie.Need-idle-requires
-idle-requires c κs = search needs
+none-under-requires : tie.Need-none-under-requires
+none-under-requires c κs = search needs
 
 returns : tie.Need-returns
 returns c = search (needs, seek-idle)
@@ -23,4 +23,4 @@ returns-2 : tie.Need-returns-2
 returns-2 c = search (needs, seek-eight)
 
 pub seek-block-spec : {M : Type 1} → statement M
-seek-block-spec = tie.close (tie.spec idle-requires returns add-seek seek-requires returns-2)
+seek-block-spec = tie.close (tie.spec none-under-requires returns add-seek seek-requires returns-2)

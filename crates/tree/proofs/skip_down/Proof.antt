@@ -6,7 +6,7 @@ use Rattle.tree.proofs.skip_down.Statement.{statement}
 use Rattle.tree.proofs.skip_down.Tie as tie
 use Rattle.tree.proofs.skip_down.Reads as reads
 use Rattle.tree.proofs.skip_down.Lts as lts
-use Rattle.tree.proofs.idle.Reads as idle-reads
+use Rattle.tree.proofs.none_under.Reads as none-under-reads
 
 abbrev Inv-loop : tie.InvT-loop
 Inv-loop tree made parent i₀ i = Clear tree parent i made
@@ -17,8 +17,8 @@ abbrev μ-loop : tie.MeasureT-loop
 loop-holds : tie.Need-loop-holds Inv-loop μ-loop
 loop-holds c = search (needs, fall-start)
 
-idle-requires : tie.Need-idle-requires Inv-loop μ-loop
-idle-requires c κs = search (needs, fall-room)
+none-under-requires : tie.Need-none-under-requires Inv-loop μ-loop
+none-under-requires c κs = search (needs, fall-room)
 
 loop-less : tie.Need-loop-less Inv-loop μ-loop
 loop-less c = search needs
@@ -35,4 +35,4 @@ returns-2 c = search needs
 pub skip-down-spec : {M : Type 1} → statement M
 skip-down-spec =
     tie.close
-    (tie.spec Inv-loop μ-loop loop-holds idle-requires loop-less loop-again returns returns-2)
+    (tie.spec Inv-loop μ-loop loop-holds none-under-requires loop-less loop-again returns returns-2)

@@ -6,7 +6,7 @@ use Rattle.tree.proofs.skip_up.Statement.{statement}
 use Rattle.tree.proofs.skip_up.Tie as tie
 use Rattle.tree.proofs.skip_up.Reads as reads
 use Rattle.tree.proofs.skip_up.Lts as lts
-use Rattle.tree.proofs.idle.Reads as idle-reads
+use Rattle.tree.proofs.none_under.Reads as none-under-reads
 
 abbrev Inv-loop : tie.InvT-loop
 Inv-loop tree made parent from n₀ n = Rising tree made parent from n
@@ -23,8 +23,8 @@ loop-holds c = search (needs, rise-start)
 sub-loop : tie.Need-sub-loop Inv-loop μ-loop
 sub-loop c = search needs
 
-idle-requires : tie.Need-idle-requires Inv-loop μ-loop
-idle-requires c κs = search (needs, rise-room)
+none-under-requires : tie.Need-none-under-requires Inv-loop μ-loop
+none-under-requires c κs = search (needs, rise-room)
 
 add-n : tie.Need-add-n Inv-loop μ-loop
 add-n c = search needs
@@ -50,7 +50,7 @@ skip-up-spec =
     returns
     loop-holds
     sub-loop
-    idle-requires
+    none-under-requires
     add-n
     loop-less
     loop-again

@@ -1,4 +1,4 @@
--- A walk of the MIR by hand, with a loop, a branch and a `return` in it. All that it knows of `bears` is its contract.
+-- A walk of the MIR by hand, with a loop, a branch and a `return` in it. All that it knows of `has_name` is its contract.
 -- In a turn the slice is looked into, record i is read whole, and the slice is shut again, so that between two turns what it owns is whole. Of each slice what it owns is had twice, and one copy is kept.
 -- What is known at a turn is what the loop of the covered `find` knows (`Seeking`), and the ways on and out are the same laws. A local's type is read off the MIR (`ty`).
 use mathlib.Core.Path.{_≡_, refl, sym, ap}
@@ -55,10 +55,10 @@ use Rattle.layout.specs.Parts.{partName}
 use Rattle.layout.proofs.Checking.{noPart}
 use Rattle.layout.proofs.Finding.{Seeking, find-start, find-on, find-hit, find-end}
 use Rattle.layout.proofs.Walking.{typeAt}
-use Rattle.layout.proofs.bears as bears
-use Rattle.layout.proofs.bears.Symbol as bears-def
-use Rattle.layout.proofs.bears.Symbol.{name as #layout·bears}
-use Rattle.layout.proofs.bears.Met as bears-thm
+use Rattle.layout.proofs.has_name as has-name
+use Rattle.layout.proofs.has_name.Symbol as has-name-def
+use Rattle.layout.proofs.has_name.Symbol.{name as #layout·has-name}
+use Rattle.layout.proofs.has_name.Met as has-name-thm
 use Rattle.layout.proofs.lent.scan.Key.{name as #layout·lent·scan}
 use Rattle.layout.proofs.lent.scan as scan
 use Rattle.layout.proofs.lent.scan.Statement as stated
@@ -86,8 +86,8 @@ stayed = (stay-dropped s₀ yes, (stay-dropped s₁ yes, (stay-dropped s₂ yes,
 
 module _ {M : Type 1} (𝓤 : URA M) (H : Heap 𝓤) (A : Atoms 𝓤) (mem : Memory → SProp 𝓤) (run : Routine → Fun 𝓤) where
   -- the contract that the proof cites
-  abbrev Bears : Contract 𝓤
-  Bears = tripleOf 𝓤 H A bears.signature (bears.spec 𝓤 H A mem run)
+  abbrev HasName : Contract 𝓤
+  HasName = tripleOf 𝓤 H A has-name.signature (has-name.spec 𝓤 H A mem run)
 
 module _ {M : Type 1} (𝓤 : URA M) (H : Heap 𝓤) (A : Atoms 𝓤) (W : Given 𝓤 H A) (mem : Memory → SProp 𝓤) (run : Routine → Fun 𝓤) (κ₀ κ₁ κ₂ : Lft) (q₀ q₁ q₂ : Share) (b o : ℕ) (γ : GName) (ys : List Partition) (n : ℕ) (bytes name : RefT (List ℕ)) (ok : n ≤ length ys) where
   abbrev items : RefT (List Partition)
@@ -123,7 +123,7 @@ module _ {M : Type 1} (𝓤 : URA M) (H : Heap 𝓤) (A : Atoms 𝓤) (W : Given
   abbrev OwnN : Fml
   OwnN = ShrSlice (named 1) κ₂ u8 .own name (vN ∷ [])
 
-  -- the tokens that `bears` takes
+  -- the tokens that `has_name` takes
   abbrev Toks : Item 𝓤
   Toks = ‵ (flft κ₀ q₀) ⊛ ‵ (flft κ₂ q₂) ⊛ ‵ ftrue
 
@@ -148,36 +148,36 @@ module _ {M : Type 1} (𝓤 : URA M) (H : Heap 𝓤) (A : Atoms 𝓤) (W : Given
       move ! (1 ∷ []) $ split ! $ move ! (2 ∷ 1 ∷ []) $ join ! $ move ! (1 ∷ 0 ∷ []) $ join ! $ frame ! $ nothing ! $ nothing ! $ fjoin ! $ nothing ! $ fjoin ! $ nothing ! $ fjoin ! $ nothing ! $ fjoin ! $ frame ! $
       owned ! usize (Is usize) (uint-makes 𝓤 H A W w64) r _ (refl, small) $ done !
 
-  -- the call of `bears`, at a record p
+  -- the call of `has_name`, at a record p
   module _ (p : Partition) where
     abbrev given-to : RefT (List ℕ) × (Partition × (RefT (List ℕ) × Unit {0}))
     given-to = (bytes, (p, (name, tt)))
 
-    abbrev passed : Vals bears.signature (κ₀, (κ₂, tt))
+    abbrev passed : Vals has-name.signature (κ₀, (κ₂, tt))
     passed = (vB ∷ [], (T′.lowered p ∷ [], (vN ∷ [], tt)))
 
-    abbrev to-bears : Bears 𝓤 H A mem run .Ghost
-    to-bears = (((κ₀, (κ₂, tt)), (q₀, (q₂, tt)), tt, given-to, passed), tt)
+    abbrev to-has-name : HasName 𝓤 H A mem run .Ghost
+    to-has-name = (((κ₀, (κ₂, tt)), (q₀, (q₂, tt)), tt, given-to, passed), tt)
 
     abbrev test : Bool
     test = same (now name) (partName (now bytes) p)
 
-    asked : ent 𝓤 (onEntry 𝓤 H A bears.signature (κ₀, (κ₂, tt)) (q₀, (q₂, tt)) given-to passed) (Bears 𝓤 H A mem run .pre to-bears)
+    asked : ent 𝓤 (onEntry 𝓤 H A has-name.signature (κ₀, (κ₂, tt)) (q₀, (q₂, tt)) given-to passed) (HasName 𝓤 H A mem run .pre to-has-name)
     asked = qed W (Toks ∷ ‵ (owns (ShrSlice (named 0) κ₀ u8 ∷ T.the-row ∷ ShrSlice (named 1) κ₂ u8 ∷ []) given-to passed) ∷ []) ∵ join ! $ frame ! $ done !
 
-    goes-bears : Is T.the-row p (T′.lowered p ∷ []) → ent 𝓤 (⋆ 𝓤 H A (Toks ∷ ‵ OwnB ∷ ‵ OwnN ∷ [])) (sep 𝓤 (Bears 𝓤 H A mem run .pre to-bears) (sep 𝓤 (sem 𝓤 H A OwnB) (sem 𝓤 H A OwnN)))
-    goes-bears is =
+    goes-has-name : Is T.the-row p (T′.lowered p ∷ []) → ent 𝓤 (⋆ 𝓤 H A (Toks ∷ ‵ OwnB ∷ ‵ OwnN ∷ [])) (sep 𝓤 (HasName 𝓤 H A mem run .pre to-has-name) (sep 𝓤 (sem 𝓤 H A OwnB) (sem 𝓤 H A OwnN)))
+    goes-has-name is =
         qed W (Toks ∷ ‵ OwnB ∷ ‵ OwnN ∷ []) ∵
         move ! (1 ∷ []) $ use1 W (‵ OwnB ⊛ ‵ OwnB) (shr-slice-copy 𝓤 H A W (named 0) κ₀ u8 .twice bytes (vB ∷ [])) $ split ! $
         move ! (3 ∷ []) $ use1 W (‵ OwnN ⊛ ‵ OwnN) (shr-slice-copy 𝓤 H A W (named 1) κ₂ u8 .twice name (vN ∷ [])) $ split ! $
         -- [name's; name's; bytes'; bytes'; the tokens]
         nothing ! $ move ! (1 ∷ 0 ∷ []) $ fjoin ! $ owned ! T.the-row (Is T.the-row) (LL.makes T.the-type T′.the-plain 𝓤 H A) p _ is $ fjoin ! $ move ! (2 ∷ 0 ∷ []) $ fjoin ! $
-        move ! (3 ∷ 0 ∷ []) $ use2 W (raw (Bears 𝓤 H A mem run .pre to-bears)) asked $ frame ! $ move ! (1 ∷ 0 ∷ []) $ done !
+        move ! (3 ∷ 0 ∷ []) $ use2 W (raw (HasName 𝓤 H A mem run .pre to-has-name)) asked $ frame ! $ move ! (1 ∷ 0 ∷ []) $ done !
 
-    bears-said : (r : Bool) → ent 𝓤 (ensured 𝓤 H A bears.ended (bears.clauses 𝓤 H A mem run) (κ₀, (κ₂, tt)) given-to tt r) (fact 𝓤 (r ≡ test))
-    bears-said r = exE 𝓤 _ (λ ws. snd∗ 𝓤 (sem 𝓤 H A (lasts bears.ended (κ₀, (κ₂, tt)) given-to ws)) (fact 𝓤 (r ≡ test)))
+    has-name-said : (r : Bool) → ent 𝓤 (ensured 𝓤 H A has-name.ended (has-name.clauses 𝓤 H A mem run) (κ₀, (κ₂, tt)) given-to tt r) (fact 𝓤 (r ≡ test))
+    has-name-said r = exE 𝓤 _ (λ ws. snd∗ 𝓤 (sem 𝓤 H A (lasts has-name.ended (κ₀, (κ₂, tt)) given-to ws)) (fact 𝓤 (r ≡ test)))
 
-  module _ (𝓣 : Tables 𝓤 H) (known : Triple 𝓤 (𝓣 .C #layout·bears) (Bears 𝓤 H A mem run)) (gP : Room T.the-row (length ys)) (gn : n < 2 ^ 64) where
+  module _ (𝓣 : Tables 𝓤 H) (known : Triple 𝓤 (𝓣 .C #layout·has-name) (HasName 𝓤 H A mem run)) (gP : Room T.the-row (length ys)) (gn : n < 2 ^ 64) where
     abbrev C : Calls 𝓤 H
     C = 𝓣 .C
 
@@ -205,7 +205,7 @@ module _ {M : Type 1} (𝓤 : URA M) (H : Heap 𝓤) (A : Atoms 𝓤) (W : Given
       abbrev next-i : Body
       next-i = assign (place 5 []) (op2 (add unsigned) (copy (place 5 [])) (int w64 1))
 
-      -- a turn: the test holds, and the record at i is tried; or it fails, and none bears the name
+      -- a turn: the test holds, and the record at i is tried; or it fails, and none has-name the name
       turns : (s : At) (t : Bool) → ltb (s .i) n ≡ t → Seq (Go {0}) W (I s) (runs C Λ En body.turn-1 (anyQ (Then s)))
       unfolding afterTurn
       turns s true e =
@@ -222,15 +222,15 @@ module _ {M : Type 1} (𝓤 : URA M) (H : Heap 𝓤) (A : Atoms 𝓤) (W : Given
           assigns ! (of-opd ! (load ! (from ! (hop ! (look ! 10 refl) (stop !))) (look-raw ! 0 refl))) (from ! (stop !)) (init ! 11 refl (LL.lawful T.the-type T′.the-laws 𝓤 H A W .typed elem _ is .0)) $
           elem-back ! T.the-row q′ ys (s .i) noPart (T′.lowered elem ∷ []) b o inside $ shuts-slice ! tt T.the-row q′ ys b o $ move ! (1 ∷ []) $ drop ! $
           -- [the token of items; what items owns; _5; …; room for _0; the others' tokens; what bytes owns; what name owns; …]
-          move ! (13 ∷ 14 ∷ 15 ∷ []) $ use3 W (raw (Bears 𝓤 H A mem run .pre (to-bears elem)) ⊛ ‵ OwnB ⊛ ‵ OwnN) (goes-bears elem is) $ split ! $
-          calls-at ! fm (Bears 𝓤 H A mem run) known (to-bears elem) (and-then ! (load ! (from ! (stop !)) (look ! 10 refl)) (and-then ! (load ! (from ! (stop !)) (look ! 9 refl)) (and-then ! (load ! (from ! (stop !)) (look ! 13 refl)) (no-more !)))) (λ u.
-          use1 W (later (some (λ (r : Bool). (Toks ⊛ ‵ (Boolean .own r (u ∷ []))) ⊛ raw (ensured 𝓤 H A bears.ended (bears.clauses 𝓤 H A mem run) (κ₀, (κ₂, tt)) (given-to elem) tt r)))) (id⊢ 𝓤 _) $ await ! tt $ pick ! (λ r.
-          split ! $ move ! (1 ∷ []) $ use1 W (raw (fact 𝓤 (r ≡ test elem))) (bears-said elem r) $ heard ! (r ≡ test elem) (λ e′. split ! $ move ! (1 ∷ []) $
+          move ! (13 ∷ 14 ∷ 15 ∷ []) $ use3 W (raw (HasName 𝓤 H A mem run .pre (to-has-name elem)) ⊛ ‵ OwnB ⊛ ‵ OwnN) (goes-has-name elem is) $ split ! $
+          calls-at ! fm (HasName 𝓤 H A mem run) known (to-has-name elem) (and-then ! (load ! (from ! (stop !)) (look ! 10 refl)) (and-then ! (load ! (from ! (stop !)) (look ! 9 refl)) (and-then ! (load ! (from ! (stop !)) (look ! 13 refl)) (no-more !)))) (λ u.
+          use1 W (later (some (λ (r : Bool). (Toks ⊛ ‵ (Boolean .own r (u ∷ []))) ⊛ raw (ensured 𝓤 H A has-name.ended (has-name.clauses 𝓤 H A mem run) (κ₀, (κ₂, tt)) (given-to elem) tt r)))) (id⊢ 𝓤 _) $ await ! tt $ pick ! (λ r.
+          split ! $ move ! (1 ∷ []) $ use1 W (raw (fact 𝓤 (r ≡ test elem))) (has-name-said elem r) $ heard ! (r ≡ test elem) (λ e′. split ! $ move ! (1 ∷ []) $
           facts ! Boolean (Is Boolean) (shows 𝓤 H A Boolean) r (u ∷ []) (λ is′.
           -- [the others' tokens; what bytes and name own; the token of items; what items owns; _5; …]
           land ! (from ! (stop !)) (init ! 6 refl (bool-lawful 𝓤 H A W .typed r _ is′ .0)) $ rewrite ! 6 (λ (w : Val). ‵ (fat fullShare tyBool l₇ 0 w)) (ap only is′) refl $
           first ! $ branches ! (load ! (from ! (stop !)) (look ! 6 refl))
-          -- the record bears the name: its number is returned, from within the loop
+          -- the record has-name the name: its number is returned, from within the loop
           (λ yes. assigns ! (of-opd ! (load ! (from ! (stop !)) (look ! 4 refl))) (from ! (stop !)) (init ! 14 refl (tt, record { fits = small })) $
           returns-within ! Post refl (look ! 14 refl) $ forget ! 4 refl $ forget ! 5 refl $ forget ! 6 refl $ forget ! 7 refl $ forget ! 8 refl $ forget ! 9 refl $ forget ! 10 refl $ forget ! 11 refl $ forget ! 12 refl $ forget ! 13 refl $ forget ! 14 refl $
           move ! (14 ∷ 15 ∷ []) $ free1 ! $ move ! (10 ∷ 14 ∷ []) $ free1 ! $ move ! (10 ∷ 13 ∷ []) $ free1 ! $ move ! (10 ∷ 12 ∷ []) $ free1 ! $ move ! (10 ∷ 11 ∷ []) $ free1 ! $ move ! (4 ∷ 10 ∷ []) $ free1 ! $ move ! (4 ∷ 9 ∷ []) $ free1 ! $ move ! (4 ∷ 8 ∷ []) $ free1 ! $ move ! (4 ∷ 7 ∷ []) $ free1 ! $ move ! (4 ∷ 6 ∷ []) $ free1 ! $ move ! (4 ∷ 5 ∷ []) $ free1 ! $ free0 ! $ keep ! (2 ∷ 0 ∷ []) $ by ! (exits (s .i) small (find-hit (now name) (now bytes) ys n (s .i) (s .so) noPart below r e′ (is-true r yes))))
@@ -285,7 +285,7 @@ module _ {M : Type 1} (𝓤 : URA M) (H : Heap 𝓤) (A : Atoms 𝓤) (W : Given
         loops ! 𝓣 fewer falls (I l₀ l₁ l₂ l₃ l₄ l₅ l₆ l₇ l₈ l₉ l₁₀) (λ s. turns l₀ l₁ l₂ l₃ l₄ l₅ l₆ l₇ l₈ l₉ l₁₀ s (ltb (s .i) n) refl) (record { i = 0; so = find-start (now name) (now bytes) ys n ok }))))))))))))
 
 module _ {M : Type 1} (𝓤 : URA M) (H : Heap 𝓤) (A : Atoms 𝓤) (W : Given 𝓤 H A) (mem : Memory → SProp 𝓤) (run : Routine → Fun 𝓤) where
-  scan-walks : (𝓣 : Tables 𝓤 H) → Triple 𝓤 (𝓣 .C #layout·bears) (Bears 𝓤 H A mem run)
+  scan-walks : (𝓣 : Tables 𝓤 H) → Triple 𝓤 (𝓣 .C #layout·has-name) (HasName 𝓤 H A mem run)
       → Walks 𝓤 H A scan.ended stayed (WpFn 𝓤 H (𝓣 .C) (𝓣 .Λ) code.function) (scan.clauses 𝓤 H A mem run)
   scan-walks 𝓣 known = walked 𝓤 H A scan.ended stayed (scan.clauses 𝓤 H A mem run) (WpFn 𝓤 H (𝓣 .C) (𝓣 .Λ) code.function) (λ κs. (slice-vals, (slice-vals, (uint-vals w64, (slice-vals, tt)))))
       (λ κs. (shr-slice-tells (named 0) (κs .0) u8, (shr-slice-tells (named 1) (κs .1 .0) T.the-row, (uint-tells w64, (shr-slice-tells (named 2) (κs .1 .1 .0) u8, tt)))))
@@ -293,7 +293,7 @@ module _ {M : Type 1} (𝓤 : URA M) (H : Heap 𝓤) (A : Atoms 𝓤) (W : Given
       walk 𝓤 H A W mem run (κs .0) (κs .1 .0) (κs .1 .1 .0) (qs .0) (qs .1 .0) (qs .1 .1 .0) (a .1 .0 .ptr .0) (a .1 .0 .ptr .1) (a .1 .0 .name) (a .1 .0 .now) (a .1 .1 .0) (a .0) (a .1 .1 .1 .0) ok 𝓣 known (are .1 .0 .0 .1) (are .1 .1 .0 .1) (are .0) (are .1 .1 .1 .0)))
 
 scan-meets : {M : Type 1} (𝓤 : URA M) (H : Heap 𝓤) (A : Atoms 𝓤) (W : Given 𝓤 H A) (mem : Memory → SProp 𝓤) (run : Routine → Fun 𝓤) (𝓣 : Tables 𝓤 H)
-    → Triple 𝓤 (𝓣 .C #layout·bears) (Bears 𝓤 H A mem run)
+    → Triple 𝓤 (𝓣 .C #layout·has-name) (HasName 𝓤 H A mem run)
     → Meets 𝓤 H A scan.signature (WpFn 𝓤 H (𝓣 .C) (𝓣 .Λ) code.function) (scan.spec 𝓤 H A mem run)
 scan-meets 𝓤 H A W mem run 𝓣 known = walk-meets 𝓤 H A scan.ended stayed W
     (goes-dropped 𝓤 H A W 3 s₀ yes (λ κs x f. refl), (goes-dropped 𝓤 H A W 3 s₁ yes (λ κs x f. refl), (goes-dropped 𝓤 H A W 3 s₂ yes (λ κs x f. refl), (goes-dropped 𝓤 H A W 3 s₃ yes (λ κs x f. refl), tt))))
@@ -305,4 +305,4 @@ scan-spec 𝓤 H 𝓜 𝓖 𝓡 =
     entered 𝓤 H (tripleOf 𝓤 H (𝓖 .A) scan.signature (scan.spec 𝓤 H (𝓖 .A) (𝓜 .mem) (𝓡 .run)))
     (tables 𝓤 H 𝓜 𝓡 code.env .C) (tables 𝓤 H 𝓜 𝓡 code.env .Λ) #layout·lent·scan code.function (code.unfolded 𝓤 H 𝓜 𝓡)
     (scan-meets 𝓤 H (𝓖 .A) (givenOf 𝓤 H 𝓜 𝓖) (𝓜 .mem) (𝓡 .run) (tablesOf 𝓤 H 𝓜 (tables 𝓤 H 𝓜 𝓡 code.env))
-    (cited 𝓤 H (Bears 𝓤 H (𝓖 .A) (𝓜 .mem) (𝓡 .run)) 𝓜 𝓡 code.env #layout·bears bears-def.routine code.calls-layout·bears (bears-thm.met 𝓤 H 𝓜 𝓖 𝓡)))
+    (cited 𝓤 H (HasName 𝓤 H (𝓖 .A) (𝓜 .mem) (𝓡 .run)) 𝓜 𝓡 code.env #layout·has-name has-name-def.routine code.calls-layout·has-name (has-name-thm.met 𝓤 H 𝓜 𝓖 𝓡)))

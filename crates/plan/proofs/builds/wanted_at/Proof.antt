@@ -9,7 +9,7 @@ use Rattle.parse.proofs.component.read_lists.Reads as read-lists-reads
 use Rattle.parse.proofs.component.read_sources.Reads as read-sources-reads
 use Rattle.parse.proofs.entry.entry_table.Reads as entry-table-reads
 use Rattle.parse.proofs.field.text.Reads as text-reads
-use Rattle.plan.proofs.builds.using.Reads as using-reads
+use Rattle.plan.proofs.builds.use_of.Reads as use-of-reads
 use Rattle.tree.proofs.value_at.Reads as value-at-reads
 
 value-at-requires : tie.Need-value-at-requires
@@ -30,11 +30,11 @@ slice-aggregate-text c = search needs
 text-requires : tie.Need-text-requires
 text-requires c κs = search (needs, table-spread)
 
-using-requires : tie.Need-using-requires
-using-requires c κs = search needs
+use-of-requires : tie.Need-use-of-requires
+use-of-requires c κs = search needs
 
-using-requires-2 : tie.Need-using-requires-2
-using-requires-2 c κs = search needs
+use-of-requires-2 : tie.Need-use-of-requires-2
+use-of-requires-2 c κs = search needs
 
 returns : tie.Need-returns
 returns c = search (needs, wanted-read)
@@ -49,6 +49,6 @@ wanted-at-spec =
     read-lists-requires
     slice-aggregate-text
     text-requires
-    using-requires
-    using-requires-2
+    use-of-requires
+    use-of-requires-2
     returns)

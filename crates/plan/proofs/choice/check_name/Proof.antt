@@ -6,7 +6,7 @@ use Rattle.plan.proofs.choice.check_name.Reads as reads
 use Rattle.plan.proofs.choice.check_name.Lts as lts
 use Rattle.parse.proofs.entry.application_at.Reads as application-at-reads
 use Rattle.parse.proofs.refusal_at.Reads as refusal-at-reads
-use Rattle.plan.proofs.choice.taken.Reads as taken-reads
+use Rattle.plan.proofs.choice.is_component_name.Reads as is-component-name-reads
 use Rattle.schema.proofs.Text.length.Reads as length-reads
 use Rattle.schema.proofs.Text.start.Reads as start-reads
 use Rattle.schema.proofs.stored.Reads as stored-reads
@@ -23,8 +23,8 @@ length-requires c κs = search needs
 stored-requires : tie.Need-stored-requires
 stored-requires c κs = search needs
 
-taken-requires : tie.Need-taken-requires
-taken-requires c κs = search needs
+is-component-name-requires : tie.Need-is-component-name-requires
+is-component-name-requires c κs = search needs
 
 refusal-at-requires : tie.Need-refusal-at-requires
 refusal-at-requires c κs = search needs
@@ -46,7 +46,7 @@ check-name-spec =
     start-requires
     length-requires
     stored-requires
-    taken-requires
+    is-component-name-requires
     refusal-at-requires
     returns
     refusal-at-requires-2

@@ -7,7 +7,7 @@ use Rattle.plan.proofs.choice.declared.Statement.{statement}
 use Rattle.plan.proofs.choice.declared.Tie as tie
 use Rattle.plan.proofs.choice.declared.Reads as reads
 use Rattle.plan.proofs.choice.declared.Lts as lts
-use Rattle.plan.proofs.choice.keyed.Reads as keyed-reads
+use Rattle.plan.proofs.choice.has_key.Reads as has-key-reads
 use Rattle.tree.proofs.keys_of.Reads as keys-of-reads
 use Rattle.tree.proofs.next_key.Reads as next-key-reads
 
@@ -35,8 +35,8 @@ returns c = search (needs, seek-none)
 enum-known-step : tie.Need-enum-known-step Inv-loop μ-loop
 enum-known-step c = search needs
 
-keyed-requires : tie.Need-keyed-requires Inv-loop μ-loop
-keyed-requires c κs = search (needs, seek-stood)
+has-key-requires : tie.Need-has-key-requires Inv-loop μ-loop
+has-key-requires c κs = search (needs, seek-stood)
 
 returns-2 : tie.Need-returns-2 Inv-loop μ-loop
 returns-2 c = search (needs, seek-hit)
@@ -65,7 +65,7 @@ declared-spec =
     enum-told
     returns
     enum-known-step
-    keyed-requires
+    has-key-requires
     returns-2
     add-i
     loop-less

@@ -5,13 +5,13 @@ use Rattle.plan.proofs.component.component.Tie as tie
 use Rattle.plan.proofs.component.component.Reads as reads
 use Rattle.plan.proofs.component.component.Lts as lts
 use Rattle.plan.proofs.component.composed.Reads as composed-reads
-use Rattle.plan.proofs.component.own.Reads as own-reads
+use Rattle.plan.proofs.component.planned_component.Reads as planned-component-reads
 
 enum-told : tie.Need-enum-told
 enum-told c = search needs
 
-own-requires : tie.Need-own-requires
-own-requires c κs = search needs
+planned-component-requires : tie.Need-planned-component-requires
+planned-component-requires c κs = search needs
 
 enum-told-2 : tie.Need-enum-told-2
 enum-told-2 c = search needs
@@ -36,7 +36,7 @@ component-spec =
     tie.close
     (tie.spec
     enum-told
-    own-requires
+    planned-component-requires
     enum-told-2
     enum-known-c
     composed-requires

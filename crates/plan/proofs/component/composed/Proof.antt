@@ -4,15 +4,15 @@ use Rattle.plan.proofs.component.composed.Statement.{statement}
 use Rattle.plan.proofs.component.composed.Tie as tie
 use Rattle.plan.proofs.component.composed.Reads as reads
 use Rattle.plan.proofs.component.composed.Lts as lts
-use Rattle.plan.proofs.component.ahead.Reads as ahead-reads
-use Rattle.plan.proofs.component.own.Reads as own-reads
+use Rattle.plan.proofs.component.before_first_placed.Reads as before-first-placed-reads
+use Rattle.plan.proofs.component.planned_component.Reads as planned-component-reads
 use Rattle.plan.proofs.component.planned_application.Reads as planned-application-reads
 
-ahead-requires : tie.Need-ahead-requires
-ahead-requires c κs = search needs
+before-first-placed-requires : tie.Need-before-first-placed-requires
+before-first-placed-requires c κs = search needs
 
-own-requires : tie.Need-own-requires
-own-requires c κs = search needs
+planned-component-requires : tie.Need-planned-component-requires
+planned-component-requires c κs = search needs
 
 returns : tie.Need-returns
 returns c = search (needs, composed-before)
@@ -23,11 +23,11 @@ planned-application-requires c κs = search needs
 returns-2 : tie.Need-returns-2
 returns-2 c = search (needs, composed-here)
 
-sub-own : tie.Need-sub-own
-sub-own c = search needs
+sub-planned-component : tie.Need-sub-planned-component
+sub-planned-component c = search needs
 
-own-requires-2 : tie.Need-own-requires-2
-own-requires-2 c κs = search needs
+planned-component-requires-2 : tie.Need-planned-component-requires-2
+planned-component-requires-2 c κs = search needs
 
 returns-3 : tie.Need-returns-3
 returns-3 c = search (needs, composed-behind)
@@ -36,11 +36,11 @@ pub composed-spec : {M : Type 1} → statement M
 composed-spec =
     tie.close
     (tie.spec
-    ahead-requires
-    own-requires
+    before-first-placed-requires
+    planned-component-requires
     returns
     planned-application-requires
     returns-2
-    sub-own
-    own-requires-2
+    sub-planned-component
+    planned-component-requires-2
     returns-3)

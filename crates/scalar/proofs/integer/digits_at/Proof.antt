@@ -7,7 +7,7 @@ use Rattle.scalar.proofs.integer.digits_at.Statement.{statement}
 use Rattle.scalar.proofs.integer.digits_at.Tie as tie
 use Rattle.scalar.proofs.integer.digits_at.Reads as reads
 use Rattle.scalar.proofs.integer.digits_at.Lts as lts
-use Rattle.scalar.proofs.integer.more.Reads as more-reads
+use Rattle.scalar.proofs.integer.add_digit.Reads as add-digit-reads
 
 abbrev Inv-loop : tie.InvT-loop
 Inv-loop s from base limit i₀ acc₀ i acc = Counting s base limit from i acc
@@ -30,8 +30,8 @@ loop-less c = search needs
 loop-again : tie.Need-loop-again Inv-loop μ-loop
 loop-again c = search (needs, count-over)
 
-more-requires : tie.Need-more-requires Inv-loop μ-loop
-more-requires c κs = search needs
+add-digit-requires : tie.Need-add-digit-requires Inv-loop μ-loop
+add-digit-requires c κs = search needs
 
 enum-known-v : tie.Need-enum-known-v Inv-loop μ-loop
 enum-known-v c = search needs
@@ -65,7 +65,7 @@ digits-at-spec =
     add-i
     loop-less
     loop-again
-    more-requires
+    add-digit-requires
     enum-known-v
     add-i-2
     loop-less-2

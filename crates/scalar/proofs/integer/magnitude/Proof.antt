@@ -9,8 +9,8 @@ skip-requires c κs = search needs
 returns : tie.Need-returns
 returns c = search (needs, none-left)
 
-most-requires : tie.Need-most-requires
-most-requires c κs = search needs
+largest-magnitude-requires : tie.Need-largest-magnitude-requires
+largest-magnitude-requires c κs = search needs
 
 digits-at-requires : tie.Need-digits-at-requires
 digits-at-requires c κs = search needs
@@ -33,7 +33,7 @@ magnitude-spec =
     (tie.spec
     skip-requires
     returns
-    most-requires
+    largest-magnitude-requires
     digits-at-requires
     enum-known-n
     enum-told

@@ -5,20 +5,20 @@ use Rattle.scalar.proofs.integer.read_int.Tie as tie
 use Rattle.scalar.proofs.integer.read_int.Reads as reads
 use Rattle.scalar.proofs.integer.read_int.Lts as lts
 use Rattle.scalar.proofs.integer.first.Reads as first-reads
-use Rattle.scalar.proofs.integer.past.Reads as past-reads
+use Rattle.scalar.proofs.integer.after_byte.Reads as after-byte-reads
 use Rattle.scalar.proofs.integer.sign.Reads as sign-reads
 
 first-requires : tie.Need-first-requires
 first-requires c κs = search needs
 
-past-requires : tie.Need-past-requires
-past-requires c κs = search needs
+after-byte-requires : tie.Need-after-byte-requires
+after-byte-requires c κs = search needs
 
 first-requires-2 : tie.Need-first-requires-2
 first-requires-2 c κs = search needs
 
-past-requires-2 : tie.Need-past-requires-2
-past-requires-2 c κs = search needs
+after-byte-requires-2 : tie.Need-after-byte-requires-2
+after-byte-requires-2 c κs = search needs
 
 sign-requires : tie.Need-sign-requires
 sign-requires c κs = search needs
@@ -49,9 +49,9 @@ read-int-spec =
     tie.close
     (tie.spec
     first-requires
-    past-requires
+    after-byte-requires
     first-requires-2
-    past-requires-2
+    after-byte-requires-2
     sign-requires
     returns
     sign-requires-2

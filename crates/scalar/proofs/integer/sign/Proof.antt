@@ -6,13 +6,13 @@ use Rattle.scalar.proofs.integer.sign.Reads as reads
 use Rattle.scalar.proofs.integer.sign.Lts as lts
 use Rattle.scalar.proofs.integer.first.Reads as first-reads
 use Rattle.scalar.proofs.integer.magnitude.Reads as magnitude-reads
-use Rattle.scalar.proofs.integer.past.Reads as past-reads
+use Rattle.scalar.proofs.integer.after_byte.Reads as after-byte-reads
 
 first-requires : tie.Need-first-requires
 first-requires c κs = search needs
 
-past-requires : tie.Need-past-requires
-past-requires c κs = search needs
+after-byte-requires : tie.Need-after-byte-requires
+after-byte-requires c κs = search needs
 
 magnitude-requires : tie.Need-magnitude-requires
 magnitude-requires c κs = search needs
@@ -37,7 +37,7 @@ sign-spec =
     tie.close
     (tie.spec
     first-requires
-    past-requires
+    after-byte-requires
     magnitude-requires
     returns
     magnitude-requires-2

@@ -5,11 +5,11 @@ use Rattle.scalar.proofs.key.put_quoted.Tie as tie
 use Rattle.scalar.proofs.key.put_quoted.Reads as reads
 use Rattle.scalar.proofs.key.put_quoted.Lts as lts
 use Rattle.scalar.proofs.key.judge.Reads as judge-reads
-use Rattle.scalar.proofs.key.last.Reads as last-reads
+use Rattle.scalar.proofs.key.last_byte.Reads as last-byte-reads
 use Rattle.scalar.proofs.string.put_string.Reads as put-string-reads
 
-last-requires : tie.Need-last-requires
-last-requires c κs = search needs
+last-byte-requires : tie.Need-last-byte-requires
+last-byte-requires c κs = search needs
 
 put-string-requires : tie.Need-put-string-requires
 put-string-requires c κs = search needs
@@ -48,7 +48,7 @@ pub put-quoted-spec : {M : Type 1} → statement M
 put-quoted-spec =
     tie.close
     (tie.spec
-    last-requires
+    last-byte-requires
     put-string-requires
     enum-known-d
     judge-requires
