@@ -1,7 +1,7 @@
 -- A component's fields: one law for each group, from what its readers said.
 use Prim.Native.Nat.{ℕ, _+_, _-_, _^_, _≤_, _<_}
 use mathlib.Core.Bool.{Bool, true, false}
-use mathlib.Core.List.{List}
+use mathlib.Core.List.{List, [], _∷_}
 use mathlib.Core.Path.{_≡_, refl, sym, ap, _∙_}
 use native.Mathlib.Omega.{arith}
 use mir.Syntax.{w64}
@@ -12,9 +12,11 @@ use lib.ListN.{length, drop, length-drop}
 use lib.Seq.{length-take-le}
 use Rattle.meaning.specs.Base.{ascii, nil?}
 use Rattle.laws.specs.Cases.{on}
+use Rattle.laws.specs.Variants.{Left, others}
 use Rattle.tree.specs.declared.Fields.{Fields}
 use Rattle.tree.specs.declared.Value.{Value}
 use Rattle.tree.specs.Doors.{field}
+use Rattle.schema.proofs.Text.{enum}
 use Rattle.schema.specs.declared.Text.{Text}
 use Rattle.schema.specs.declared.Text.the-variants as texts
 use Rattle.schema.specs.declared.Word.the-variants as words
@@ -36,13 +38,12 @@ use Rattle.parse.specs.declared.component.LoadRead.{LoadRead}
 use Rattle.parse.specs.Fields.{firstFault, textAt, textNeeded, numberAt, flagAt, kindAt}
 use Rattle.parse.specs.File.{fileAt, Placed}
 use Rattle.parse.specs.Component.{nameIn, filenameFor, sources, headRead, lists, roleRead, bootRead, loadRead, componentRead}
-use Rattle.schema.proofs.Wording.{Elsewhere, elsewhere}
 
 -- ---- a file's name
 
 -- only a stored text has one
-pub name-else : (store : List ℕ) (file : Text) → Elsewhere file → texts.Absent ≡ nameIn store file
-name-else store = elsewhere (nameIn store) texts.Absent refl refl (λ _. refl) (λ _ _. refl)
+pub name-else : (store : List ℕ) (file : Text) → Left enum (0 ∷ 2 ∷ 3 ∷ 4 ∷ []) file → texts.Absent ≡ nameIn store file
+name-else store = others enum (λ t. texts.Absent ≡ nameIn store t) (0 ∷ 2 ∷ 3 ∷ 4 ∷ []) (λ _. refl) (λ _. refl) (λ _. refl) (λ _. refl)
 
 -- a part of the store that is not empty ends in it
 clip-end : (store : List ℕ) (from len : ℕ) → 0 < length (clip from len store) → from + length (clip from len store) ≤ length store

@@ -13,7 +13,8 @@ use lib.Seq.{length-take-le, take-suc-set, drop-set-lt, drop-drop}
 use Rattle.meaning.specs.Base.{ascii}
 use Rattle.meaning.specs.Refusal.{R, ok, bad, Answer, accepted, refused, numbered, acceptedThen, inPartition, inComponent, inApplication}
 use Rattle.meaning.specs.Fields.{each, listed}
-use Rattle.laws.specs.Cases.{on, never}
+use Rattle.laws.specs.Cases.{on}
+use Rattle.laws.specs.Variants.{Left, others}
 use Rattle.tree.specs.declared.Found.the-variants.{At, Nothing}
 use Rattle.tree.specs.declared.Value.{Value}
 use Rattle.tree.specs.declared.Value.the-variants as values
@@ -28,7 +29,7 @@ use Rattle.tree.specs.declared.Key.the-variants as keyed
 use Rattle.tree.specs.Room.{Holds, Finds, Counts}
 use Rattle.tree.specs.Doors.{Rooms, Stood, Spread, field, fieldsOf, valueAt, items, nthOf}
 use Rattle.tree.specs.Spans.{spread-fields, items-count}
-use Rattle.tree.proofs.Others.{Left, others}
+use Rattle.tree.proofs.Value.{enum}
 use Rattle.tree.specs.Steps.{
   itemsFrom,
   toCome,
@@ -106,11 +107,11 @@ module _ (made : ℕ) (v w : Value) (e : v ≡ w) where
 
 -- a value of another kind
 module _ (made : ℕ) (v : Value) where
-  pub list-not : (r : List) → Left (1 ∷ 2 ∷ 3 ∷ 5 ∷ []) v → r ≡ noList 20 → r ≡ listOf made v
-  list-not r o h = h ∙ others (listOf made) _ (1 ∷ 2 ∷ 3 ∷ 5 ∷ []) (λ e. never e refl) (λ _ _ _. refl) (λ _ _ _. refl) (λ _ _. refl) (λ e. never e refl) (λ _ _. refl) v o
+  pub list-not : (r : List) → Left enum (1 ∷ 2 ∷ 3 ∷ 5 ∷ []) v → r ≡ noList 20 → r ≡ listOf made v
+  list-not r o h = h ∙ others enum (λ w. noList 20 ≡ listOf made w) (1 ∷ 2 ∷ 3 ∷ 5 ∷ []) (λ _. refl) (λ _. refl) (λ _. refl) (λ _. refl) v o
 
-  pub keys-not : (r : List) → Left (1 ∷ 2 ∷ 3 ∷ 4 ∷ []) v → r ≡ noList 20 → r ≡ keysOf made v
-  keys-not r o h = h ∙ others (keysOf made) _ (1 ∷ 2 ∷ 3 ∷ 4 ∷ []) (λ e. never e refl) (λ _ _ _. refl) (λ _ _ _. refl) (λ _ _. refl) (λ _ _. refl) (λ e. never e refl) v o
+  pub keys-not : (r : List) → Left enum (1 ∷ 2 ∷ 3 ∷ 4 ∷ []) v → r ≡ noList 20 → r ≡ keysOf made v
+  keys-not r o h = h ∙ others enum (λ w. noList 20 ≡ keysOf made w) (1 ∷ 2 ∷ 3 ∷ 4 ∷ []) (λ _. refl) (λ _. refl) (λ _. refl) (λ _. refl) v o
 
 -- what is not missing is its own first choice
 own : (v w : Value) → 0 ≡ missing v → orOther v w ≡ v
@@ -126,7 +127,7 @@ module _ (room store : Seq ℕ) (made : ℕ) (root : Fields) where
     pub list-other : (w : Value) → v ≡ values.Absent → w ≡ field room store root many → r ≡ listOf made w → r ≡ listAt room store made root one many
     list-other w a g h = rw (← e, a, ← g) h
 
-    pub list-one : Left (1 ∷ 2 ∷ 3 ∷ 4 ∷ 5 ∷ []) v → r ≡ listOf made v → r ≡ listAt room store made root one many
+    pub list-one : Left enum (1 ∷ 2 ∷ 3 ∷ 4 ∷ 5 ∷ []) v → r ≡ listOf made v → r ≡ listAt room store made root one many
     list-one o h = rw (← e, own v (field room store root many) (missing-not v o)) h
 
   pub keys-at : (v : Value) (r : List) → v ≡ field room store root (ascii "apps") → r ≡ keysOf made v → r ≡ keysAt room store made root
@@ -135,8 +136,8 @@ module _ (room store : Seq ℕ) (made : ℕ) (root : Fields) where
 -- ---- an entry
 
 module _ (room : Seq ℕ) (made : ℕ) (v : Value) where
-  pub table-not : (r : TableRead) → Left (0 ∷ 1 ∷ 2 ∷ 3 ∷ 4 ∷ []) v → r ≡ noTable 23 → r ≡ entryTable room made v
-  table-not r o h = h ∙ others (entryTable room made) _ (0 ∷ 1 ∷ 2 ∷ 3 ∷ 4 ∷ []) (λ _. refl) (λ _ _ _. refl) (λ _ _ _. refl) (λ _ _. refl) (λ _ _. refl) (λ e. never e refl) v o
+  pub table-not : (r : TableRead) → Left enum (0 ∷ 1 ∷ 2 ∷ 3 ∷ 4 ∷ []) v → r ≡ noTable 23 → r ≡ entryTable room made v
+  table-not r o h = h ∙ others enum (λ w. noTable 23 ≡ entryTable room made w) (0 ∷ 1 ∷ 2 ∷ 3 ∷ 4 ∷ []) (λ _. refl) (λ _. refl) (λ _. refl) (λ _. refl) (λ _. refl) v o
 
   pub table-is : (place : ℕ) (f : Fields) → v ≡ values.Table place → f ≡ fieldsOf room made place → record { fault = 0; fields = f } ≡ entryTable room made v
   table-is place f e h = rw (e, h)

@@ -6,10 +6,10 @@ use mathlib.Core.Path.{_≡_, refl, sym, ap, _∙_}
 use borrow.Author.Tests.{le-leb, lt-leb}
 use Rattle.tree.specs.declared.Value.{Value}
 use Rattle.tree.specs.declared.Fields.{Fields}
-use Rattle.laws.specs.Cases.{never}
+use Rattle.laws.specs.Variants.{Left, others}
 use Rattle.tree.specs.Doors.{field}
-use Rattle.tree.proofs.Others.{Left, others}
-use Rattle.schema.proofs.Wording.{Elsewhere, elsewhere}
+use Rattle.tree.proofs.Value.{enum}
+use Rattle.schema.proofs.Text as text
 use Rattle.schema.specs.declared.Text.{Text}
 use Rattle.schema.specs.declared.Text.the-variants as texts
 use Rattle.schema.specs.declared.Number.the-variants as numbers
@@ -52,17 +52,17 @@ module _ (v w : Value) (e : v ≡ w) where
 
 -- ---- a value of another kind
 module _ (v : Value) where
-  pub text-not : (r : TextRead) → Left (2 ∷ 3 ∷ 4 ∷ 5 ∷ []) v → r ≡ noText 20 → r ≡ textRead v
-  text-not r o h = h ∙ others textRead _ (2 ∷ 3 ∷ 4 ∷ 5 ∷ []) (λ e. never e refl) (λ e. never e refl) (λ _ _ _. refl) (λ _ _. refl) (λ _ _. refl) (λ _ _. refl) v o
+  pub text-not : (r : TextRead) → Left enum (2 ∷ 3 ∷ 4 ∷ 5 ∷ []) v → r ≡ noText 20 → r ≡ textRead v
+  text-not r o h = h ∙ others enum (λ w. noText 20 ≡ textRead w) (2 ∷ 3 ∷ 4 ∷ 5 ∷ []) (λ _. refl) (λ _. refl) (λ _. refl) (λ _. refl) v o
 
-  pub number-not : (r : NumberRead) → Left (1 ∷ 3 ∷ 4 ∷ 5 ∷ []) v → r ≡ noNumber 20 → r ≡ numberRead v
-  number-not r o h = h ∙ others numberRead _ (1 ∷ 3 ∷ 4 ∷ 5 ∷ []) (λ e. never e refl) (λ _ _ _. refl) (λ e. never e refl) (λ _ _. refl) (λ _ _. refl) (λ _ _. refl) v o
+  pub number-not : (r : NumberRead) → Left enum (1 ∷ 3 ∷ 4 ∷ 5 ∷ []) v → r ≡ noNumber 20 → r ≡ numberRead v
+  number-not r o h = h ∙ others enum (λ w. noNumber 20 ≡ numberRead w) (1 ∷ 3 ∷ 4 ∷ 5 ∷ []) (λ _. refl) (λ _. refl) (λ _. refl) (λ _. refl) v o
 
-  pub flag-not : (r : FlagRead) → Left (1 ∷ 2 ∷ 4 ∷ 5 ∷ []) v → r ≡ noFlag 20 → r ≡ flagRead v
-  flag-not r o h = h ∙ others flagRead _ (1 ∷ 2 ∷ 4 ∷ 5 ∷ []) (λ e. never e refl) (λ _ _ _. refl) (λ _ _ _. refl) (λ e. never e refl) (λ _ _. refl) (λ _ _. refl) v o
+  pub flag-not : (r : FlagRead) → Left enum (1 ∷ 2 ∷ 4 ∷ 5 ∷ []) v → r ≡ noFlag 20 → r ≡ flagRead v
+  flag-not r o h = h ∙ others enum (λ w. noFlag 20 ≡ flagRead w) (1 ∷ 2 ∷ 4 ∷ 5 ∷ []) (λ _. refl) (λ _. refl) (λ _. refl) (λ _. refl) v o
 
-  pub missing-not : Left (1 ∷ 2 ∷ 3 ∷ 4 ∷ 5 ∷ []) v → 0 ≡ missing v
-  missing-not o = others missing _ (1 ∷ 2 ∷ 3 ∷ 4 ∷ 5 ∷ []) (λ e. never e refl) (λ _ _ _. refl) (λ _ _ _. refl) (λ _ _. refl) (λ _ _. refl) (λ _ _. refl) v o
+  pub missing-not : Left enum (1 ∷ 2 ∷ 3 ∷ 4 ∷ 5 ∷ []) v → 0 ≡ missing v
+  missing-not o = others enum (λ w. 0 ≡ missing w) (1 ∷ 2 ∷ 3 ∷ 4 ∷ 5 ∷ []) (λ _. refl) (λ _. refl) (λ _. refl) (λ _. refl) (λ _. refl) v o
 
 -- ---- what was found under a key
 module _ (room store : List ℕ) (f : Fields) (key : List ℕ) (v : Value) (e : v ≡ field room store f key) where
@@ -91,9 +91,10 @@ module _ (store : List ℕ) (t u : TextRead) (e : t ≡ u) where
     pub media-stored : (d : Media) (r : MediaRead) → r ≡ mediaRead s → r ≡ mediaOf store d u (u .text)
     media-stored d r h = h ∙ rw (← e, p, c)
 
-  module _ (o : Elsewhere (t .text)) where
+  -- all but a string of the store
+  module _ (o : Left text.enum (0 ∷ 2 ∷ 3 ∷ 4 ∷ []) (t .text)) where
     pub kind-none : record { fault = t .fault; kind = Raw } ≡ kindOf store u (u .text)
-    kind-none = rw (← e) (elsewhere (kindOf store t) _ refl refl (λ _. refl) (λ _ _. refl) (t .text) o)
+    kind-none = rw (← e) (others text.enum (λ w. record { fault = t .fault; kind = Raw } ≡ kindOf store t w) (0 ∷ 2 ∷ 3 ∷ 4 ∷ []) (λ _. refl) (λ _. refl) (λ _. refl) (λ _. refl) (t .text) o)
 
     pub media-none : (d : Media) → record { fault = t .fault; media = d } ≡ mediaOf store d u (u .text)
-    media-none d = rw (← e) (elsewhere (mediaOf store d t) _ refl refl (λ _. refl) (λ _ _. refl) (t .text) o)
+    media-none d = rw (← e) (others text.enum (λ w. record { fault = t .fault; media = d } ≡ mediaOf store d t w) (0 ∷ 2 ∷ 3 ∷ 4 ∷ []) (λ _. refl) (λ _. refl) (λ _. refl) (λ _. refl) (t .text) o)

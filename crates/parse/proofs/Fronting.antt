@@ -10,9 +10,9 @@ use Rattle.tree.specs.declared.Value.the-variants as values
 use Rattle.tree.specs.declared.Fields.{Fields}
 use Rattle.tree.specs.Doors.{Rooms, Spread, field, fieldsOf, noFields}
 use Rattle.tree.specs.Spans.{spread-fields}
-use Rattle.laws.specs.Cases.{never}
-use Rattle.tree.proofs.Others.{Left, others}
-use Rattle.schema.proofs.Wording.{Elsewhere, elsewhere}
+use Rattle.laws.specs.Variants.{Left, others}
+use Rattle.tree.proofs.Value.{enum}
+use Rattle.schema.proofs.Text as text
 use Rattle.schema.specs.declared.Text.{Text}
 use Rattle.schema.specs.declared.Text.the-variants as texts
 use Rattle.schema.specs.declared.Word.{Word}
@@ -44,8 +44,8 @@ module _ (room : List ℕ) (made : ℕ) where
     pub table-is : (w : Value) (r : TableRead) → v ≡ w → r ≡ tableOf room made w → r ≡ tableAt room store made root key
     table-is w r m h = h ∙ ap (tableOf room made) (sym m ∙ e)
 
-    pub table-not : (r : TableRead) → Left (1 ∷ 2 ∷ 3 ∷ 4 ∷ []) v → r ≡ tableOf room made (values.Flag false) → r ≡ tableAt room store made root key
-    table-not r o h = h ∙ others (tableOf room made) _ (1 ∷ 2 ∷ 3 ∷ 4 ∷ []) (λ e. never e refl) (λ _ _ _. refl) (λ _ _ _. refl) (λ _ _. refl) (λ _ _. refl) (λ e. never e refl) v o ∙ ap (tableOf room made) e
+    pub table-not : (r : TableRead) → Left enum (1 ∷ 2 ∷ 3 ∷ 4 ∷ []) v → r ≡ tableOf room made (values.Flag false) → r ≡ tableAt room store made root key
+    table-not r o h = h ∙ others enum (λ w. tableOf room made (values.Flag false) ≡ tableOf room made w) (1 ∷ 2 ∷ 3 ∷ 4 ∷ []) (λ _. refl) (λ _. refl) (λ _. refl) (λ _. refl) v o ∙ ap (tableOf room made) e
 
     pub table-there : (p : ℕ) (f : Fields) → v ≡ values.Table p → f ≡ fieldsOf room made p → record { fault = 0; fields = f } ≡ tableAt room store made root key
     table-there p f m h = rw (h, ← e, m)
@@ -79,15 +79,16 @@ module _ (store : List ℕ) where
     pub chosen-first : (from len : ℕ) (r : ChipFound) → c ≡ texts.Stored from len → r ≡ chipWord store from len 1 → r ≡ chosen store c p
     chosen-first from len r e h = rw e h
 
-    module _ (o : Elsewhere c) where
+    -- all but a string of the store
+    module _ (o : Left text.enum (0 ∷ 2 ∷ 3 ∷ 4 ∷ []) c) where
       passed : chosenBy store p ≡ chosen store c p
-      passed = elsewhere (λ (t : Text). chosen store t p) (chosenBy store p) refl refl (λ _. refl) (λ _ _. refl) c o
+      passed = others text.enum (λ t. chosenBy store p ≡ chosen store t p) (0 ∷ 2 ∷ 3 ∷ 4 ∷ []) (λ _. refl) (λ _. refl) (λ _. refl) (λ _. refl) c o
 
       pub chosen-second : (from len : ℕ) (r : ChipFound) → p ≡ texts.Stored from len → r ≡ chipWord store from len 2 → r ≡ chosen store c p
       chosen-second from len r e h = (rw e h) ∙ passed
 
-      pub chosen-none : (q : Refusal) → Elsewhere p → q ≡ inSection 0 0 → record { fault = q; chip = D13x } ≡ chosen store c p
-      chosen-none q n e = rw e (elsewhere (chosenBy store) _ refl refl (λ _. refl) (λ _ _. refl) p n) ∙ passed
+      pub chosen-none : (q : Refusal) → Left text.enum (0 ∷ 2 ∷ 3 ∷ 4 ∷ []) p → q ≡ inSection 0 0 → record { fault = q; chip = D13x } ≡ chosen store c p
+      chosen-none q n e = rw e (others text.enum (λ t. record { fault = inSection 0 0; chip = D13x } ≡ chosenBy store t) (0 ∷ 2 ∷ 3 ∷ 4 ∷ []) (λ _. refl) (λ _. refl) (λ _. refl) (λ _. refl) p n) ∙ passed
 
 module _ (room store : List ℕ) where
   pub chip-of : (board image : Fields) (c p : TextRead) (w : ChipFound) (a b : Refusal)

@@ -24,12 +24,12 @@ use Rattle.tree.specs.Doors.{Rooms, Stood, valueAt, fieldsOf}
 use Rattle.tree.specs.Laws.{found-below}
 use Rattle.laws.specs.Variants as variants
 use Rattle.schema.proofs.Kind.{enum}
+use Rattle.schema.proofs.Text as text
 use Rattle.schema.specs.declared.Kind.{Kind}
 use Rattle.schema.specs.declared.KindRead.{KindRead}
 use Rattle.schema.specs.declared.Text.{Text}
 use Rattle.schema.specs.declared.Text.the-variants as texts
 use Rattle.schema.specs.Texts.{clip, orText, isGiven}
-use Rattle.schema.proofs.Wording.{Elsewhere, elsewhere}
 use Rattle.parse.specs.declared.front.TableRead.{TableRead}
 use Rattle.parse.specs.declared.front.Front.{Front}
 use Rattle.parse.specs.declared.entry.List.{List}
@@ -95,8 +95,9 @@ module _ (store : Seq ℕ) (file t : Text) (e : t ≡ nameIn store file) where
   pub stem-stored : (from len : ℕ) (s : Seq ℕ) (n : ℕ) → t ≡ texts.Stored from len → s ≡ clip from len store → n ≡ stopped s → texts.Stored from n ≡ stemOf store file
   stem-stored from len s n g es en = rw (← e, g, ← es) (ap (texts.Stored from) en)
 
-  pub stem-none : Elsewhere t → texts.Absent ≡ stemOf store file
-  stem-none o = rw (← e) (elsewhere (shortened store) texts.Absent refl refl (λ _. refl) (λ _ _. refl) t o)
+  -- all but a string of the store
+  pub stem-none : variants.Left text.enum (0 ∷ 2 ∷ 3 ∷ 4 ∷ []) t → texts.Absent ≡ stemOf store file
+  stem-none o = rw (← e) (variants.others text.enum (λ u. texts.Absent ≡ shortened store u) (0 ∷ 2 ∷ 3 ∷ 4 ∷ []) (λ _. refl) (λ _. refl) (λ _. refl) (λ _. refl) t o)
 
 -- the other only where the first is absent
 or-given : (t d : Text) → orText t d ≡ pick (isGiven t) t d

@@ -116,18 +116,6 @@ module _ (limit : ℕ) (s store : List ℕ) (at : ℕ) (store' : List ℕ) (r : 
       let b : bytesOf (taken limit (cut 46 s)) ≡ flat (taken limit (cut 46 s) .segs) = rw t (append-nil (flat (taken limit (cut 46 s) .segs))) in
       record { is = q; count = h .count; reach = rw b at (h .reach); places = h .places; left = rw b at (h .left) }
 
-  pub refused-7 : r .verdict ≡ Malformed → keys limit s ≡ bad 7
-  refused-7 e = sym (rw e at (h .says))
-
-  pub refused-8 : r .verdict ≡ Escape → keys limit s ≡ bad 8
-  refused-8 e = sym (rw e at (h .says))
-
-  pub refused-9 : r .verdict ≡ Unended → keys limit s ≡ bad 9
-  refused-9 e = sym (rw e at (h .says))
-
-  pub refused-15 : r .verdict ≡ TooMany → keys limit s ≡ bad 15
-  refused-15 e = sym (rw e at (h .says))
-
 -- ---- where each segment lies
 flat-split : (ks : List (List ℕ)) (i : ℕ) → i < length ks → flat ks ≡ flat (take i ks) ++ (getD ks i [] ++ flat (drop (suc i) ks))
 flat-split [] i h = absurd (omega arith)

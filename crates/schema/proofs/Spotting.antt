@@ -1,19 +1,20 @@
 -- Spots: one law for each way out.
 use Prim.Native.Nat.{ℕ}
 use mathlib.Core.Bool.{Bool, false}
-use mathlib.Core.List.{List}
+use mathlib.Core.List.{List, [], _∷_}
 use mathlib.Core.Option.{Option, none, some}
 use mathlib.Core.Path.{_≡_, refl, ap, _∙_}
 use borrow.Author.Tests.{ne-eqb}
 use Rattle.meaning.specs.Base.{same}
 use Rattle.meaning.specs.Rules.{twice}
+use Rattle.laws.specs.Variants.{Left, others}
+use Rattle.schema.proofs.Text.{enum}
 use Rattle.schema.specs.declared.Text.{Text}
 use Rattle.schema.specs.declared.Text.the-variants as texts
 use Rattle.schema.specs.declared.Features.{Features}
 use Rattle.schema.specs.declared.Features.the-variants as lists
 use Rattle.schema.specs.declared.spot.Spot.{Spot}
 use Rattle.schema.specs.Texts.{clip}
-use Rattle.schema.proofs.Wording.{Elsewhere, elsewhere}
 use Rattle.schema.specs.Spots.{noSpot, bytesSpot, textSpot, listSpot, textAt, spotted, listAt}
 
 -- ---- text_spot, list_spot
@@ -21,8 +22,9 @@ use Rattle.schema.specs.Spots.{noSpot, bytesSpot, textSpot, listSpot, te
 pub text-bytes : (t : Text) (from len : ℕ) (r : Spot) → t ≡ texts.Stored from len → r ≡ bytesSpot from len → r ≡ textSpot t
 text-bytes t from len r e h = rw e h
 
-pub text-nowhere : (t : Text) (r : Spot) → Elsewhere t → r ≡ noSpot → r ≡ textSpot t
-text-nowhere t r o h = h ∙ elsewhere textSpot noSpot refl refl (λ _. refl) (λ _ _. refl) t o
+-- all but a string of the store
+pub text-nowhere : (t : Text) (r : Spot) → Left enum (0 ∷ 2 ∷ 3 ∷ 4 ∷ []) t → r ≡ noSpot → r ≡ textSpot t
+text-nowhere t r o h = h ∙ others enum (λ u. noSpot ≡ textSpot u) (0 ∷ 2 ∷ 3 ∷ 4 ∷ []) (λ _. refl) (λ _. refl) (λ _. refl) (λ _. refl) t o
 
 pub list-bytes : (f : Features) (from len : ℕ) (r : Spot) → f ≡ lists.Words from len → r ≡ bytesSpot from len → r ≡ listSpot f
 list-bytes f from len r e h = rw e h

@@ -51,15 +51,6 @@ word-is w s t r e h = h ∙ rw (e .is) (ap (same t) (word-part w))
 abbrev pub Given : Text → Type 0
 Given t = Left enum (1 ∷ 2 ∷ 3 ∷ 4 ∷ []) t
 
--- all but number 1, a string of the store
-abbrev pub Elsewhere : Text → Type 0
-Elsewhere t = Left enum (0 ∷ 2 ∷ 3 ∷ 4 ∷ []) t
-
--- what gives the same for all of these
-pub elsewhere {ℓ} : {X : Type ℓ} (g : Text → X) (x : X) → x ≡ g texts.Absent → x ≡ g texts.Lent → ((w : Word) → x ≡ g (texts.Fixed w)) → ((f n : ℕ) → x ≡ g (texts.WithAic f n))
-    → (t : Text) → Elsewhere t → x ≡ g t
-elsewhere g x a l f w = others enum (λ t. x ≡ g t) (0 ∷ 2 ∷ 3 ∷ 4 ∷ []) (λ _. a) (λ _. l) (λ v. f (v .0)) (λ v. w (v .0) (v .1 .0))
-
 -- ---- choices
 pub given-is : (t : Text) → Given t → true ≡ isGiven t
 given-is = others enum (λ t. true ≡ isGiven t) (1 ∷ 2 ∷ 3 ∷ 4 ∷ []) (λ _. refl) (λ _. refl) (λ _. refl) (λ _. refl)
@@ -67,17 +58,18 @@ given-is = others enum (λ t. true ≡ isGiven t) (1 ∷ 2 ∷ 3 ∷ 4 ∷ []) (
 pub or-given : (t d : Text) → Given t → t ≡ orText t d
 or-given t d = others enum (λ u. u ≡ orText u d) (1 ∷ 2 ∷ 3 ∷ 4 ∷ []) (λ _. refl) (λ _. refl) (λ _. refl) (λ _. refl) t
 
-pub start-none : (t : Text) → Elsewhere t → 0 ≡ startOf t
-start-none = elsewhere startOf 0 refl refl (λ _. refl) (λ _ _. refl)
+-- of all but number 1, a string of the store
+pub start-none : (t : Text) → Left enum (0 ∷ 2 ∷ 3 ∷ 4 ∷ []) t → 0 ≡ startOf t
+start-none = others enum (λ t. 0 ≡ startOf t) (0 ∷ 2 ∷ 3 ∷ 4 ∷ []) (λ _. refl) (λ _. refl) (λ _. refl) (λ _. refl)
 
-pub length-none : (t : Text) → Elsewhere t → 0 ≡ lengthOf t
-length-none = elsewhere lengthOf 0 refl refl (λ _. refl) (λ _ _. refl)
+pub length-none : (t : Text) → Left enum (0 ∷ 2 ∷ 3 ∷ 4 ∷ []) t → 0 ≡ lengthOf t
+length-none = others enum (λ t. 0 ≡ lengthOf t) (0 ∷ 2 ∷ 3 ∷ 4 ∷ []) (λ _. refl) (λ _. refl) (λ _. refl) (λ _. refl)
 
 pub aic-stored : (t : Text) (from len : ℕ) → t ≡ texts.Stored from len → texts.WithAic from len ≡ aicOf t
 aic-stored t from len e = ap aicOf (sym e)
 
-pub aic-none : (t : Text) → Elsewhere t → texts.Absent ≡ aicOf t
-aic-none = elsewhere aicOf texts.Absent refl refl (λ _. refl) (λ _ _. refl)
+pub aic-none : (t : Text) → Left enum (0 ∷ 2 ∷ 3 ∷ 4 ∷ []) t → texts.Absent ≡ aicOf t
+aic-none = others enum (λ t. texts.Absent ≡ aicOf t) (0 ∷ 2 ∷ 3 ∷ 4 ∷ []) (λ _. refl) (λ _. refl) (λ _. refl) (λ _. refl)
 
 pub erase-for : (m n : Media) → m ≡ n → meant.erase (mediaMeant n) ≡ meant.erase (mediaMeant m)
 erase-for m n e = ap (λ (u : Media). meant.erase (mediaMeant u)) (sym e)

@@ -4,4 +4,3 @@ pub mod Ranking
 pub mod Opening
 pub mod Skipping
 pub mod Stepping
-pub mod Others

@@ -3,20 +3,18 @@ use Prim.Native.Nat.{ℕ, _-_, _%_, _≤_, _<_}
 use mathlib.Core.Bool.{Bool, true, false}
 use mathlib.Core.List.{List, [], _∷_, map}
 use mathlib.Core.Path.{_≡_, refl, ap, _∙_}
-use mathlib.Core.Logic.{inl, inr}
 use native.Mathlib.Omega.{arith}
 use borrow.Author.Tests.{eq-eqb, ne-eqb, lt-ltb, le-ltb}
-use denote.Enum.Declared.{tagOf}
-use types.Run.{OneOf}
 use lib.Dec.{eqb, ltb}
 use lib.ListN.{length, take}
 use Rattle.meaning.specs.Base.{pick, nil?}
 use Rattle.meaning.specs.Rules as meant
+use Rattle.laws.specs.Variants.{Left, others}
 use Rattle.tree.specs.declared.Span.{Span}
 use Rattle.tree.specs.Steps.{KeyIs}
 use Rattle.schema.specs.declared.spot.Spot.{Spot}
 use Rattle.schema.specs.Spots.{bytesSpot}
-use Rattle.schema.proofs.Text.{the-type}
+use Rattle.schema.proofs.Text.{enum}
 use Rattle.schema.specs.declared.Text.{Text}
 use Rattle.schema.specs.declared.Text.the-variants as texts
 use Rattle.schema.specs.declared.Number.{Number}
@@ -112,20 +110,8 @@ component-read room store made n parts r x e h = rw (h, e)
 -- ---- an application's rules
 
 -- of a text's variants all but numbers 0 and 1, the absent one and a string of the store
-abbrev pub Filled : Text → Type 0
-Filled t = OneOf (2 ∷ 3 ∷ 4 ∷ []) (tagOf the-type t)
-
-filled-high : (n : ℕ) → OneOf (2 ∷ 3 ∷ 4 ∷ []) n → n < 2 → ⊥
-filled-high n (inl a) l = omega arith
-filled-high n (inr (inl a)) l = omega arith
-filled-high n (inr (inr a)) l = omega arith
-
-pub empty-not : (store : List ℕ) (t : Text) → Filled t → false ≡ isEmpty store t
-empty-not store texts.Absent o = absurd (filled-high 0 o (omega arith))
-empty-not store (texts.Stored from len) o = absurd (filled-high 1 o (omega arith))
-empty-not store texts.Lent o = refl
-empty-not store (texts.Fixed w) o = refl
-empty-not store (texts.WithAic from len) o = refl
+pub empty-not : (store : List ℕ) (t : Text) → Left enum (2 ∷ 3 ∷ 4 ∷ []) t → false ≡ isEmpty store t
+empty-not store = others enum (λ t. false ≡ isEmpty store t) (2 ∷ 3 ∷ 4 ∷ []) (λ _. refl) (λ _. refl) (λ _. refl)
 
 pub empty-stored : (store : List ℕ) (t : Text) (from len : ℕ) (s : List ℕ) → t ≡ texts.Stored from len → s ≡ clip from len store → eqb (length s) 0 ≡ isEmpty store t
 empty-stored store t from len s e h = rw e (rw (← h) (nil-long s))

@@ -13,6 +13,8 @@ use Rattle.meaning.specs.Base.{nil?, ascii, same}
 use Rattle.meaning.specs.Schema.{mediaFor, chipWord as nameOf}
 use Rattle.meaning.specs.Rules as meant
 use Rattle.laws.specs.Parts.{rest-of}
+use Rattle.laws.specs.Variants.{Left, others}
+use Rattle.schema.proofs.Text.{enum}
 use Rattle.schema.specs.declared.Text.{Text}
 use Rattle.schema.specs.declared.Text.the-variants as texts
 use Rattle.schema.specs.declared.Word.{Word}
@@ -34,6 +36,10 @@ use Rattle.validate.specs.Fronts.{Plain, sized, narrowFault, wideFault, 
 module _ (store name : List ℕ) (t : Text) where
   pub spelled-aic : {X : Type 0} (x y : X) (from len : ℕ) → Plain t → t ≡ texts.WithAic from len → x ≡ y
   spelled-aic x y from len p e = absurd (rw e at p)
+
+  -- the absent text has no bytes, and bytes with `.aic` after them stand in two places
+  pub size-not : Left enum (0 ∷ 4 ∷ []) t → Plain t → 0 ≡ sized store name t
+  size-not = others enum (λ u. Plain u → 0 ≡ sized store name u) (0 ∷ 4 ∷ []) (λ _ _. refl) (λ _ p. absurd p) t
 
   pub size-fixed : (w : Word) (s : Span) → t ≡ texts.Fixed w → Stands w s → s .to - s .from ≡ sized store name t
   size-fixed w s e h =

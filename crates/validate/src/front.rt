@@ -21,14 +21,13 @@ pub fn size(store: &[u8], name: &[u8], t: Text) -> usize
     ensures { λ r. ⌜ r ≡ sized (now (store .entry)) (now (name .entry)) t ⌝ }
 {
     match t {
-        Text::Absent => 0,
         Text::Stored { from, len } => schema::stored(store, from, len).len(),
         Text::Lent => name.len(),
         Text::Fixed(w) => {
             let s = w.span();
             s.to - s.from
         }
-        Text::WithAic { from: _, len: _ } => 0,
+        _ => 0,
     }
 }
 

@@ -1,3 +1,4 @@
+-- The rooms hold the values where the component is read, as its reader requires; where they do not, there is none.
 use Rattle.laws.specs.Tests.{calls}
 use Rattle.parse.proofs.Judging.{sound-rooms}
 use borrow.Author.Needs.{needs}

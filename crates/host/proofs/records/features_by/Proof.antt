@@ -1,3 +1,4 @@
+-- The place is below 65536 where it is cast, so it loses nothing; the other tests are those of the definition.
 use Rattle.laws.specs.Tests.{tests}
 use Rattle.host.specs.Records.{featuresBy}
 use borrow.Author.Needs.{needs}

@@ -1,3 +1,4 @@
+-- The definition makes the same one test: with begun 0 nothing was given yet, with any other number this piece was.
 use Rattle.laws.specs.Tests.{tests}
 use Rattle.host.specs.Records.{lastItem}
 use Rattle.host.proofs.records.last_item.Statement.{statement}

@@ -1,3 +1,4 @@
+-- The rooms hold the values where the board is read, as its reader requires; of rooms that do not, all is 0.
 use Rattle.laws.specs.Tests.{calls}
 use Rattle.parse.proofs.Judging.{sound-rooms}
 use borrow.Author.Needs.{needs}

@@ -1,3 +1,4 @@
+-- The rooms hold the values where the list is walked, after the last item that the numbers tell; else no item is found.
 use Rattle.laws.specs.Tests.{calls}
 use Rattle.parse.proofs.Judging.{sound-rooms}
 use Rattle.host.proofs.Viewing.{feature-shown}

@@ -1,3 +1,4 @@
+-- In an arm the number is known, and the definition of that number gives the word; past them all, no test holds.
 use Rattle.laws.specs.Tests.{tests}
 use Rattle.host.proofs.Viewing.{word-by}
 use Rattle.host.specs.Records.{wordBy}

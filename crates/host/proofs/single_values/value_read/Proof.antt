@@ -1,3 +1,4 @@
+-- Zeroing keeps the lengths, so rooms without a fault of size are ready for a value, and are zero again after a fault.
 use Rattle.host.proofs.Readouts.{size-refused, ready, read-out, fault-out}
 use borrow.Author.Needs.{needs}
 use Rattle.host.proofs.single_values.value_read.Statement.{statement}
