@@ -1,3 +1,4 @@
+-- Which of the two texts is returned is told by the test that the definition asks: whether the bytes are UTF-8.
 use Rattle.laws.specs.Tests.{calls}
 use Rattle.parse.specs.Refused.{lentText}
 use borrow.Author.Needs.{needs}

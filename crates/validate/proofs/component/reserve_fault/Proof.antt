@@ -1,3 +1,4 @@
+-- The test of the remainder is the one that the definition asks, so each branch returns its number.
 use borrow.Author.Needs.{needs}
 use Rattle.laws.specs.Tests.{tests}
 use Rattle.meaning.specs.Rules.{reserveFault}

@@ -1,3 +1,4 @@
+-- At each of the four pairs of package and file the definition, unfolded, is the number that is returned.
 use borrow.Author.Needs.{needs}
 use Rattle.meaning.specs.Rules.{sourceFault}
 use Rattle.validate.proofs.component.source_fault.Statement.{statement}

@@ -1,3 +1,4 @@
+-- For either chip a target of 32 bits gives, by the definition unfolded, the number that is returned.
 use borrow.Author.Needs.{needs}
 use Rattle.meaning.specs.Rules.{widthFault}
 use Rattle.validate.proofs.front.narrow_fault.Statement.{statement}
