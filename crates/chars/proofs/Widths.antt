@@ -1,4 +1,4 @@
--- The character at the head of a string, by its first four bytes: one law for each way out of `width` and `point`.
+-- The character at the head of a string, by its first four bytes: one law for each way out of `width` and `code_point`.
 use Prim.Native.Nat.{ℕ, zero, suc, _+_, _*_, _%_, _≤_, _<_}
 use mathlib.Core.Bool.{Bool, true, false}
 use mathlib.Core.List.{List, [], _∷_}
@@ -109,7 +109,7 @@ module _ (s : List ℕ) (b : ℕ) (r : Bool) (h : length s ≡ 0 → ⊥) (e : b
         pub no-bytes : r₄ ≡ false → 0 ≡ char s
         no-bytes t = rw (char-is s h, ← e, ← p, f, ← e₂, ← p₂, f₂, ← e₃, ← p₃, f₃, ← e₄, ← p₄, t)
 
--- ---- the ways out of `point`
+-- ---- the ways out of `code_point`
 module _ (s : List ℕ) (n b : ℕ) (h : n ≤ length s) (e : b ≡ getD s 0 0) where
   pub point-1 : n ≡ 1 → b ≡ point (take n s)
   point-1 k = rw (k, e) (go s (omega arith))

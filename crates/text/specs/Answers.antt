@@ -54,7 +54,7 @@ pub record Between (s : List ℕ) (at line : ℕ) : Type 0 where
   pub number : line ≤ at + 1
   pub small : length s < 4294967295
 
--- what `check` leaves of a laid text from such a place on
+-- what `check_joined` leaves of a laid text from such a place on
 pub record Checks (s : List ℕ) (at line : ℕ) (r : Checked) : Type 0 where
   pub says : checkedOf r ≡ counted (lines.join lines.closed line (linesOf (drop at s)))
   pub most : Most (length s + 1) r
