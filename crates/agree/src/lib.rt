@@ -1,5 +1,5 @@
-// Theorems about the definitions stand in specs/. There is no code here but one function, since a crate has at least
-// one.
+// That the rooms, and the records read there, are what 01 says of the text: theorems, in specs/. There is no code here
+// but one function, since a crate has at least one.
 
 ghost use mathlib.Core.Path.{_≡_};
 

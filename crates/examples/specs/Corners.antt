@@ -52,15 +52,15 @@ unfolding computes
 cut-in-string = refl
 
 -- seen from its own line a closing quote opens a string, so the comment after it stays: `a = "x⏎y" # z`
-kept-behind-quote : says (ascii "a = \"x" ⏎ ascii "y\" # z")
+kept-after-quote : says (ascii "a = \"x" ⏎ ascii "y\" # z")
     ≡ accepted (line 1 (ascii "a = \"x" ⏎ ascii "y\" # z") ∷ [])
 unfolding computes
-kept-behind-quote = refl
+kept-after-quote = refl
 
 -- `a = "x⏎y" # z"` leaves the line open
-open-behind-comment : says (ascii "a = \"x" ⏎ ascii "y\" # z\"") ≡ atLine 4 1
+open-after-comment : says (ascii "a = \"x" ⏎ ascii "y\" # z\"") ≡ atLine 4 1
 unfolding computes
-open-behind-comment = refl
+open-after-comment = refl
 
 -- `a = "x⏎# y"` cuts the end quote
 cut-end-quote : says (ascii "a = \"x" ⏎ ascii "# y\"") ≡ atLine 4 1

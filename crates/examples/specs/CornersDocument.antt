@@ -108,9 +108,9 @@ unfolding computes
 one-place = refl
 
 -- and the line after it is told by its own number: `a = [1,⏎2]⏎x` is 5 at 3
-pub place-behind : reads "a = [1,\n2]\nx" ≡ atLine 5 3
+pub place-after : reads "a = [1,\n2]\nx" ≡ atLine 5 3
 unfolding computes
-place-behind = refl
+place-after = refl
 
 -- corner 2: `] [` passes joining and is 5
 pub net-zero : reads "] [" ≡ atLine 5 1
@@ -138,9 +138,9 @@ unfolding computes
 cut-in-string = refl
 
 -- corner 5: `a = "x⏎y" # z`: the comment stays and is text after a string
-pub comment-behind : reads "a = \"x\ny\" # z" ≡ atLine 10 1
+pub comment-after : reads "a = \"x\ny\" # z" ≡ atLine 10 1
 unfolding computes
-comment-behind = refl
+comment-after = refl
 
 -- corner 6: `a = "x\⏎"`: the LF is hidden, the string is closed, and a backslash before LF is no escape
 pub escaped-lf : reads "a = \"x\\\n\"" ≡ atLine 8 1
@@ -245,9 +245,9 @@ unfolding computes
 assigned-single = refl
 
 -- corner 11: `[a] x = 1` is an assignment to the key `[a] x`
-pub assigned-behind : reads "[a] x = 1" ≡ leaves ("[a] x" ≔ number 1 ⨾ empty) ("[a] x" ∷ []) 1
+pub assigned-after : reads "[a] x = 1" ≡ leaves ("[a] x" ≔ number 1 ⨾ empty) ("[a] x" ∷ []) 1
 unfolding computes
-assigned-behind = refl
+assigned-after = refl
 
 -- corner 12: `[[a]` is open to the end
 pub push-open : reads "[[a]" ≡ atLine 4 1
@@ -410,9 +410,9 @@ pub full-word : reads-with 1 "a = 1\nb = x" ≡ atLine 12 2
 unfolding computes
 full-word = refl
 
-pub full-behind : reads-with 1 "a = 1\nb = \"x\" y" ≡ atLine 10 2
+pub full-after : reads-with 1 "a = 1\nb = \"x\" y" ≡ atLine 10 2
 unfolding computes
-full-behind = refl
+full-after = refl
 
 pub full-open : reads-with 1 "a = 1\nb = [1] 2" ≡ atLine 11 2
 unfolding computes

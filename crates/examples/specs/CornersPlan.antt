@@ -201,12 +201,12 @@ abbrev updater : String → List String
 updater name = "[[component]]" ∷ name ∷ "file = \"u\"" ∷ "updater = true" ∷ "ram = 0" ∷ []
 
 -- updaters without a partition stay in front of the application
-pub behind-updaters : has names (app (ascii "k"))
+pub after-updaters : has names (app (ascii "k"))
     (flash ++ updater "name = \"u\"" ++ ("[[component]]" ∷ "name = \"x\"" ∷ "package = \"p\"" ∷ "partition = \"a\""
     ∷ []) ++ updater "name = \"v\"" ++ ("[apps.k]" ∷ "partition = \"a\"" ∷ []))
     ≡ some (ascii "u" ∷ ascii "k" ∷ ascii "x" ∷ ascii "v" ∷ [])
 unfolding has computes
-behind-updaters = refl
+after-updaters = refl
 
 -- ---- the stem
 

@@ -258,9 +258,9 @@ unfolding valued.computes
 full-word = refl
 
 -- `"x" y`: text after a string, before 16
-pub full-behind : full (ascii "\"x\" y") ≡ refuses 10
+pub full-after : full (ascii "\"x\" y") ≡ refuses 10
 unfolding valued.computes
-full-behind = refl
+full-after = refl
 
 -- `[1] 2`: no closing bracket, before 16
 pub full-open : full (ascii "[1] 2") ≡ refuses 11

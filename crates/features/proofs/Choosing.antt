@@ -21,7 +21,7 @@ use Rattle.features.specs.declared.FeaturesRead.{FeaturesRead}
 use Rattle.features.specs.declared.Feature.{Feature}
 use Rattle.features.specs.declared.Feature.the-variants as features
 use Rattle.features.specs.Ordered.{words-length}
-use Rattle.features.specs.Pieces.{pieceOf, isText, wordsFrom, allTexts, fewWords, itemsFault, fewItems, featuresRead, bytesOf, behind, ahead, better}
+use Rattle.features.specs.Pieces.{pieceOf, isText, wordsFrom, allTexts, fewWords, itemsFault, fewItems, featuresRead, bytesOf, comesAfter, ahead, better}
 
 -- ---- what a value is
 pub piece-is : (v w : Value) (p : Piece) → v ≡ w → p ≡ pieceOf w → p ≡ pieceOf v
@@ -85,13 +85,13 @@ pub before-is : (store a b : List ℕ) (p q : Piece) (r : Bool) → a ≡ bytesO
 before-is store a b p q r e f h = rw (← e, ← f) h
 
 module _ (store : List ℕ) (f : Feature) (p : Piece) (r : Bool) (q : Piece) (e : f ≡ features.At q) where
-  pub behind-at : r ≡ less (bytesOf store q) (bytesOf store p) → r ≡ behind store f p
-  behind-at h = rw e h
+  pub comes-after-at : r ≡ less (bytesOf store q) (bytesOf store p) → r ≡ comesAfter store f p
+  comes-after-at h = rw e h
 
   pub ahead-at : r ≡ less (bytesOf store p) (bytesOf store q) → r ≡ ahead store f p
   ahead-at h = rw e h
 
-module _ (store : List ℕ) (after best : Feature) (p : Piece) (r : Bool) (e : r ≡ behind store after p) where
+module _ (store : List ℕ) (after best : Feature) (p : Piece) (r : Bool) (e : r ≡ comesAfter store after p) where
   pub better-not : r ≡ false → best ≡ better store after best p
   unfolding better
   better-not f = rw (← e, f)

@@ -114,16 +114,16 @@ module _ (store : List ℕ) (ps qs : List Piece) where
         few-others : length (drop 1 (k .us)) ≤ length (ordered (bytesAll store ps))
         few-others = omega (arith, k .few, length-drop 1 (k .us))
 
-        behind : (0 < length (k .us)) × Walks store ps x (drop 1 (k .us)) × Walks store qs y (drop 1 (k .vs))
-        behind = rw (e, f) (others a b (k .us) (k .vs) p (k .one) (k .two) (sym e ∙ i) (rw (e, f) at (sym h ∙ g)))
+        others-walk : (0 < length (k .us)) × Walks store ps x (drop 1 (k .us)) × Walks store qs y (drop 1 (k .vs))
+        others-walk = rw (e, f) (others a b (k .us) (k .vs) p (k .one) (k .two) (sym e ∙ i) (rw (e, f) at (sym h ∙ g)))
 
         pub compare-on : Comparing x y
         compare-on =
             record {
               us = drop 1 (k .us);
               vs = drop 1 (k .vs);
-              one = behind .1;
-              two = behind .2;
+              one = others-walk .1;
+              two = others-walk .2;
               few = few-others;
               left = decided ∙ rw (g, i);
             }
@@ -133,10 +133,10 @@ module _ (store : List ℕ) (ps qs : List Piece) where
             let n = length (ordered (bytesAll store ps)) in
             omega (
               arith,
-              behind .0,
+              others-walk .0,
               length-drop 1 (k .us),
               steps-are store ps n a (k .us) (k .one) (k .few),
-              steps-are store ps n x (drop 1 (k .us)) (behind .1) few-others,
+              steps-are store ps n x (drop 1 (k .us)) (others-walk .1) few-others,
             )
 
 -- ---- alike

@@ -14,7 +14,7 @@ use Rattle.features.specs.declared.Piece.{Piece}
 use Rattle.features.specs.declared.reader.Word.{Word}
 use Rattle.features.specs.declared.reader.Word.the-variants as words
 use Rattle.features.specs.Gaps.{gaps, run}
-use Rattle.features.specs.Reading.{wordAt, behind, found}
+use Rattle.features.specs.Reading.{wordAt, afterWord, found}
 use Rattle.features.specs.Pieces.{close, wordsAt}
 use Rattle.features.specs.Ordered.{words-count}
 
@@ -131,7 +131,7 @@ module _ (s : List ℕ) (n at : ℕ) (k : Counting s n at) where
       omega (arith, k .left, ap length (rw z at (words-none 0 s at e)))
   ended (words.At a b) e h = never {b = true} refl h
 
-  counted : (w : Word) → wordAt s at ≡ w → found w ≡ true → Counted s n at (behind w at)
+  counted : (w : Word) → wordAt s at ≡ w → found w ≡ true → Counted s n at (afterWord w at)
   counted words.End e h = never {b = false} h refl
   counted (words.At a b) e h =
       let z : 0 + at ≡ at = omega arith in
@@ -146,5 +146,5 @@ module _ (s : List ℕ) (n at : ℕ) (k : Counting s n at) where
   pub count-end : found (wordAt s at) ≡ false → n ≡ length (all s)
   count-end = ended (wordAt s at) refl
 
-  pub count-on : found (wordAt s at) ≡ true → Counted s n at (behind (wordAt s at) at)
+  pub count-on : found (wordAt s at) ≡ true → Counted s n at (afterWord (wordAt s at) at)
   count-on = counted (wordAt s at) refl

@@ -23,7 +23,7 @@ use Rattle.schema.specs.declared.Features.the-variants.{Words}
 use Rattle.features.specs.declared.Piece.{Piece}
 use Rattle.features.specs.declared.Feature.{Feature}
 use Rattle.features.specs.declared.Feature.the-variants.{Nothing, At}
-use Rattle.features.specs.Pieces.{close, wordsAt, wordsFrom, piecesFrom, pieces, bytesOf, behind, ahead, better, nextOf}
+use Rattle.features.specs.Pieces.{close, wordsAt, wordsFrom, piecesFrom, pieces, bytesOf, comesAfter, ahead, better, nextOf}
 
 -- the bytes of each piece
 abbrev pub bytesAll : List ℕ → List Piece → List (List ℕ)
@@ -188,17 +188,17 @@ module _ (store : List ℕ) where
   over-on Nothing k j e f = refl
   over-on (At q) k j e f = less-on (bytesOf store q) k j e f
 
-  behind-over : (after : Feature) (p : Piece) → behind store after p ≡ over after (bytesOf store p)
-  behind-over Nothing p = refl
-  behind-over (At q) p = refl
+  comes-after-over : (after : Feature) (p : Piece) → comesAfter store after p ≡ over after (bytesOf store p)
+  comes-after-over Nothing p = refl
+  comes-after-over (At q) p = refl
 
   better-not : (after best : Feature) (p : Piece) → over after (bytesOf store p) ≡ false → better store after best p ≡ best
   unfolding better
-  better-not after best p e = rw (behind-over after p, e)
+  better-not after best p e = rw (comes-after-over after p, e)
 
   better-over : (after best : Feature) (p : Piece) → over after (bytesOf store p) ≡ true → better store after best p ≡ pick (ahead store best p) (At p) best
   unfolding better
-  better-over after best p e = rw (behind-over after p, e)
+  better-over after best p e = rw (comes-after-over after p, e)
 
   -- nothing lies above, and nothing is found
   next-nothing : (after : Feature) (ps : List Piece) → ((k : List ℕ) → has k (bytesAll store ps) ≡ true → over after k ≡ false) → nextOf store after Nothing ps ≡ Nothing

@@ -130,9 +130,9 @@ abbrev pub bytesOf : List ℕ → Piece → List ℕ
 bytesOf store p = clip (p .from) (p .len) store
 
 -- p comes after the last one given; nothing was given at the start
-abbrev pub behind : List ℕ → Feature → Piece → Bool
-behind store features.Nothing p = true
-behind store (features.At q) p = less (bytesOf store q) (bytesOf store p)
+abbrev pub comesAfter : List ℕ → Feature → Piece → Bool
+comesAfter store features.Nothing p = true
+comesAfter store (features.At q) p = less (bytesOf store q) (bytesOf store p)
 
 -- p comes before the best so far
 abbrev pub ahead : List ℕ → Feature → Piece → Bool
@@ -141,7 +141,7 @@ ahead store (features.At q) p = less (bytesOf store p) (bytesOf store q)
 
 -- the better of the best so far and p
 unfoldable pub better : List ℕ → Feature → Feature → Piece → Feature
-better store after best p = pick (behind store after p) (pick (ahead store best p) (features.At p) best) best
+better store after best p = pick (comesAfter store after p) (pick (ahead store best p) (features.At p) best) best
 
 -- the least of the pieces after the last one given
 abbrev pub nextOf : List ℕ → Feature → Feature → List Piece → Feature

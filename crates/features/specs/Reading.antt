@@ -21,9 +21,9 @@ unfoldable pub wordAt : List ℕ → ℕ → Word
 wordAt s at = upTo s (at + gaps (drop at s))
 
 -- the place after a word that was met from a place on; of the end, that place
-abbrev pub behind : Word → ℕ → ℕ
-behind End at = at
-behind (At a b) at = b
+abbrev pub afterWord : Word → ℕ → ℕ
+afterWord End at = at
+afterWord (At a b) at = b
 
 -- it is a word and not the end
 abbrev pub found : Word → Bool
@@ -34,4 +34,4 @@ found (At a b) = true
 abbrev pub stepped : Reader → Step
 stepped d =
     let word = wordAt (now (d .words)) (d .at) in
-    record { word = word; rest = record { words = d .words; at = behind word (d .at) } }
+    record { word = word; rest = record { words = d .words; at = afterWord word (d .at) } }

@@ -212,8 +212,8 @@ fn before(store: &[u8], p: Piece, q: Piece) -> bool
     slices::less(a, b)
 }
 
-fn behind(store: &[u8], after: Feature, p: Piece) -> bool
-    ensures { λ r. ⌜ r ≡ piece.behind (now (store .entry)) after p ⌝ }
+fn comes_after(store: &[u8], after: Feature, p: Piece) -> bool
+    ensures { λ r. ⌜ r ≡ piece.comesAfter (now (store .entry)) after p ⌝ }
 {
     match after {
         Feature::Nothing => true,
@@ -234,7 +234,7 @@ fn comes_before(store: &[u8], best: Feature, p: Piece) -> bool
 fn better(store: &[u8], after: Feature, best: Feature, p: Piece) -> Feature
     ensures { λ r. ⌜ r ≡ piece.better (now (store .entry)) after best p ⌝ }
 {
-    if behind(store, after, p) {
+    if comes_after(store, after, p) {
         if comes_before(store, best, p) {
             return Feature::At(p);
         }

@@ -76,8 +76,8 @@ fn word_at(s: &[u8], at: usize) -> Word
 }
 
 // The place after a word; of the end, the place where it was met.
-fn behind(word: Word, at: usize) -> usize
-    ensures { λ r. ⌜ r ≡ reading.behind word at ⌝ }
+fn after_word(word: Word, at: usize) -> usize
+    ensures { λ r. ⌜ r ≡ reading.afterWord word at ⌝ }
 {
     match word {
         Word::End => at,
@@ -105,7 +105,7 @@ pub fn next<'a>(here: Reader<'a>) -> Step<'a>
     ensures { λ r. ⌜ r ≡ reading.stepped (here .entry) ⌝ }
 {
     let word = word_at(here.words, here.at);
-    let at = behind(word, here.at);
+    let at = after_word(word, here.at);
     let rest = Reader {
         words: here.words,
         at,

@@ -27,21 +27,25 @@ use Rattle.text.specs.Walk.{next, Follows}
 use Rattle.text.specs.Answers.{Count, answerOf, measured, Small, Reads}
 use Rattle.host.specs.declared.Lines.{Lines}
 use Rattle.host.specs.declared.Line.{Line}
-use Rattle.host.specs.Text.{lineOf, linesOf, refusedAt, judged, roomOf, Exported}
+use Rattle.host.specs.Text.{noLine, lineOf, linesOf, refusedAt, judged, roomOf, Exported}
 
 -- ---- text_next
 module _ (s : List ℕ) (at n : ℕ) (r : Next) (f : Follows s at n r) where
   told : (v : Next) → r ≡ v → lineOf v ≡ lineOf (next s at n)
   told v e = ap lineOf (sym e ∙ f .is)
 
-  pub end-told : r ≡ nexts.End → lineOf nexts.End ≡ lineOf (next s at n)
-  end-told = told nexts.End
+  -- no line, for each of the reasons
+  none-told : (v : Next) (k : Line) → r ≡ v → k ≡ lineOf v → k ≡ lineOf (next s at n)
+  none-told v k e h = h ∙ told v e
 
-  pub over-told : (l : ℕ) → r ≡ nexts.Over l → lineOf (nexts.Over l) ≡ lineOf (next s at n)
-  over-told l = told (nexts.Over l)
+  pub end-told : (k : Line) → r ≡ nexts.End → k ≡ noLine 0 0 → k ≡ lineOf (next s at n)
+  end-told = none-told nexts.End
 
-  pub open-told : (l : ℕ) → r ≡ nexts.Open l → lineOf (nexts.Open l) ≡ lineOf (next s at n)
-  open-told l = told (nexts.Open l)
+  pub over-told : (l : ℕ) (k : Line) → r ≡ nexts.Over l → k ≡ noLine 3 l → k ≡ lineOf (next s at n)
+  over-told l = none-told (nexts.Over l)
+
+  pub open-told : (l : ℕ) (k : Line) → r ≡ nexts.Open l → k ≡ noLine 4 l → k ≡ lineOf (next s at n)
+  open-told l = none-told (nexts.Open l)
 
   pub line-told : (a e l : ℕ) (p : Place) → r ≡ nexts.Line a e l p → lineOf (nexts.Line a e l p) ≡ lineOf (next s at n)
   line-told a e l p = told (nexts.Line a e l p)

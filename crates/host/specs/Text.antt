@@ -42,6 +42,7 @@ abbrev pub linesOf : Answer Count → Lines
 linesOf (accepted c) = record { number = 0; section = 0; place = 0; lines = c .lines; used = c .used }
 linesOf (refused f s p) = record { number = numberOf f; section = s; place = p; lines = 0; used = 0 }
 
+-- a refusal of the text at a line
 abbrev pub refusedAt : ℕ → ℕ → Lines
 refusedAt n p = record { number = n; section = 0; place = p; lines = 0; used = 0 }
 
@@ -58,9 +59,13 @@ pub record Exported (s room room' : List ℕ) (r : Lines) : Type 0 where
   pub says : r ≡ linesOf (judged s room)
   pub left : room' ≡ roomOf s room (judged s room)
 
+-- there is no line, for the reason that the kind tells
+abbrev pub noLine : ℕ → ℕ → Line
+noLine kind line = record { kind = kind; line = line; from = 0; end = 0; next = 0; «next_line» = 0 }
+
 -- kind 0: no line is left; 1: a joined line; 3 and 4: that refusal
 abbrev pub lineOf : Next → Line
-lineOf nexts.End = record { kind = 0; line = 0; from = 0; end = 0; next = 0; «next_line» = 0 }
-lineOf (nexts.Over n) = record { kind = 3; line = n; from = 0; end = 0; next = 0; «next_line» = 0 }
-lineOf (nexts.Open n) = record { kind = 4; line = n; from = 0; end = 0; next = 0; «next_line» = 0 }
+lineOf nexts.End = noLine 0 0
+lineOf (nexts.Over n) = noLine 3 n
+lineOf (nexts.Open n) = noLine 4 n
 lineOf (nexts.Line f e n p) = record { kind = 1; line = n; from = f; end = e; next = p .at; «next_line» = p .line }

@@ -15,7 +15,7 @@ ghost use Rattle.meaning.specs.Utf8 as utf8;
 ghost use Rattle.meaning.specs.Quote as quotes;
 ghost use Rattle.chars.specs.Trimmed.{Trimmed};
 ghost use Rattle.text.specs.Walk as walk;
-ghost use Rattle.host.specs.Text.{spanOf, stateNumber, scanned, refusedAt, lineOf, Exported};
+ghost use Rattle.host.specs.Text.{spanOf, stateNumber, scanned, refusedAt, noLine, lineOf, Exported};
 
 // A part of a byte string, by its first byte and the byte after its last.
 #[repr(C)]
@@ -108,6 +108,20 @@ pub extern "C" fn text_scan(s: &[u8]) -> Scanned
     }
 }
 
+// There is no line, for the reason that the kind tells.
+fn no_line(kind: u32, line: usize) -> Line
+    ensures { λ r. ⌜ r ≡ noLine kind line ⌝ }
+{
+    Line {
+        kind,
+        line,
+        from: 0,
+        end: 0,
+        next: 0,
+        next_line: 0,
+    }
+}
+
 // The next joined line of a laid text, from a place between joined lines on; the first is 0, line 1.
 #[no_mangle]
 pub extern "C" fn text_next(laid: &[u8], at: usize, line: u32) -> Line
@@ -115,30 +129,9 @@ pub extern "C" fn text_next(laid: &[u8], at: usize, line: u32) -> Line
 {
     let r = text::next_line(laid, at, line as usize);
     match r {
-        Next::End => Line {
-            kind: 0,
-            line: 0,
-            from: 0,
-            end: 0,
-            next: 0,
-            next_line: 0,
-        },
-        Next::Over(n) => Line {
-            kind: 3,
-            line: n,
-            from: 0,
-            end: 0,
-            next: 0,
-            next_line: 0,
-        },
-        Next::Open(n) => Line {
-            kind: 4,
-            line: n,
-            from: 0,
-            end: 0,
-            next: 0,
-            next_line: 0,
-        },
+        Next::End => no_line(0, 0),
+        Next::Over(n) => no_line(3, n),
+        Next::Open(n) => no_line(4, n),
         Next::Line {
             from,
             end,

@@ -3,6 +3,7 @@
 
 use features::Feature;
 use features::Piece;
+use meaning::FEATURES;
 use parse::front::Front;
 use parse::view::ApplicationFound;
 use parse::view::ComponentFound;
@@ -10,7 +11,6 @@ use parse::view::PartitionFound;
 use schema::Chip;
 use schema::Features;
 use schema::Kind;
-use schema::MOST_FEATURES;
 use schema::Media;
 use schema::Number;
 use schema::Text;
@@ -438,7 +438,7 @@ fn component(tree: &[u8], store: &[u8], made: usize, i: usize) -> ComponentFound
     ensures { λ r. ⌜ r ≡ records.component (now (tree .entry)) (now (store .entry)) made i ⌝ }
 {
     if parse::view::holds_values(tree, made) {
-        return parse::view::component(tree, store, made, i, MOST_FEATURES);
+        return parse::view::component(tree, store, made, i, FEATURES);
     }
     ComponentFound::Nothing
 }
@@ -661,7 +661,7 @@ pub extern "C" fn preset_application(
     ensures { λ r. ⌜ r ≡ records.applicationShown (now (tree .entry)) (now (store .entry)) made i ⌝ }
 {
     if parse::view::holds_values(tree, made) {
-        return application_of(parse::view::application(tree, store, made, i, MOST_FEATURES));
+        return application_of(parse::view::application(tree, store, made, i, FEATURES));
     }
     no_application()
 }

@@ -1,7 +1,7 @@
 // A partition by its name among lent partitions: what `crate::find_partition` says of an array by value.
 
 use crate::has_name;
-use schema::MOST_PARTITIONS;
+use meaning::PARTITIONS;
 use schema::Partition;
 ghost use mathlib.Core.Path.{_≡_};
 ghost use mathlib.Core.List.{map};
@@ -26,7 +26,7 @@ pub fn scan(bytes: &[u8], items: &[Partition], count: usize, name: &[u8]) -> usi
 }
 
 // The same of an array, which is lent on: who calls this needs no proof by hand.
-pub fn find(bytes: &[u8], items: [Partition; MOST_PARTITIONS], count: usize, name: &[u8]) -> usize
+pub fn find(bytes: &[u8], items: [Partition; PARTITIONS], count: usize, name: &[u8]) -> usize
     requires { ⌜ count ≤ 32 ⌝ }
     ensures { λ r. ⌜ r ≡ rank (now (name .entry)) (map (partName (now (bytes .entry))) (take count items)) ⌝ }
 {

@@ -2,13 +2,13 @@
 
 pub mod lent;
 
+use meaning::PARTITIONS;
 use schema::Chip;
-use schema::MOST_ENTRIES;
-use schema::MOST_PARTITIONS;
 use schema::Partition;
 use schema::Text;
 use schema::Word;
 use turns::Fault;
+use turns::MOST_ENTRIES;
 use turns::Mark;
 ghost use mathlib.Core.Path.{_≡_};
 ghost use mathlib.Core.List.{map};
@@ -74,7 +74,7 @@ fn mark_of(bytes: &[u8], p: Partition, end: u64, block: u32) -> Mark
 
 fn marks_of(
     bytes: &[u8],
-    items: [Partition; MOST_PARTITIONS],
+    items: [Partition; PARTITIONS],
     count: usize,
     block: u32,
 ) -> [Mark; MOST_ENTRIES]
@@ -92,12 +92,7 @@ fn marks_of(
 }
 
 // 40 to 48: the layout of these partitions on a chip's flash; their names lie in some bytes.
-pub fn check_layout(
-    bytes: &[u8],
-    items: [Partition; MOST_PARTITIONS],
-    count: usize,
-    chip: Chip,
-) -> Fault
+pub fn check_layout(bytes: &[u8], items: [Partition; PARTITIONS], count: usize, chip: Chip) -> Fault
     requires { ⌜ count ≤ 32 ⌝ }
     ensures { λ r. ⌜ r ≡ faultOf
         (meant.layout (chipMeant chip) (map (partMeant (now (bytes .entry))) (take count items))) ⌝ }
@@ -133,7 +128,7 @@ fn has_name(bytes: &[u8], p: Partition, name: &[u8]) -> bool
 // The first partition that bears a name; as many as there are where none does.
 pub fn find_partition(
     bytes: &[u8],
-    items: [Partition; MOST_PARTITIONS],
+    items: [Partition; PARTITIONS],
     count: usize,
     name: &[u8],
 ) -> usize
@@ -173,7 +168,7 @@ fn name_in<'a>(s: &'a [u8], cut: bool) -> &'a [u8]
 // The partition that a text names, or refers to where it is to be cut; as many as there are where there is none.
 pub fn find_named(
     store: &[u8],
-    items: [Partition; MOST_PARTITIONS],
+    items: [Partition; PARTITIONS],
     count: usize,
     t: Text,
     cut: bool,

@@ -1,4 +1,5 @@
-// The types that definitions and code share. There is no code here but one function, since a crate has at least one.
+// The rules, as definitions that compute, in specs/; here the types and figures that they share with code. There is no
+// code here but one function, since a crate has at least one.
 
 ghost use mathlib.Core.Path.{_≡_};
 ghost use Rattle.meaning.specs.Limits as limits;

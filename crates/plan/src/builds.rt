@@ -2,8 +2,9 @@
 
 use crate::choice::Choice;
 use crate::component::Build;
+use meaning::COMPONENTS;
+use meaning::FEATURES;
 use schema::Features;
-use schema::MOST_FEATURES;
 use schema::Text;
 use schema::spot::Spot;
 use schema::spot::bytes_spot;
@@ -24,9 +25,9 @@ ghost use Rattle.plan.specs.Builds as builds;
 ghost use Rattle.plan.specs.Builds.{Wanting, Used};
 
 // Two for each component, and one for the application.
-const COMPONENT_USES: usize = 128;
+const COMPONENT_USES: usize = 2 * COMPONENTS;
 
-const MOST_USES: usize = 129;
+const MOST_USES: usize = COMPONENT_USES + 1;
 
 // Uses of packages, or builds; one whose package is absent is none.
 pub struct BuildList {
@@ -98,7 +99,7 @@ fn wanted_at(tree: &[u8], store: &[u8], made: usize, n: usize) -> Wanted
     let t = parse::entry::entry_table(tree, made, tree::value_at(tree, store, n));
     let f = t.fields;
     let s = parse::component::read_sources(tree, store, f);
-    let l = parse::component::read_lists(tree, store, made, f, MOST_FEATURES);
+    let l = parse::component::read_lists(tree, store, made, f, FEATURES);
     let o = parse::field::text(tree, store, f, b"pbp_package");
     let package = s.package;
     let bin = s.bin;
@@ -146,7 +147,7 @@ fn application_use(tree: &[u8], store: &[u8], made: usize, n: usize) -> Use
     requires { ⌜ Rooms (now tree) made × Stood (now tree) n ⌝ }
     ensures { λ r. ⌜ builds.buildAt r ≡ builds.applicationUse (now (tree .entry)) (now (store .entry)) made n ⌝ }
 {
-    let r = parse::entry::application_at(tree, store, made, n, MOST_FEATURES);
+    let r = parse::entry::application_at(tree, store, made, n, FEATURES);
     let a = r.application;
     let features = a.features;
     let k = tree::key_at(tree, n);

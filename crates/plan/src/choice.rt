@@ -1,10 +1,10 @@
 // What is selected beside the boot chain: 80 where no application has the key, 81 where a component has the
 // application's name.
 
+use meaning::APPLICATIONS;
+use meaning::FEATURES;
 use parse::Refusal;
 use parse::entry::List;
-use schema::MOST_ENTRIES;
-use schema::MOST_FEATURES;
 use tree::Item;
 use tree::Key;
 ghost use mathlib.Core.Path.{_≡_};
@@ -37,7 +37,7 @@ fn declared(tree: &[u8], store: &[u8], made: usize, list: List, key: &[u8]) -> C
 {
     let mut w = tree::keys_of(tree, list.place, list.end);
     let mut i = 0;
-    while i <= MOST_ENTRIES {
+    while i <= APPLICATIONS {
         let step = tree::next_key(tree, store, w);
         match step {
             Key::End => return Choice::Undeclared,
@@ -104,7 +104,7 @@ fn check_name(tree: &[u8], store: &[u8], made: usize, place: usize, n: usize) ->
     requires { ⌜ Rooms (now tree) made × Stood (now tree) n ⌝ }
     ensures { λ r. ⌜ r ≡ choices.nameFault (now (tree .entry)) (now (store .entry)) made place n ⌝ }
 {
-    let r = parse::entry::application_at(tree, store, made, n, MOST_FEATURES);
+    let r = parse::entry::application_at(tree, store, made, n, FEATURES);
     let a = r.application;
     let name = a.name;
     let own = schema::stored(store, name.start(), name.length());

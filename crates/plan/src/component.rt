@@ -1,6 +1,7 @@
 // A planned component: its record, its payload and its PBP; and all of them in composition order.
 
 use crate::choice::Choice;
+use meaning::FEATURES;
 use parse::view::ComponentFound;
 use schema::Application;
 use schema::Boot;
@@ -9,7 +10,6 @@ use schema::Features;
 use schema::Head;
 use schema::Kind;
 use schema::Load;
-use schema::MOST_FEATURES;
 use schema::Number;
 use schema::Role;
 use schema::Text;
@@ -242,7 +242,7 @@ fn planned_component(tree: &[u8], store: &[u8], made: usize, i: usize) -> Planne
     requires { ⌜ Rooms (now tree) made ⌝ }
     ensures { λ r. ⌜ r ≡ plans.own (now (tree .entry)) (now (store .entry)) made i ⌝ }
 {
-    let found = parse::view::component(tree, store, made, i, MOST_FEATURES);
+    let found = parse::view::component(tree, store, made, i, FEATURES);
     match found {
         ComponentFound::Nothing => PlannedFound::Nothing,
         ComponentFound::At(c) => PlannedFound::At(plan_of(c)),
@@ -254,7 +254,7 @@ fn planned_application(tree: &[u8], store: &[u8], made: usize, n: usize) -> Plan
     requires { ⌜ Rooms (now tree) made × Stood (now tree) n ⌝ }
     ensures { λ r. ⌜ r ≡ plans.plannedApplication (now (tree .entry)) (now (store .entry)) made n ⌝ }
 {
-    let r = parse::entry::application_at(tree, store, made, n, MOST_FEATURES);
+    let r = parse::entry::application_at(tree, store, made, n, FEATURES);
     let a = r.application;
     PlannedFound::At(plan_of(component_of(a)))
 }

@@ -1,7 +1,7 @@
 // The partition that a reference finds.
 
+use meaning::PARTITIONS;
 use parse::view::PartitionFound;
-use schema::MOST_PARTITIONS;
 use schema::Text;
 ghost use mathlib.Core.Path.{_≡_};
 ghost use Rattle.tree.specs.Doors.{Rooms};
@@ -13,7 +13,7 @@ pub fn partition(tree: &[u8], store: &[u8], made: usize, t: Text) -> PartitionFo
     ensures { λ r. ⌜ r ≡ targets.partition (now (tree .entry)) (now (store .entry)) made t ⌝ }
 {
     let l = parse::view::partition_list(tree, store, made);
-    let p = parse::entry::read_partitions(tree, store, made, l, MOST_PARTITIONS);
+    let p = parse::entry::read_partitions(tree, store, made, l, PARTITIONS);
     let fault = p.fault;
     if fault.number != 0 {
         return PartitionFound::Nothing;

@@ -10,7 +10,7 @@ ghost use Rattle.report.specs.Shown as shown;
 ghost use Rattle.report.specs.Shown.{Stands};
 
 // One more than there may be.
-const APPLICATIONS_ASKED: usize = 65;
+const APPLICATIONS_ASKED: usize = meaning::APPLICATIONS + 1;
 
 // The partitions, in their order.
 pub fn parts(out: &mut [u8], at: usize, tree: &[u8], store: &[u8], p: Placed) -> usize

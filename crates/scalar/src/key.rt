@@ -2,6 +2,7 @@
 
 use crate::string::Decoded;
 use crate::string::put_string;
+use meaning::SEGMENTS;
 ghost use mathlib.Core.Path.{_≡_};
 ghost use Rattle.meaning.specs.Base as base;
 ghost use Rattle.scalar.specs.Stores.{Room, stored};
@@ -29,7 +30,7 @@ pub struct Key {
     pub verdict: Verdict,
     pub n: usize,
     pub used: usize,
-    pub ends: [usize; 16],
+    pub ends: [usize; SEGMENTS],
 }
 
 fn is_fine(v: Verdict) -> bool
@@ -140,7 +141,7 @@ pub fn put_segment(s: &[u8], store: &mut [u8], used: usize) -> Segment
     put_trimmed(&s[from..end], store, used)
 }
 
-fn answered(verdict: Verdict, n: usize, used: usize, ends: [usize; 16]) -> Key
+fn answered(verdict: Verdict, n: usize, used: usize, ends: [usize; SEGMENTS]) -> Key
     ensures { λ r. ⌜ r ≡ keyOf verdict n used ends ⌝ }
 {
     Key {
@@ -157,7 +158,7 @@ pub fn put_key(s: &[u8], store: &mut [u8], used: usize, limit: usize) -> Key
     requires { ⌜ Asked limit (now s) (now store) used ⌝ }
     ensures { λ r. ⌜ Splits limit (now (s .entry)) (now (store .entry)) used (now (store .exit)) r ⌝ }
 {
-    let mut ends = [0usize; 16];
+    let mut ends = [0usize; SEGMENTS];
     let mut n = 0;
     let mut at = used;
     let mut i = 0;

@@ -11,14 +11,6 @@ ghost use Rattle.schema.specs.Words.{word, Stands, Put, chipRead, mediaR
 ghost use Rattle.schema.specs.Words.{chipWord, mediaWord, kindWord, targetWord, mediaChoice};
 ghost use Rattle.schema.specs.Texts.{isGiven, orText, aicOf, startOf, lengthOf, orNumber, clip};
 
-// How many partitions a preset may have, how many components, and how many applications.
-pub const MOST_PARTITIONS: usize = 32;
-
-pub const MOST_ENTRIES: usize = 64;
-
-// How many features one list may have.
-pub const MOST_FEATURES: usize = 32;
-
 // How many bytes a name may have.
 pub const LONGEST_NAME: usize = 32;
 

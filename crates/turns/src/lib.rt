@@ -1,12 +1,14 @@
 // Entries in turn, each against the names before it: the first fault among entries whose names must differ.
 
-use schema::MOST_ENTRIES;
 ghost use mathlib.Core.Path.{_≡_};
 ghost use Prim.Native.Nat.{_≤_};
 ghost use lib.ListN.{take};
 ghost use Rattle.meaning.specs.Base.{same};
 ghost use Rattle.turns.specs.Marks as marks;
 ghost use Rattle.turns.specs.Marks.{named, Marked};
+
+// How many entries the longest of the lists may have.
+pub const MOST_ENTRIES: usize = meaning::COMPONENTS;
 
 // What one entry's rules say: before the question whether an earlier entry has its name, which is len bytes from a
 // place on, and after it.

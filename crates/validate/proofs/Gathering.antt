@@ -173,19 +173,19 @@ module _ (room store : Seq ℕ) (made : ℕ) (parts : Seq (Seq ℕ)) where
 -- ---- applications
 
 -- applications that were met on a walk that began as v, after packages of an array that has more room
-pub record Applying (room store : Seq ℕ) (made : ℕ) (parts : Seq (Seq ℕ)) (front : Seq Pair) (behind : ℕ) (v : Keys) (marks : Seq Mark) (pairs : Seq Pair) (fault : Refusal) (w : Keys) (i : ℕ) : Type 0 where
-  pub low : behind ≤ 64
+pub record Applying (room store : Seq ℕ) (made : ℕ) (parts : Seq (Seq ℕ)) (front : Seq Pair) (preceding : ℕ) (v : Keys) (marks : Seq Mark) (pairs : Seq Pair) (fault : Refusal) (w : Keys) (i : ℕ) : Type 0 where
+  pub low : preceding ≤ 64
   pub high : i ≤ 64
   pub reads : reading.Walking room store made 64 32 (v .place) (v .end) w fault i
-  pub passed : Passed (applicationAt room store made parts) (walk room store (v .end) (v .place) 65 Nothing) (walk room store (v .end) (v .place) (65 - i) (w .after)) front marks pairs i (behind + i)
+  pub passed : Passed (applicationAt room store made parts) (walk room store (v .end) (v .place) 65 Nothing) (walk room store (v .end) (v .place) (65 - i) (w .after)) front marks pairs i (preceding + i)
 
 module _ (room store : Seq ℕ) (made : ℕ) (parts : Seq (Seq ℕ)) where
   -- an array in a struct is as long as its elements in the machine
-  pub apps-start : {X : Type 0} (f : Pair → X) (place end count : ℕ) (old : Seq Pair) (behind : ℕ) → length (map f old) ≡ 128 → (v : Keys) (marks : Seq Mark) (fault : Refusal)
-      → Followed room made end count behind → Begins room place end Nothing v → marks ≡ noMarks → fault ≡ refusalAt 0 0 0
-      → Applying room store made parts (take behind old) behind v marks old fault v 0
-  apps-start f place end count old behind l v marks fault h b m e =
-      let z : behind + 0 ≡ behind = omega arith in
+  pub apps-start : {X : Type 0} (f : Pair → X) (place end count : ℕ) (old : Seq Pair) (preceding : ℕ) → length (map f old) ≡ 128 → (v : Keys) (marks : Seq Mark) (fault : Refusal)
+      → Followed room made end count preceding → Begins room place end Nothing v → marks ≡ noMarks → fault ≡ refusalAt 0 0 0
+      → Applying room store made parts (take preceding old) preceding v marks old fault v 0
+  apps-start f place end count old preceding l v marks fault h b m e =
+      let z : preceding + 0 ≡ preceding = omega arith in
       record {
         low = h .low;
         high = omega arith;
@@ -193,32 +193,32 @@ module _ (room store : Seq ℕ) (made : ℕ) (parts : Seq (Seq ℕ)) where
         passed = record { count = rw (b .after) (omega arith); mark-room = ap length m; pair-room = sym (length-map old f) ∙ l; marks = rw (b .after); pairs = rw (z, b .after) };
       }
 
-  module _ (front : Seq Pair) (behind : ℕ) (v : Keys) (marks : Seq Mark) (pairs : Seq Pair) (fault : Refusal) (w : Keys) (i : ℕ)
-      (k : Applying room store made parts front behind v marks pairs fault w i) where
+  module _ (front : Seq Pair) (preceding : ℕ) (v : Keys) (marks : Seq Mark) (pairs : Seq Pair) (fault : Refusal) (w : Keys) (i : ℕ)
+      (k : Applying room store made parts front preceding v marks pairs fault w i) where
     pub apps-ready : Ready room w
     apps-ready = k .reads .count .over .ready
 
     pub apps-marked : Marked i 65
     apps-marked = record { fits = k .high; told = omega arith }
 
-    pub apps-all : behind + i ≤ 128
+    pub apps-all : preceding + i ≤ 128
     apps-all = omega (arith, k .low, k .high)
 
     module _ (step : Key) (h : KeyGives room store w step) where
       module _ (place end : ℕ) (b : Begins room place end Nothing v) where
-        here : Applying room store made parts front behind (record { place = place; low = v .low; end = end; after = v .after }) marks pairs fault w i
+        here : Applying room store made parts front preceding (record { place = place; low = v .low; end = end; after = v .after }) marks pairs fault w i
         here = rw (b .over .place, b .over .end) at k
 
-        pub apps-none : step ≡ keyed.End → (r : Refusal) (own : Fault) (at : ℕ) → own ≡ judged 65 store (take i marks) → at ≡ firstHit (clash room store made) [] (take (behind + i) pairs) → r ≡ fault
+        pub apps-none : step ≡ keyed.End → (r : Refusal) (own : Fault) (at : ℕ) → own ≡ judged 65 store (take i marks) → at ≡ firstHit (clash room store made) [] (take (preceding + i) pairs) → r ≡ fault
             → Applications room store made place end parts front (record { fault = r; count = i; own = own; clash = at })
         apps-none g r own at eo ec er =
             let u : walk room store end place (65 - i) (w .after) ≡ [] = reading.walk-ended room store place end w (here .reads .count .over) step h (65 - i) g in
-            let p : Passed (applicationAt room store made parts) (walk room store end place 65 Nothing) [] front marks pairs i (behind + i) = rw u at (here .passed) in
+            let p : Passed (applicationAt room store made parts) (walk room store end place 65 Nothing) [] front marks pairs i (preceding + i) = rw u at (here .passed) in
             record {
               fault = er ∙ reading.apps-none room store made (record { fault = 0; place = place; end = end }) v b 64 32 w fault i (k .reads) step (k .high) h g;
               gathers = λ _. record {
-                listed = passed-listed (applicationAt room store made parts) (walk room store end place 65 Nothing) front marks pairs i (behind + i) p store 65 own (k .high) eo;
-                clashes = ec ∙ ap (firstHit (clash room store made) []) (passed-pairs (applicationAt room store made parts) (walk room store end place 65 Nothing) front marks pairs i (behind + i) p);
+                listed = passed-listed (applicationAt room store made parts) (walk room store end place 65 Nothing) front marks pairs i (preceding + i) p store 65 own (k .high) eo;
+                clashes = ec ∙ ap (firstHit (clash room store made) []) (passed-pairs (applicationAt room store made parts) (walk room store end place 65 Nothing) front marks pairs i (preceding + i) p);
               };
             }
 
@@ -234,29 +234,29 @@ module _ (room store : Seq ℕ) (made : ℕ) (parts : Seq (Seq ℕ)) where
                 gathers = λ y. let z : _≡_ {A = ℕ} 25 0 = sym (ap (λ (x : Refusal). x .number) t) ∙ y in absurd (omega arith);
               }
 
-          pub apps-stood : (count : ℕ) → Followed room made end count behind → Stood room n
+          pub apps-stood : (count : ℕ) → Followed room made end count preceding → Stood room n
           apps-stood count f = key-stands room store place end w (here .reads .count .over) step h n rest g made (f .rooms) (f .within)
 
       module _ (n : ℕ) (rest : Keys) (g : step ≡ keyed.At n rest) (l : i < 64) where
-        pub apps-after : behind + i < 128
+        pub apps-after : preceding + i < 128
         apps-after = omega (arith, k .low)
 
         pub apps-on : (e : Entry) (r : Refusal) → e ≡ applicationAt room store made parts n → r ≡ earlier fault (faultAt 5 (e .fault) i)
-            → Applying room store made parts front behind v (set marks i (e .mark)) (set pairs (behind + i) (e .pair)) r rest (i + 1)
+            → Applying room store made parts front preceding v (set marks i (e .mark)) (set pairs (preceding + i) (e .pair)) r rest (i + 1)
         unfolding applicationEntry
         apps-on e r d f =
             let x : 65 - i ≡ suc (65 - (i + 1)) = omega arith in
             let onward : walk room store (v .end) (v .place) (65 - i) (w .after) ≡ n ∷ walk room store (v .end) (v .place) (65 - (i + 1)) (rest .after)
             = rw x (reading.walk-given room store (v .place) (v .end) w (k .reads .count .over) step h (65 - (i + 1)) n rest g) in
-            let p : Passed (applicationAt room store made parts) (walk room store (v .end) (v .place) 65 Nothing) (n ∷ walk room store (v .end) (v .place) (65 - (i + 1)) (rest .after)) front marks pairs i (behind + i)
+            let p : Passed (applicationAt room store made parts) (walk room store (v .end) (v .place) 65 Nothing) (n ∷ walk room store (v .end) (v .place) (65 - (i + 1)) (rest .after)) front marks pairs i (preceding + i)
             = rw onward at (k .passed) in
-            let z : behind + (i + 1) ≡ behind + i + 1 = omega arith in
+            let z : preceding + (i + 1) ≡ preceding + i + 1 = omega arith in
             let q : e .fault ≡ parsed.applicationAt room store made n 32 .fault = ap (λ (x : Entry). x .fault) d in
             record {
               low = k .low;
               high = omega arith;
               reads = reading.apps-on room store made 64 32 (v .place) (v .end) w fault i (k .reads) (k .high) step h n rest g r (rw (← q) f);
-              passed = rw z (passed-on (applicationAt room store made parts) (walk room store (v .end) (v .place) 65 Nothing) front marks pairs i (behind + i) n (walk room store (v .end) (v .place) (65 - (i + 1)) (rest .after)) e l apps-after d p);
+              passed = rw z (passed-on (applicationAt room store made parts) (walk room store (v .end) (v .place) 65 Nothing) front marks pairs i (preceding + i) n (walk room store (v .end) (v .place) (65 - (i + 1)) (rest .after)) e l apps-after d p);
             }
 
 -- ---- the first fault

@@ -58,7 +58,7 @@ use Rattle.validate.specs.Faults.{
   bootFault,
   clashFault,
   gatheredFault,
-  behindFault,
+  restFault,
   listsFault,
   layoutFault,
   applicationsJudged,
@@ -115,18 +115,18 @@ module _ (cs apps at : ℕ) (r : Refusal) where
 -- ---- 60 to 70, of what was gathered
 
 module _ (cs : ℕ) (first : Bool) (a : Applied) (b : Refusal) (eb : b ≡ clashFault cs (cs + a .count) (a .clash)) where
-  pub behind-uses : (b .number ≡ 0 → ⊥) → b ≡ gatheredFault cs first a
+  pub rest-uses : (b .number ≡ 0 → ⊥) → b ≡ gatheredFault cs first a
   unfolding gatheredFault
-  behind-uses z = rw (← eb, ne-eqb (b .number) 0 z)
+  rest-uses z = rw (← eb, ne-eqb (b .number) 0 z)
 
   module _ (zb : b .number ≡ 0) (d : Refusal) (ed : d ≡ inEntry 5 (a .own)) where
-    pub behind-applications : (d .number ≡ 0 → ⊥) → d ≡ gatheredFault cs first a
+    pub rest-applications : (d .number ≡ 0 → ⊥) → d ≡ gatheredFault cs first a
     unfolding gatheredFault
-    behind-applications z = rw (← eb, eq-eqb (b .number) 0 zb, ← ed, ne-eqb (d .number) 0 z)
+    rest-applications z = rw (← eb, eq-eqb (b .number) 0 zb, ← ed, ne-eqb (d .number) 0 z)
 
-    pub behind-first : d .number ≡ 0 → (r : Refusal) → r ≡ bootFault first → r ≡ gatheredFault cs first a
+    pub rest-first : d .number ≡ 0 → (r : Refusal) → r ≡ bootFault first → r ≡ gatheredFault cs first a
     unfolding gatheredFault
-    behind-first z r e = rw (← eb, eq-eqb (b .number) 0 zb, ← ed, eq-eqb (d .number) 0 z) e
+    rest-first z r e = rw (← eb, eq-eqb (b .number) 0 zb, ← ed, eq-eqb (d .number) 0 z) e
 
 -- ---- the applications
 
@@ -155,7 +155,7 @@ module _ (room store : Seq ℕ) (made : ℕ) (l : List) (el : l ≡ applicationL
 
       pub applications-passed : (rules r : Refusal) → rules .number ≡ 0 → r ≡ gatheredFault (c .count) (c .first) a
           → r ≡ applicationsJudged room store made parts rules (c .count) (take (c .count) (c .pairs)) (c .first)
-      unfolding applicationsJudged gatheredFault behindFault
+      unfolding applicationsJudged gatheredFault restFault
       applications-passed rules r y e =
           rw (← applications-are, eq-eqb (b .number) 0 z, eq-eqb (rules .number) 0 y) (rw (follows .listed .is, follows .listed .own, follows .clashes) at e)
 
@@ -219,9 +219,9 @@ module _ (room store : Seq ℕ) (made : ℕ) (l : List) (el : l ≡ componentLis
             → r ≡ applicationsJudged room store made parts own (c .count) (take (c .count) (c .pairs)) (c .first) → r ≡ componentsJudged room store made parts rules
         unfolding componentsJudged applicationsJudged listsFault
         components-passed rules own f r ef eo er =
-            let behind = behindFault room store made parts (c .count) (take (c .count) (c .pairs)) (c .first) in
-            let e : earlier own behind ≡ earlier rules (earlier f behind) = rw eo (sym (earlier-two rules f behind)) in
-            let d : earlier f behind ≡ listsFault room store made parts = rw (ef, gathers .listed .own, gathers .listed .is, counted-is, gathers .pairs, gathers .first) in
+            let rest = restFault room store made parts (c .count) (take (c .count) (c .pairs)) (c .first) in
+            let e : earlier own rest ≡ earlier rules (earlier f rest) = rw eo (sym (earlier-two rules f rest)) in
+            let d : earlier f rest ≡ listsFault room store made parts = rw (ef, gathers .listed .own, gathers .listed .is, counted-is, gathers .pairs, gathers .first) in
             rw (← components-are, eq-eqb (c .fault .number) 0 y) (rw (e, d) at er)
 
 -- ---- the partitions

@@ -36,7 +36,7 @@ use Rattle.validate.specs.Entries.{componentAt, applicationAt}
 use Rattle.validate.specs.Fronts as fronts
 use Rattle.validate.specs.Gathered.{components, applications}
 use Rattle.validate.specs.Faults as faults
-use Rattle.validate.specs.Faults.{inEntry, componentsFault, applicationsFault, bootFault, clashFault, behindFault, listsFault, layoutFault}
+use Rattle.validate.specs.Faults.{inEntry, componentsFault, applicationsFault, bootFault, clashFault, restFault, listsFault, layoutFault}
 
 -- ---- verdicts
 
@@ -123,7 +123,7 @@ module _ (room store : Seq ℕ) (made : ℕ) (name : Seq ℕ) (clear : verdict r
   few-applications = given.applications-few room store made (fieldsOf room made 1) of01 (lentText name) clear
 
   low-lists : (parts : Seq (Seq ℕ)) → listsFault room store made parts .place ≤ 128
-  unfolding listsFault behindFault
+  unfolding listsFault restFault
   low-lists parts =
       let cs = length (components room store made) in
       let marks : Seq Mark = map (λ n. componentAt room store made parts n .mark) (components room store made) in

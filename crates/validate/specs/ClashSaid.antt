@@ -137,9 +137,9 @@ module _ {X : Type 0} (uses : X → List Use) where
   gathered [] = []
   gathered (x ∷ xs) = uses x ++ gathered xs
 
-  gathered-behind : (xs : List X) (x : X) → gathered (withLast xs x) ≡ gathered xs ++ uses x
-  gathered-behind [] x = append-nil (uses x)
-  gathered-behind (y ∷ xs) x = rw (gathered-behind xs x) (sym (append-assoc (uses y) (gathered xs) (uses x)))
+  gathered-after : (xs : List X) (x : X) → gathered (withLast xs x) ≡ gathered xs ++ uses x
+  gathered-after [] x = append-nil (uses x)
+  gathered-after (y ∷ xs) x = rw (gathered-after xs x) (sym (append-assoc (uses y) (gathered xs) (uses x)))
 
   module _ (hit : X → X → Bool) (hits : (a b : X) → hit a b ≡ clashes (uses b) (uses a)) where
     any-clashes : (a : X) (es : List X) → anyOf (hit a) es ≡ clashes (gathered es) (uses a)
@@ -158,7 +158,7 @@ module _ {X : Type 0} (uses : X → List Use) where
           (λ e.
           let k : ℕ = firstHit hit (withLast es (pair n)) (map pair ns) in
           let b : i + suc k ≡ i + 1 + k = omega arith in
-          let s : gathered (withLast es (pair n)) ≡ gathered es ++ used (entry n) = rw (is n) (gathered-behind es (pair n)) in
+          let s : gathered (withLast es (pair n)) ≡ gathered es ++ used (entry n) = rw (is n) (gathered-after es (pair n)) in
           rw (a, e, leb·suc-suc (suc k) (length ns), b) (rw s at (turn-says (i + 1) (withLast es (pair n)) ns)))
 
 -- components before applications

@@ -80,8 +80,8 @@ module _ (room store : Seq ℕ) (made : ℕ) where
     applicationPairs = map (λ n. applicationAt room store made parts n .pair) (applications room store made)
 
     -- 60 to 70, after components of which one lies in the first partition or none
-    unfoldable pub behindFault : ℕ → Seq Pair → Bool → Refusal
-    behindFault cs pairs first =
+    unfoldable pub restFault : ℕ → Seq Pair → Bool → Refusal
+    restFault cs pairs first =
         let apps = length (applications room store made) in
         earlier (clashFault cs (cs + apps) (firstHit (clash room store made) [] (pairs ++ applicationPairs)))
         (earlier (applicationsFault store applicationMarks) (bootFault first))
@@ -90,11 +90,11 @@ module _ (room store : Seq ℕ) (made : ℕ) where
     unfoldable pub listsFault : Refusal
     listsFault =
         earlier (componentsFault store componentMarks)
-        (behindFault (length (components room store made)) componentPairs (anyOf (λ n. componentAt room store made parts n .first) (components room store made)))
+        (restFault (length (components room store made)) componentPairs (anyOf (λ n. componentAt room store made parts n .first) (components room store made)))
 
     -- records before rules, those that were judged in front and those after
     unfoldable pub applicationsJudged : Refusal → ℕ → Seq Pair → Bool → Refusal
-    applicationsJudged rules cs pairs first = earlier (verdicts.applicationFault room store made of01) (earlier rules (behindFault cs pairs first))
+    applicationsJudged rules cs pairs first = earlier (verdicts.applicationFault room store made of01) (earlier rules (restFault cs pairs first))
 
     unfoldable pub componentsJudged : Refusal → Refusal
     componentsJudged rules =

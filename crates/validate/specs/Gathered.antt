@@ -64,11 +64,11 @@ pub record Few (c : Gathered) : Type 0 where
   pub few : c .count ≤ 64
 
 -- a list of a room, and as many packages in front
-pub record Followed (room : Seq ℕ) (made end count behind : ℕ) : Type 0 where
+pub record Followed (room : Seq ℕ) (made end count preceding : ℕ) : Type 0 where
   pub rooms : Rooms room made
   pub within : end ≤ made
   pub parts : count ≤ 32
-  pub low : behind ≤ 64
+  pub low : preceding ≤ 64
 
 module _ (room store : Seq ℕ) (made : ℕ) where
   -- as many, their own rules, and the first entry that clashes: their packages stand after those in front

@@ -26,7 +26,7 @@ use Rattle.layout.specs.Layouts.{layout-verdict}
 use Rattle.validate.specs.Entries.{componentAt}
 use Rattle.validate.specs.Gathered.{components, applications}
 use Rattle.validate.specs.Faults as faults
-use Rattle.validate.specs.Faults.{inEntry, bootFault, behindFault, listsFault, layoutFault}
+use Rattle.validate.specs.Faults.{inEntry, bootFault, restFault, listsFault, layoutFault}
 use Rattle.validate.specs.FrontSaid.{front-says}
 use Rattle.validate.specs.EntrySaid.{components-say, applications-say, boot-says, in-entry-says}
 use Rattle.validate.specs.ClashSaid.{features-say}
@@ -93,7 +93,7 @@ module _ (room store : Seq ℕ) (made : ℕ) (name : Seq ℕ) where
       (firstRefusal (meant.componentRules (meant.partitionNames (meantBy partsIn)) cs)
       (firstRefusal (meant.featureRules cs apps) (firstRefusal (meant.applicationRules (meant.partitionNames (meantBy partsIn)) apps) (meant.bootRule (meant.partitionNames (meantBy partsIn)) cs))))
       (listsFault room store made names) tt
-  unfolding listsFault behindFault
+  unfolding listsFault restFault
   lists-say chip e =
       rw (parts-named partsIn)
       (says-and (components-say room store made name names (components room store made))

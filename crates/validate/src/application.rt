@@ -2,10 +2,10 @@
 
 use crate::Entry;
 use crate::uses::Pair;
+use meaning::FEATURES;
+use meaning::PARTITIONS;
 use schema::Application;
 use schema::LONGEST_NAME;
-use schema::MOST_FEATURES;
-use schema::MOST_PARTITIONS;
 use schema::Number;
 use schema::Partition;
 use schema::Text;
@@ -72,7 +72,7 @@ fn entry_of(
     fault: u32,
     pair: Pair,
     a: Application,
-    items: [Partition; MOST_PARTITIONS],
+    items: [Partition; PARTITIONS],
     count: usize,
 ) -> Entry
     requires { ⌜ count ≤ 32 ⌝ }
@@ -103,14 +103,14 @@ pub fn entry(
     store: &[u8],
     made: usize,
     n: usize,
-    items: [Partition; MOST_PARTITIONS],
+    items: [Partition; PARTITIONS],
     count: usize,
 ) -> Entry
     requires { ⌜ Rooms (now tree) made × Stood (now tree) n × (count ≤ 32) ⌝ }
     ensures { λ r. ⌜ r ≡ entries.applicationAt (now (tree .entry)) (now (store .entry)) made
         (partNames (now (store .entry)) count items) n ⌝ }
 {
-    let r = parse::entry::application_at(tree, store, made, n, MOST_FEATURES);
+    let r = parse::entry::application_at(tree, store, made, n, FEATURES);
     let a = r.application;
     let features = a.features;
     let k = tree::key_at(tree, n);

@@ -1,12 +1,12 @@
 // 52 to 59: what a component's own rules say, and the entry it makes.
 
 use crate::Entry;
+use meaning::FEATURES;
+use meaning::PARTITIONS;
 use parse::field::first_fault;
 use schema::Boot;
 use schema::Component;
 use schema::LONGEST_NAME;
-use schema::MOST_FEATURES;
-use schema::MOST_PARTITIONS;
 use schema::Number;
 use schema::Partition;
 use schema::Text;
@@ -160,7 +160,7 @@ fn entry_of(
     store: &[u8],
     fault: u32,
     c: Component,
-    items: [Partition; MOST_PARTITIONS],
+    items: [Partition; PARTITIONS],
     count: usize,
 ) -> Entry
     requires { ⌜ count ≤ 32 ⌝ }
@@ -192,14 +192,14 @@ pub fn entry(
     store: &[u8],
     made: usize,
     n: usize,
-    items: [Partition; MOST_PARTITIONS],
+    items: [Partition; PARTITIONS],
     count: usize,
 ) -> Entry
     requires { ⌜ Rooms (now tree) made × Stood (now tree) n × (count ≤ 32) ⌝ }
     ensures { λ r. ⌜ r ≡ entries.componentAt (now (tree .entry)) (now (store .entry)) made
         (partNames (now (store .entry)) count items) n ⌝ }
 {
-    let r = parse::entry::component_at(tree, store, made, n, MOST_FEATURES);
+    let r = parse::entry::component_at(tree, store, made, n, FEATURES);
     let c = r.component;
     entry_of(store, r.fault, c, items, count)
 }

@@ -3,11 +3,11 @@
 use crate::uses::MOST_PAIRS;
 use crate::uses::Pair;
 use features::TOO_MANY;
+use meaning::APPLICATIONS;
+use meaning::PARTITIONS;
 use parse::Refusal;
 use parse::entry::List;
 use parse::entry::Partitions;
-use schema::MOST_ENTRIES;
-use schema::MOST_PARTITIONS;
 use schema::Partition;
 use tree::Item;
 use tree::Key;
@@ -79,7 +79,7 @@ pub fn each_component(
     store: &[u8],
     made: usize,
     l: List,
-    items: [Partition; MOST_PARTITIONS],
+    items: [Partition; PARTITIONS],
     count: usize,
 ) -> Gathered
     requires { ⌜ Counted (now tree) made (l .place) (l .end) count ⌝ }
@@ -149,8 +149,8 @@ pub fn each_application(
         match step {
             Key::End => break,
             Key::At { value, rest } => {
-                if MOST_ENTRIES <= i {
-                    fault = parse::refusal_at(parse::IN_APPLICATION, TOO_MANY, MOST_ENTRIES);
+                if APPLICATIONS <= i {
+                    fault = parse::refusal_at(parse::IN_APPLICATION, TOO_MANY, APPLICATIONS);
                     break;
                 }
                 let e = crate::application::entry(tree, store, made, value, items, count);

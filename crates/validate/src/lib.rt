@@ -10,11 +10,11 @@ use crate::gather::Applied;
 use crate::gather::Gathered;
 use crate::uses::Pair;
 use features::TOO_MANY;
+use meaning::COMPONENTS;
+use meaning::PARTITIONS;
 use parse::Refusal;
 use parse::entry::Partitions;
 use schema::Chip;
-use schema::MOST_ENTRIES;
-use schema::MOST_PARTITIONS;
 use turns::Fault;
 use turns::Mark;
 ghost use mathlib.Core.Path.{_≡_};
@@ -123,12 +123,12 @@ fn judge_applications(
     check_rest(cs, first, a)
 }
 
-// 25, where a list has more entries than 64.
+// 25, where a list has more entries than the components may have.
 fn check_length(section: u32, n: usize) -> Refusal
     ensures { λ r. ⌜ r ≡ faults.lengthFault section n ⌝ }
 {
-    if MOST_ENTRIES < n {
-        return parse::refusal_at(section, TOO_MANY, MOST_ENTRIES);
+    if COMPONENTS < n {
+        return parse::refusal_at(section, TOO_MANY, COMPONENTS);
     }
     parse::refusal_at(0, 0, 0)
 }
@@ -170,7 +170,7 @@ fn judge_partitions(tree: &[u8], store: &[u8], made: usize, chip: Chip, rules: R
     ensures { λ r. ⌜ r ≡ faults.partitionsJudged (now (tree .entry)) (now (store .entry)) made chip rules ⌝ }
 {
     let l = parse::view::partition_list(tree, store, made);
-    let p = parse::entry::read_partitions(tree, store, made, l, MOST_PARTITIONS);
+    let p = parse::entry::read_partitions(tree, store, made, l, PARTITIONS);
     let fault = p.fault;
     let b = parse::earlier(parse::in_section(parse::IN_PARTITION, l.fault), fault);
     if b.number != 0 {

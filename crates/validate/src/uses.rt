@@ -17,7 +17,7 @@ ghost use Rattle.turns.specs.Marks.{firstHit};
 ghost use Rattle.validate.specs.Clashes as clashes;
 
 // As many components as there may be, and as many applications.
-pub const MOST_PAIRS: usize = 128;
+pub const MOST_PAIRS: usize = meaning::COMPONENTS + meaning::APPLICATIONS;
 
 // An entry's packages with the features that they are to have.
 pub struct Pair {

@@ -13,7 +13,7 @@ pub enum Form {
 }
 
 // `[[..]]`
-fn double(l: &[u8]) -> bool
+fn is_array_header(l: &[u8]) -> bool
     ensures { λ r. ⌜ r ≡ meant.arrayHeader (now (l .entry)) ⌝ }
 {
     let n = l.len();
@@ -33,7 +33,7 @@ fn double(l: &[u8]) -> bool
 }
 
 // `[..]` not starting `[[`
-fn single(l: &[u8]) -> bool
+fn is_table_header(l: &[u8]) -> bool
     ensures { λ r. ⌜ r ≡ meant.tableHeader (now (l .entry)) ⌝ }
 {
     let n = l.len();
@@ -53,10 +53,10 @@ fn single(l: &[u8]) -> bool
 pub fn classify(l: &[u8]) -> Form
     ensures { λ r. ⌜ Formed (now (l .entry)) r ⌝ }
 {
-    if double(l) {
+    if is_array_header(l) {
         return Form::Pushes;
     }
-    if single(l) {
+    if is_table_header(l) {
         return Form::Heads;
     }
     let at = text::find_outside(l, b'=');

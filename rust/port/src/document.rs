@@ -120,7 +120,7 @@ pub fn child(tree: &[u8], made: usize, parent: u16, from: usize) -> Option<usize
     number(unsafe { sys::tree_child(tree.as_ptr(), tree.len(), made, parent, from) })
 }
 
-/// The first of `made` values under the parent in byte order of key, or the one behind value number `after`.
+/// The first of `made` values under the parent in byte order of key, or the one after value number `after`.
 pub fn next(
     tree: &[u8],
     store: &[u8],
@@ -130,9 +130,9 @@ pub fn next(
 ) -> Option<usize> {
     let (slots, places) = (tree.as_ptr(), tree.len());
     let (held, room) = (store.as_ptr(), store.len());
-    let (begun, behind) = (u32::from(after.is_some()), after.unwrap_or(0));
+    let (begun, last) = (u32::from(after.is_some()), after.unwrap_or(0));
     // SAFETY: both are live slices of their lengths, only read; tree_next has no precondition.
-    number(unsafe { sys::tree_next(slots, places, held, room, made, parent, begun, behind) })
+    number(unsafe { sys::tree_next(slots, places, held, room, made, parent, begun, last) })
 }
 
 /// The whole tree that an accepted text left, or what in it is against the rules of the rooms.

@@ -35,7 +35,7 @@ mod sys {
     }
 }
 
-/// Plans a preset's boot chain and writes its lines at the head of `out`, which stays as it is behind
+/// Plans a preset's boot chain and writes its lines at the head of `out`, which stays as it is after
 /// them. A refusal leaves all three rooms zero.
 pub fn listing(
     text: &[u8],

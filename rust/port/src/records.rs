@@ -2,7 +2,7 @@
 use crate::document::Outcome;
 
 /// Where a text's bytes are. `kind` 0: it is absent; 1: `len` bytes of the store from `from` on;
-/// 2: the lent name; 3: the fixed word number `word`; 4: as 1, with `.aic` behind them.
+/// 2: the lent name; 3: the fixed word number `word`; 4: as 1, with `.aic` after them.
 #[repr(C)]
 #[derive(Clone, Copy, Debug, Default, PartialEq, Eq)]
 pub struct Bytes {
@@ -215,7 +215,7 @@ fn asked(ask: Ask, text: &[u8], name: &[u8], store: &mut [u8], tree: &mut [u8]) 
     unsafe { ask(from, n, board, letters, to, room, slots, places) }
 }
 
-/// Writes the fixed word of that number at the head of `out` and zeros behind it, and says how
+/// Writes the fixed word of that number at the head of `out` and zeros after it, and says how
 /// long the word is; 0, and zeros alone, where there is none or `out` is shorter.
 pub fn word(number: u32, out: &mut [u8]) -> usize {
     // SAFETY: `out` is a live slice of that length; preset_word has no precondition.

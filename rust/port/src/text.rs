@@ -13,7 +13,7 @@ pub struct Span {
     pub end: usize,
 }
 
-/// The state after the last byte (0 outside a string, 1 inside, 2 inside behind a backslash)
+/// The state after the last byte (0 outside a string, 1 inside, 2 inside after a backslash)
 /// and the brackets outside strings.
 #[repr(C)]
 #[derive(Clone, Copy, Debug, PartialEq, Eq)]
@@ -77,7 +77,7 @@ pub fn kept(line: &[u8]) -> usize {
     unsafe { sys::text_kept(line.as_ptr(), line.len()) }
 }
 
-/// The string state behind `s` and its brackets outside strings.
+/// The string state after `s` and its brackets outside strings.
 pub fn scan(s: &[u8]) -> Scanned {
     // SAFETY: `s` is a live slice of that length, only read; text_scan has no precondition.
     unsafe { sys::text_scan(s.as_ptr(), s.len()) }

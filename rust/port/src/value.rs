@@ -120,7 +120,7 @@ pub fn string(s: &[u8], out: &mut [u8]) -> Decoded {
     unsafe { sys::value_string(s.as_ptr(), s.len(), to, room) }
 }
 
-/// Decodes a key's segments one behind the other into `store`.
+/// Decodes a key's segments one after the other into `store`.
 pub fn key(s: &[u8], store: &mut [u8]) -> Segments {
     let (to, room) = (store.as_mut_ptr(), store.len());
     // SAFETY: both are live slices of their lengths and the borrow rules keep them apart;

@@ -43,7 +43,7 @@ pub fn seen<V: View>(view: V) -> Result<Option<V>, String> {
     }
 }
 
-/// As many entries as were counted, and none behind them.
+/// As many entries as were counted, and none after them.
 pub fn all<T>(
     count: usize,
     most: usize,
@@ -86,7 +86,7 @@ fn fixed(number: u32) -> Result<Vec<u8>, String> {
     }
 }
 
-// The number of the fixed word that kind 4 puts behind its bytes.
+// The number of the fixed word that kind 4 puts after its bytes.
 const AIC: u32 = 17;
 
 impl Rooms<'_> {
@@ -122,7 +122,7 @@ impl Rooms<'_> {
         }
     }
 
-    /// The items of a list one behind the other; each above the last, so that the walk ends.
+    /// The items of a list one after the other; each above the last, so that the walk ends.
     pub fn features(&self, list: FeatureList) -> Result<Vec<Vec<u8>>, String> {
         if !matches!(
             (list.kind, list.from, list.len),

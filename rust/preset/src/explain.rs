@@ -16,7 +16,7 @@ const WIDTH: usize = 78;
 /// A preset that is refused, as the document writes it, and what is told of it.
 #[derive(Clone, Copy, Debug, PartialEq, Eq)]
 pub struct Example {
-    /// What stands behind `toml` in its fence: `made` where the notation for made texts is used.
+    /// What stands after `toml` in its fence: `made` where the notation for made texts is used.
     pub tag: &'static str,
     pub preset: &'static str,
     pub told: &'static str,

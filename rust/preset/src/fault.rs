@@ -11,7 +11,7 @@ use std::fmt;
 
 /// A refusal with what the text has where it points.
 ///
-/// Its `Display` is what stands behind the file's name and line in a message; texts of the preset
+/// Its `Display` is what stands after the file's name and line in a message; texts of the preset
 /// are escaped in it.
 ///
 /// ```
@@ -58,7 +58,7 @@ impl Fault {
                 fault.entry = Some(entry(&tree, &refusal));
                 fault.detail = detail::of(text, &tree, &refusal, app);
             }
-            // not met: what is refused behind the text has a tree
+            // not met: what is refused after the text has a tree
             (_, None) => {}
         }
         fault.detail = fault.detail.or_else(|| detail::of_text(&refusal));

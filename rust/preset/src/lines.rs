@@ -9,12 +9,12 @@ use port::text::{SCRATCH_MIN, lines, next};
 pub(crate) fn making(text: &[u8], value: usize) -> Option<usize> {
     let starts = joined(text);
     let made = |line: usize| Tree::read(before(text, line)).map_or(0, |tree| tree.made());
-    let behind = starts.partition_point(|&start| made(start) <= value);
+    let after = starts.partition_point(|&start| made(start) <= value);
     let all = Tree::read(text)?.made();
-    match behind {
+    match after {
         0 => None,
         _ if value >= all => None,
-        _ => Some(starts[behind - 1]),
+        _ => Some(starts[after - 1]),
     }
 }
 

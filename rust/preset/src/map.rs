@@ -70,7 +70,7 @@ const LAND_MAX: usize = 40;
 const CELLS_MIN: usize = 12;
 
 impl Area {
-    /// The first byte behind it.
+    /// The first byte after it.
     pub fn end(&self) -> u64 {
         self.offset.saturating_add(self.size)
     }
@@ -360,7 +360,7 @@ pub(crate) fn clean(name: &str, room: usize) -> String {
             return out + "...";
         }
         out.push_str(&shown);
-        // Three dots would still fit behind this much.
+        // Three dots would still fit after this much.
         if used + 3 <= room {
             kept = out.len();
         }

@@ -1,7 +1,7 @@
 //! Text that others wrote, made fit for a terminal: what would move its cursor, hide or turn round letters is escaped.
 use std::ffi::OsStr;
 
-// Names and lines are cut behind so many characters.
+// Names and lines are cut after so many characters.
 const LONGEST: usize = 160;
 
 /// A text with its control and invisible characters as escapes, cut where it is long.

@@ -19,7 +19,7 @@ const SECTIONS: [Section; 5] = [
 
 /// A key that is passed over, with the table that it stands in.
 ///
-/// Its `Display` is what stands behind the file's name and line in a note; texts of the preset are
+/// Its `Display` is what stands after the file's name and line in a note; texts of the preset are
 /// escaped in it.
 #[derive(Clone, Debug, PartialEq, Eq)]
 pub struct Unknown {
@@ -82,7 +82,7 @@ fn all(tree: &Tree) -> Found {
     out
 }
 
-// The keys of the root that a section is read from in this text: behind one that is there no other counts.
+// The keys of the root that a section is read from in this text: after one that is there no other counts.
 fn read(tree: &Tree, section: Section) -> &'static [&'static str] {
     let keys = roots(section);
     let there = keys.iter().position(|key| tree.root(key).is_some());

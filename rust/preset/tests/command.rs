@@ -296,12 +296,12 @@ fn check_notes_no_more_than_ten() {
     );
 }
 
-// Whoever sees both outputs sees the notes of a file behind its line and before the next file's.
+// Whoever sees both outputs sees the notes of a file after its line and before the next file's.
 #[test]
-fn check_notes_behind_each_file() {
-    let slip = |name| written("behind", name, format!("nmae = 1\n{EXAMPLE}"));
+fn check_notes_after_each_file() {
+    let slip = |name| written("after", name, format!("nmae = 1\n{EXAMPLE}"));
     let (one, two) = (slip("one.toml"), slip("two.toml"));
-    let bad = written("behind", "bad.toml", "x\n");
+    let bad = written("after", "bad.toml", "x\n");
     let runner = std::env::var("CARGO_TARGET_X86_64_UNKNOWN_LINUX_GNU_RUNNER");
     let program = env!("CARGO_BIN_EXE_preset");
     let files = [&one, &bad, &two].map(|file| word(file)).join(" ");

@@ -337,8 +337,8 @@ fn tags(xml: &str) -> Result<Vec<Tag<'_>>, String> {
     let (mut open, mut out, mut rest) = (Vec::new(), Vec::new(), xml);
     while let Some((words, tail)) = rest.split_once('<') {
         plain(words)?;
-        let (tag, behind) = tail.split_once('>').ok_or("a tag that does not end")?;
-        rest = behind;
+        let (tag, after) = tail.split_once('>').ok_or("a tag that does not end")?;
+        rest = after;
         if let Some(name) = tag.strip_prefix('/') {
             let closes = open.pop() == Some(name);
             closes.then_some(()).ok_or_else(|| format!("</{name}>"))?;
@@ -372,13 +372,13 @@ fn pairs(mut rest: &str) -> Result<BTreeMap<&str, &str>, String> {
         let (name, value) = rest
             .split_once("=\"")
             .ok_or_else(|| format!("attributes {rest}"))?;
-        let (value, behind) = value
+        let (value, after) = value
             .split_once('"')
             .ok_or_else(|| format!("value {value}"))?;
         plain(value)?;
         let once = out.insert(name.trim_start(), value).is_none();
         once.then_some(()).ok_or_else(|| format!("{name} twice"))?;
-        rest = behind;
+        rest = after;
     }
     Ok(out)
 }
@@ -446,7 +446,7 @@ fn svg_names_everything() {
     assert!(svg(&Drawing::default()).contains(">No partitions.</text>"));
 }
 
-// The bar's part of an area: the line behind its title.
+// The bar's part of an area: the line after its title.
 fn stretch(picture: &str, name: &str) -> BTreeMap<String, f64> {
     let title = format!("<g><title>{name}: ");
     let mut lines = picture.lines().skip_while(|l| !l.starts_with(&title));

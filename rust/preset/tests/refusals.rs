@@ -94,9 +94,9 @@ fn decoded(line: &str) -> Vec<u8> {
     let mut parts = line.split("\\x");
     let mut out = parts.next().unwrap_or_default().as_bytes().to_vec();
     for part in parts {
-        let (digits, behind) = part.split_at(2);
+        let (digits, after) = part.split_at(2);
         out.push(u8::from_str_radix(digits, 16).expect("two digits"));
-        out.extend(behind.as_bytes());
+        out.extend(after.as_bytes());
     }
     out
 }
@@ -172,7 +172,7 @@ fn what_can_be_mended_is_shown() {
     }
 }
 
-// What entries say besides their examples: lines behind a sound preset, `/` between two of them,
+// What entries say besides their examples: lines after a sound preset, `/` between two of them,
 // and the answer.
 const BESIDES: [(&str, u32); 23] = [
     ("", 0),

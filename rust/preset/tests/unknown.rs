@@ -247,7 +247,7 @@ fn texts_without_a_tree() {
     assert_eq!(told("x = 1\n".to_owned() + &"#".repeat(32_768)), nothing());
 }
 
-// Behind each of the list's limits too.
+// After each of the list's limits too.
 #[test]
 fn refused_presets() {
     let refused = "[board]\nchip = 1\nx = 1\n".to_owned() + &"[[component]]\n".repeat(65) + "y = 1";

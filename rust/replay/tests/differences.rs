@@ -11,7 +11,7 @@ use std::collections::BTreeSet;
 
 const PAPER: &str = include_str!("../../../docs/DIFFERENCES.md");
 
-// Every table begins with one of two lines, and this one behind it.
+// Every table begins with one of two lines, and this one after it.
 const OF_TOML: &str = "| text | here | TOML 1.0.0 | why |";
 const OF_ORIGINAL: &str = "| asked | here | the original | why |";
 const RULE: &str = "|---|---|---|---|";
@@ -76,31 +76,31 @@ fn bytes(written: &str) -> Result<Vec<u8>, String> {
     let (mut out, mut rest) = (Vec::new(), written);
     while let Some((plain, escape)) = rest.split_once('\\') {
         out.extend(plain.bytes());
-        let (decoded, behind) = unescaped(escape).ok_or(format!("escape of \\{escape}"))?;
+        let (decoded, after) = unescaped(escape).ok_or(format!("escape of \\{escape}"))?;
         out.extend(decoded);
-        rest = behind;
+        rest = after;
     }
     out.extend(rest.bytes());
     Ok(out)
 }
 
-// What an escape stands for, and what is behind it.
+// What an escape stands for, and what is after it.
 fn unescaped(escape: &str) -> Option<(Vec<u8>, &str)> {
-    let behind = escape.get(1..)?;
-    let plain = |byte| Some((vec![byte], behind));
+    let after = escape.get(1..)?;
+    let plain = |byte| Some((vec![byte], after));
     match escape.as_bytes()[0] {
         b'n' => plain(b'\n'),
         b'r' => plain(b'\r'),
         b't' => plain(b'\t'),
         b'\\' => plain(b'\\'),
         b'x' => {
-            let byte = u8::from_str_radix(behind.get(..2)?, 16).ok()?;
-            Some((vec![byte], &behind[2..]))
+            let byte = u8::from_str_radix(after.get(..2)?, 16).ok()?;
+            Some((vec![byte], &after[2..]))
         }
         b'u' => {
-            let (digits, behind) = behind.strip_prefix('{')?.split_once('}')?;
+            let (digits, after) = after.strip_prefix('{')?.split_once('}')?;
             let c = char::from_u32(u32::from_str_radix(digits, 16).ok()?)?;
-            Some((c.to_string().into_bytes(), behind))
+            Some((c.to_string().into_bytes(), after))
         }
         _ => None,
     }

@@ -1,5 +1,5 @@
 //! Every function that starts from a text, lent all sorts of rooms and handed anything: an answer each time,
-//! the same twice, nothing beside the rooms or behind a listing's lines changed, and rooms that are zero after
+//! the same twice, nothing beside the rooms or after a listing's lines changed, and rooms that are zero after
 //! a refusal.
 use port::text::TEXT_MAX;
 use replay::generators::mixed;

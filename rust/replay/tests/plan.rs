@@ -224,7 +224,7 @@ fn random_presets() {
     }
 }
 
-// Every application of a full list, and what is before and behind all of them.
+// Every application of a full list, and what is before and after all of them.
 #[test]
 fn every_key() {
     let (mut r, mut host) = (Rng::new(7), Host::new(PLAN));
@@ -383,9 +383,9 @@ fn views_of_damaged_rooms() {
     }
 }
 
-// Nothing stands behind the last component and the last build.
+// Nothing stands after the last component and the last build.
 #[test]
-fn views_behind_the_last() {
+fn views_after_the_last() {
     let (text, (mut store, mut tree)) = (EXAMPLES[1].as_bytes(), rooms());
     let preset = validate::read(text, b"").expect("accepted").preset;
     for key in [None, Some(&b"profile-spot"[..])] {

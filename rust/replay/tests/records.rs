@@ -224,7 +224,7 @@ const WORDS: [&str; 17] = [
     ".aic",
 ];
 
-// At the head of what is lent, which is zero behind it; nothing where it does not fit.
+// At the head of what is lent, which is zero after it; nothing where it does not fit.
 #[test]
 fn fixed_words() {
     for length in 0..=64 {
@@ -273,7 +273,7 @@ fn nothing(rooms: Rooms) -> Result<(), String> {
     absent(rooms.feature(words, None))
 }
 
-fn items_behind(rooms: Rooms, list: FeatureList, mut after: Option<(usize, usize)>) -> Vec<String> {
+fn items_after(rooms: Rooms, list: FeatureList, mut after: Option<(usize, usize)>) -> Vec<String> {
     let mut out = Vec::new();
     // no list here has more items
     for _ in 0..9 {
@@ -310,13 +310,13 @@ fn features_in_their_order() {
         from: 2,
         len: 0,
     };
-    let all = |list, after| items_behind(rooms, list, after);
+    let all = |list, after| items_after(rooms, list, after);
     assert_eq!(all(words, None), ["a", "ab", "b"]);
     assert_eq!(all(items, None), ["", "a", "ab", "b"]);
-    // behind `aa`, which is no item
+    // after `aa`, which is no item
     assert_eq!(all(words, Some((16, 2))), ["ab", "b"]);
     assert_eq!(all(items, Some((16, 2))), ["ab", "b"]);
-    // behind nothing at all
+    // after nothing at all
     assert_eq!(all(words, Some((0, 0))), ["a", "ab", "b"]);
     assert_eq!(all(items, Some((0, 0))), ["a", "ab", "b"]);
     for kind in [0, 3, 4, u32::MAX] {
@@ -329,7 +329,7 @@ fn features_in_their_order() {
     }
 }
 
-// Entries behind the last one, and views of a preset that is refused.
+// Entries after the last one, and views of a preset that is refused.
 #[test]
 fn views_of_a_preset() {
     let text = random::EXAMPLES[1].as_bytes();

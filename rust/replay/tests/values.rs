@@ -265,7 +265,7 @@ fn arrays_around_the_limit() {
 }
 
 // `text` where that many values are made already, the array around it being one.
-fn behind(made: usize, text: &str) -> String {
+fn after(made: usize, text: &str) -> String {
     format!("[{}{text}]", "1,".repeat(made - 1))
 }
 
@@ -273,13 +273,13 @@ fn behind(made: usize, text: &str) -> String {
 fn values_around_the_limit() {
     for item in ["1", "true", "\"ab\"", "[]"] {
         for made in [2_045, 2_046, 2_047] {
-            makes(&behind(made, item), made + 1);
+            makes(&after(made, item), made + 1);
         }
         for made in [2_048, 2_049, 3_000] {
-            refuses(&behind(made, item), 16);
+            refuses(&after(made, item), 16);
         }
     }
-    let full = |text: &str| behind(VALUES_MAX, text);
+    let full = |text: &str| after(VALUES_MAX, text);
     let told = [
         ("x", 12),
         ("\"x\" y", 10),
@@ -294,8 +294,8 @@ fn values_around_the_limit() {
     makes(&full(" , \u{3000},"), VALUES_MAX);
     refuses(&full(&nested(17, "")), 16);
     refuses(&full("1,x"), 16);
-    refuses(&behind(2_047, "[1]"), 16);
-    refuses(&behind(2_047, "[x]"), 12);
+    refuses(&after(2_047, "[1]"), 16);
+    refuses(&after(2_047, "[x]"), 12);
     // sixteen arrays and 2,032 integers
     let ones = "1,".repeat(2_032);
     makes(&nested(16, &ones), VALUES_MAX);
@@ -344,7 +344,7 @@ fn lent_rooms() {
         assert_eq!(asks(short, store, tree), held, "rooms {store}, {tree}");
         assert_eq!(asks(b"[1, x]", store, tree), Err(12));
         assert_eq!(asks(&long, store, tree), Err(1));
-        let full = behind(VALUES_MAX + 1, "");
+        let full = after(VALUES_MAX + 1, "");
         assert_eq!(
             asks(full.as_bytes(), store, tree),
             Err(16),

@@ -2,6 +2,10 @@ use Rattle.host.proofs.Exports.{end-told, over-told, open-told, line-to
 use borrow.Author.Needs.{needs}
 use Rattle.host.proofs.text_next.Statement.{statement}
 use Rattle.host.proofs.text_next.Tie as tie
+use Rattle.host.proofs.text_next.Reads as reads
+use Rattle.host.proofs.text_next.Lts as lts
+use Rattle.host.proofs.no_line.Reads as no-line-reads
+use Rattle.text.proofs.next_line.Reads as next-line-reads
 
 next-line-requires : tie.Need-next-line-requires
 next-line-requires c κs = search needs
@@ -9,11 +13,20 @@ next-line-requires c κs = search needs
 enum-told : tie.Need-enum-told
 enum-told c = search needs
 
+no-line-requires : tie.Need-no-line-requires
+no-line-requires c κs = search needs
+
 enum-known-r : tie.Need-enum-known-r
 enum-known-r c = search needs
 
+no-line-requires-2 : tie.Need-no-line-requires-2
+no-line-requires-2 c κs = search needs
+
 enum-known-r-2 : tie.Need-enum-known-r-2
 enum-known-r-2 c = search needs
+
+no-line-requires-3 : tie.Need-no-line-requires-3
+no-line-requires-3 c κs = search needs
 
 enum-known-r-3 : tie.Need-enum-known-r-3
 enum-known-r-3 c = search needs
@@ -36,8 +49,11 @@ text-next-spec =
     (tie.spec
     next-line-requires
     enum-told
+    no-line-requires
     enum-known-r
+    no-line-requires-2
     enum-known-r-2
+    no-line-requires-3
     enum-known-r-3
     returns
     returns-2

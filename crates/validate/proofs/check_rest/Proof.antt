@@ -1,5 +1,5 @@
 use borrow.Author.Needs.{needs}
-use Rattle.validate.proofs.Judging.{behind-applications, behind-first, behind-uses}
+use Rattle.validate.proofs.Judging.{rest-applications, rest-first, rest-uses}
 use Rattle.validate.proofs.check_rest.Statement.{statement}
 use Rattle.validate.proofs.check_rest.Tie as tie
 use Rattle.validate.proofs.check_rest.Reads as reads
@@ -12,19 +12,19 @@ check-uses-requires : tie.Need-check-uses-requires
 check-uses-requires c κs = search needs
 
 returns : tie.Need-returns
-returns c = search (needs, behind-uses)
+returns c = search (needs, rest-uses)
 
 in-entry-requires : tie.Need-in-entry-requires
 in-entry-requires c κs = search needs
 
 returns-2 : tie.Need-returns-2
-returns-2 c = search (needs, behind-applications)
+returns-2 c = search (needs, rest-applications)
 
 check-first-requires : tie.Need-check-first-requires
 check-first-requires c κs = search needs
 
 returns-3 : tie.Need-returns-3
-returns-3 c = search (needs, behind-first)
+returns-3 c = search (needs, rest-first)
 
 pub check-rest-spec : {M : Type 1} → statement M
 check-rest-spec =

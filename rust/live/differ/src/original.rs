@@ -40,7 +40,7 @@ fn laid(text: &str) -> String {
     kept.flat_map(|line| [line, "\n".to_string()]).collect()
 }
 
-// A quote added behind ends an open string, except behind a backslash; then one more does.
+// A quote added at the end ends an open string, except after a backslash; then one more does.
 fn scan(text: &str) -> (u8, usize, usize) {
     let closing = ["", "\"", "\"\""];
     let closes = |end: &&str| rust::quotes_closed(&format!("{text}{end}"));

@@ -58,7 +58,7 @@ pub const VALUE: Record = Record {
     asked: || {
         let corners = value::corners::CORNERS.len();
         format!(
-            "parse_int, unquote (the text behind an opening quote), split_key and parse_value \
+            "parse_int, unquote (the text after an opening quote), split_key and parse_value \
              to {corners} picked"
         )
     },

@@ -117,7 +117,7 @@ impl Run {
         }
     }
 
-    // Two numbers behind a mixing function each, so that neighbours have nothing in common.
+    // Two numbers, each through a mixing function, so that neighbours have nothing in common.
     fn rng(&self, number: u64) -> Rng {
         Rng::new(Rng::new(self.seed).draw() ^ Rng::new(number).draw().rotate_left(1))
     }

@@ -80,8 +80,8 @@ mod tests {
     // Made up: a text differs that has both of these, in this order.
     fn differs(text: &[u8]) -> Result<(), String> {
         let find = |s: &[u8], part: &[u8]| s.windows(part.len()).position(|w| w == part);
-        let behind = find(text, b"x = ").and_then(|at| find(&text[at..], b"\"z"));
-        match behind {
+        let after = find(text, b"x = ").and_then(|at| find(&text[at..], b"\"z"));
+        match after {
             Some(_) => Err(format!("{} bytes", text.len())),
             None => Ok(()),
         }

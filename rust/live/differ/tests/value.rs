@@ -189,7 +189,7 @@ fn nesting_around_the_limit() {
     refused(&nested(16, "x,[1"), 12);
 }
 
-// An array of `count` items, and `last` behind them.
+// An array of `count` items, and `last` after them.
 fn wide(item: &str, count: usize, last: &str) -> String {
     format!("[{}{last}]", format!("{item},").repeat(count))
 }

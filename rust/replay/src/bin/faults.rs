@@ -25,7 +25,7 @@ fn main() {
                 let said = said.unwrap_or_else(|e| panic!("{}: {e}", text.escape_ascii()));
                 let written = function.written(said).unwrap_or(lengths[2]);
                 let kept = rooms[2][written..].iter().all(|&b| b == 0xAA);
-                assert!(kept, "{}: changed behind the lines", function.called);
+                assert!(kept, "{}: changed after the lines", function.called);
                 assert_eq!(said.number == 17, short.is_some(), "{}", function.called);
                 calls += 1;
                 accepted += usize::from(said.number == 0);

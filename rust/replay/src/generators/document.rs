@@ -227,17 +227,17 @@ const COMMENT: &str =
 
 // Around the longest text: a preset with something long in it.
 fn long(r: &mut Rng) -> String {
-    let (before, behind) = (preset(r), preset(r));
+    let (before, after) = (preset(r), preset(r));
     let length = TEXT_MAX - 5 + r.below(12);
-    let around = before.len() + behind.len() + "z = \"\"\n".len();
+    let around = before.len() + after.len() + "z = \"\"\n".len();
     // few lines, since the original's joining is quadratic
     let filling = r.pick(&["x", " ", "\\n", "é", "#", COMMENT]);
     let count = length.saturating_sub(around) / filling.len();
     let filling = filling.repeat(count);
     match r.below(3) {
-        0 => format!("{before}z = \"{filling}\"\n{behind}"),
-        1 => format!("{before}#      {filling}\n{behind}"),
-        _ => format!("{before}{behind}\n{filling}"),
+        0 => format!("{before}z = \"{filling}\"\n{after}"),
+        1 => format!("{before}#      {filling}\n{after}"),
+        _ => format!("{before}{after}\n{filling}"),
     }
 }
 

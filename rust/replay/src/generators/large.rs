@@ -27,7 +27,7 @@ pub fn full() -> String {
     board.to_string() + &lists.collect::<String>()
 }
 
-/// A text and a comment behind it, up to the longest that is read.
+/// A text and a comment after it, up to the longest that is read.
 pub fn commented(text: &str) -> String {
     let dashes = "-".repeat(TEXT_MAX - text.len() - 2);
     format!("{text}#{dashes}\n")

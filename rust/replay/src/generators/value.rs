@@ -117,17 +117,17 @@ fn whole_string(r: &mut Rng) -> String {
 }
 
 fn segment(r: &mut Rng) -> String {
-    let (before, behind) = (r.pick(&SPACES), r.pick(&SPACES));
+    let (before, after) = (r.pick(&SPACES), r.pick(&SPACES));
     let name = match r.below(4) {
         0 => whole_string(r).replace('.', ""),
         1 => whole_string(r).replace('.', "") + r.pick(&["", " ", "b"]) + &whole_string(r),
         _ => r.pick(&BARE).to_string(),
     };
-    format!("{before}{name}{behind}")
+    format!("{before}{name}{after}")
 }
 
 fn whole_value(r: &mut Rng, around: usize) -> String {
-    let (before, behind) = (r.pick(&SPACES), r.pick(&SPACES));
+    let (before, after) = (r.pick(&SPACES), r.pick(&SPACES));
     let kind = if around < 5 { 10 } else { 6 };
     let inner = match r.below(kind) {
         0 | 1 => whole_string(r),
@@ -136,7 +136,7 @@ fn whole_value(r: &mut Rng, around: usize) -> String {
         5 => r.pick(&["true", "false", "true", "tr_ue", "TRUE"]).into(),
         _ => array(r, around),
     };
-    format!("{before}{inner}{behind}")
+    format!("{before}{inner}{after}")
 }
 
 fn array(r: &mut Rng, around: usize) -> String {

@@ -106,7 +106,7 @@ pub fn least(name: &[u8]) -> [usize; 3] {
 }
 
 impl Function {
-    /// Calls it and looks through the rooms: zero after a refusal, else behind what was made. Behind the lines
+    /// Calls it and looks through the rooms: zero after a refusal, else after what was made. After the lines
     /// of an output it is for the caller to see that nothing was changed.
     pub fn judge(&self, input: Input, mut rooms: Rooms) -> Result<Said, String> {
         let said = (self.call)(input, rooms.each_mut().map(|room| &mut **room));
@@ -193,7 +193,7 @@ impl Bench {
         left(&mut self.rooms[0], function, said)
     }
 
-    // Nothing beside the rooms is changed, nor behind the lines of an output.
+    // Nothing beside the rooms is changed, nor after the lines of an output.
     fn once(&mut self, function: &Function, input: Input, n: usize) -> Result<Said, String> {
         self.turn += 1;
         let rooms = &mut self.rooms[n];
@@ -208,13 +208,13 @@ impl Bench {
         };
         let said = function.judge(input, rooms.each_mut().map(Room::bytes))?;
         let [_, _, out] = &mut *rooms;
-        let behind = function.written(said);
-        let as_it_was = behind.is_none_or(|written| out.filled(self.turn, written));
+        let after = function.written(said);
+        let as_it_was = after.is_none_or(|written| out.filled(self.turn, written));
         if as_it_was && rooms.iter_mut().all(Room::kept) {
             Ok(said)
         } else {
             Err(format!(
-                "{}: bytes beside the rooms or behind the lines were changed",
+                "{}: bytes beside the rooms or after the lines were changed",
                 function.called
             ))
         }

@@ -1,4 +1,4 @@
-//! Memory to lend: noise in it, guard bytes around it, and a protected page right behind it.
+//! Memory to lend: noise in it, guard bytes around it, and a protected page right after it.
 use port::text::TEXT_MAX;
 use port::value::{STORE_MIN, TREE_MIN};
 use std::ffi::{c_int, c_long, c_void};
@@ -74,7 +74,7 @@ impl Drop for Fenced {
 
 const GUARD: [u8; 64] = [0x5A; 64];
 
-// Noise goes by words; what is left of a room behind its last word holds this byte.
+// Noise goes by words; what is left of a room after its last word holds this byte.
 const LAST: u8 = 0xAA;
 
 fn noise(seed: u64) -> impl Iterator<Item = [u8; 8]> {
@@ -82,7 +82,7 @@ fn noise(seed: u64) -> impl Iterator<Item = [u8; 8]> {
     (1..).map(move |n| word(n).to_le_bytes())
 }
 
-/// A room with guard bytes before it; behind it guard bytes, or the protected page.
+/// A room with guard bytes before it; after it guard bytes, or the protected page.
 pub struct Room {
     memory: Fenced,
     from: usize,
@@ -95,12 +95,12 @@ impl Room {
         Room::before(length, 0)
     }
 
-    /// Has guard bytes behind it too.
+    /// Has guard bytes after it too.
     pub fn guarded(length: usize) -> Self {
         Room::before(length, GUARD.len())
     }
 
-    /// Ends at a protected page, or begins behind one, or both where its length is of whole pages; what else
+    /// Ends at a protected page, or begins after one, or both where its length is of whole pages; what else
     /// there is between these pages is guard bytes.
     pub fn beside(length: usize, ending: bool) -> Self {
         let mut memory = Fenced::new(length);
@@ -111,10 +111,10 @@ impl Room {
         Room { memory, from, end }
     }
 
-    fn before(length: usize, behind: usize) -> Self {
-        let mut memory = Fenced::new(GUARD.len() + length + behind);
+    fn before(length: usize, after: usize) -> Self {
+        let mut memory = Fenced::new(GUARD.len() + length + after);
         memory.bytes().fill(GUARD[0]);
-        let end = memory.inside - behind;
+        let end = memory.inside - after;
         let from = end - length;
         Room { memory, from, end }
     }
@@ -139,10 +139,10 @@ impl Room {
     pub fn filled(&mut self, seed: u64, from: usize) -> bool {
         let (words, rest) = self.bytes().as_chunks::<8>();
         let mut each = words.iter().zip(noise(seed)).skip(from / 8);
-        // of the word in which that byte stands only what is behind it
-        let behind = from % 8;
+        // of the word in which that byte stands only what is after it
+        let after = from % 8;
         let first = each.next();
-        let part = first.is_none_or(|(word, noise)| word[behind..] == noise[behind..]);
+        let part = first.is_none_or(|(word, noise)| word[after..] == noise[after..]);
         let last = from.saturating_sub(8 * words.len());
         part && each.all(|(word, noise)| *word == noise)
             && rest.iter().skip(last).all(|&b| b == LAST)
@@ -158,8 +158,8 @@ impl Room {
         let (from, end) = (self.from, self.end);
         let all = self.memory.bytes();
         let before = &all[from.saturating_sub(GUARD.len())..from];
-        let behind = &all[end..all.len().min(end + GUARD.len())];
-        *before == GUARD[..before.len()] && *behind == GUARD[..behind.len()]
+        let after = &all[end..all.len().min(end + GUARD.len())];
+        *before == GUARD[..before.len()] && *after == GUARD[..after.len()]
     }
 }
 

@@ -78,7 +78,7 @@ fn joined(text: &[u8]) -> Result<Vec<Line>, (u32, usize)> {
     }
 }
 
-// Lines end at LF or CRLF; behind the last end nothing is no line.
+// Lines end at LF or CRLF; after the last end nothing is no line.
 fn physical(text: &[u8]) -> Vec<&[u8]> {
     let pieces = text.split_inclusive(|&b| b == b'\n');
     let bare = |piece: &'_ [u8]| match piece {

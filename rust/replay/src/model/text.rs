@@ -31,7 +31,7 @@ fn white(outermost: Option<&u8>, fits: impl Fn(&[u8]) -> bool) -> Option<usize> 
     found.next().map(char::len_utf8)
 }
 
-/// The string state, a byte at a time: 0 outside, 1 inside, 2 inside behind a backslash.
+/// The string state, a byte at a time: 0 outside, 1 inside, 2 inside after a backslash.
 pub fn step(state: u8, b: u8) -> u8 {
     match (state, b) {
         (0, b'"') | (2, _) => 1,
@@ -53,7 +53,7 @@ pub fn kept(s: &[u8]) -> usize {
     s.len()
 }
 
-/// The state behind the last byte, and the brackets outside strings.
+/// The state after the last byte, and the brackets outside strings.
 pub fn scan(s: &[u8]) -> (u8, usize, usize) {
     let (mut state, mut opens, mut closes) = (0, 0, 0);
     for &b in s {

@@ -10,7 +10,7 @@ static uint8_t store[PRESET_STORE_MIN], tree[PRESET_TREE_MIN];
 static const uint8_t name[] = "board";
 static const size_t name_n = sizeof name - 1;
 
-/* A text's bytes: of the store, of the lent name, or a fixed word; `.aic` behind kind 4. */
+/* A text's bytes: of the store, of the lent name, or a fixed word; `.aic` after kind 4. */
 static void print(preset_bytes b)
 {
     uint8_t word[32];

@@ -46,7 +46,7 @@ use denote.Triple.Clauses.{ensured, lasts}
 use denote.Exit.{yes}
 use Rattle.meaning.specs.Features.{words as all}
 use Rattle.laws.specs.Cases.{on}
-use Rattle.features.specs.Reading.{wordAt, behind, found as is-word, stepped}
+use Rattle.features.specs.Reading.{wordAt, afterWord, found as is-word, stepped}
 use Rattle.features.specs.declared.reader.Reader.{Reader}
 use Rattle.features.specs.declared.reader.Word.{Word}
 use Rattle.features.specs.declared.reader.Step.{Step}
@@ -200,7 +200,7 @@ module _ {M : Type 1} (𝓤 : URA M) (H : Heap 𝓤) (A : Atoms 𝓤) (W : Given
           forget ! 4 refl $ forget ! 5 refl $ forget ! 6 refl $ keep ! (2 ∷ 3 ∷ 4 ∷ 5 ∷ 6 ∷ 7 ∷ 8 ∷ 9 ∷ 1 ∷ 0 ∷ 10 ∷ 11 ∷ 12 ∷ 13 ∷ 14 ∷ 15 ∷ 16 ∷ 17 ∷ []) $
           again ! fewer I t (record {
             n = t .n + 1;
-            place = behind here (t .place);
+            place = afterWord here (t .place);
             d = r′;
             fits = bigger yes;
             counts = counted yes .on;
@@ -226,7 +226,7 @@ module _ {M : Type 1} (𝓤 : URA M) (H : Heap 𝓤) (A : Atoms 𝓤) (W : Given
           same : {y : Bool} → is-word w ≡ y → is-word here ≡ y
           same {y} = subst (λ (x : Step). is-word (x .word) ≡ y) (t .taken)
 
-          counted : is-word w ≡ true → Counted (now s) (t .n) (t .place) (behind here (t .place))
+          counted : is-word w ≡ true → Counted (now s) (t .n) (t .place) (afterWord here (t .place))
           counted yes = count-on (now s) (t .n) (t .place) (t .counts) (same yes)
 
           bigger : is-word w ≡ true → t .n + 1 < 2 ^ 64

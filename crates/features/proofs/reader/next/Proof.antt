@@ -1,4 +1,4 @@
--- `reader::next` meets its contract: a walk of its MIR, by hand. The reader is taken apart, `word_at` and `behind` are called, and a struct is made of the word and of a reader. All that the proof knows of the two is that each meets its contract.
+-- `reader::next` meets its contract: a walk of its MIR, by hand. The reader is taken apart, `word_at` and `after_word` are called, and a struct is made of the word and of a reader. All that the proof knows of the two is that each meets its contract.
 -- What the result owns is put together before it is stored, so that its relation, and with it the machine value's type, is read off it.
 use mathlib.Core.Path.{_≡_, refl, ap, _∙_, subst}
 use Prim.Native.Nat.{ℕ, _<_, _^_}
@@ -41,7 +41,7 @@ use denote.Triple.Table.{entered, cited}
 use denote.Triple.Walked.{says, Stays, stay-dropped, walkOf, goes-dropped, Walks, ends-at, walked, walk-meets}
 use denote.Exit.{yes}
 use denote.Triple.Clauses.{ensured, lasts}
-use Rattle.features.specs.Reading.{wordAt, behind}
+use Rattle.features.specs.Reading.{wordAt, afterWord}
 use Rattle.features.specs.declared.reader.Reader.{Reader}
 use Rattle.features.specs.declared.reader.Word.{Word}
 use Rattle.features.specs.declared.reader.Step.{Step}
@@ -50,10 +50,10 @@ use Rattle.features.proofs.reader.Reader as T
 use Rattle.features.proofs.reader.Reader.Laws as T′
 use Rattle.features.proofs.reader.Word as S
 use Rattle.features.proofs.reader.Word.Laws as S′
-use Rattle.features.proofs.reader.behind as behind′
-use Rattle.features.proofs.reader.behind.Symbol as behind-def
-use Rattle.features.proofs.reader.behind.Symbol.{name as #features·reader·behind}
-use Rattle.features.proofs.reader.behind.Met as behind-thm
+use Rattle.features.proofs.reader.after_word as after′
+use Rattle.features.proofs.reader.after_word.Symbol as after-def
+use Rattle.features.proofs.reader.after_word.Symbol.{name as #features·reader·after-word}
+use Rattle.features.proofs.reader.after_word.Met as after-thm
 use Rattle.features.proofs.reader.word_at as word
 use Rattle.features.proofs.reader.word_at.Symbol as word-def
 use Rattle.features.proofs.reader.word_at.Symbol.{name as #features·reader·word-at}
@@ -71,8 +71,8 @@ module _ {M : Type 1} (𝓤 : URA M) (H : Heap 𝓤) (A : Atoms 𝓤) (mem : Mem
   abbrev WordAt : Contract 𝓤
   WordAt = tripleOf 𝓤 H A word.signature (word.spec 𝓤 H A mem run)
 
-  abbrev Behind : Contract 𝓤
-  Behind = tripleOf 𝓤 H A behind′.signature (behind′.spec 𝓤 H A mem run)
+  abbrev AfterWord : Contract 𝓤
+  AfterWord = tripleOf 𝓤 H A after′.signature (after′.spec 𝓤 H A mem run)
 
 module _ {M : Type 1} (𝓤 : URA M) (H : Heap 𝓤) (A : Atoms 𝓤) (W : Given 𝓤 H A) (mem : Memory → SProp 𝓤) (run : Routine → Fun 𝓤) (κ : Lft) (q : Share) (d : Reader) where
   abbrev mach : Val
@@ -138,25 +138,25 @@ module _ {M : Type 1} (𝓤 : URA M) (H : Heap 𝓤) (A : Atoms 𝓤) (W : Given
       use2 W (‵ (B (κ, tt) .own (d′ n) (T′.lowered (d′ n) ∷ []))) (own-put 𝓤 H A W D L 1 vd n mach) $
       nothing ! $ move ! (1 ∷ 0 ∷ []) $ fjoin ! $ owned ! S.the-row (Is S.the-row) (EL.makes S.the-type S′.the-plain 𝓤 H A) r _ is $ fjoin ! $ by ! (own-shut 𝓤 H A W (D₂ κ) (L₂ κ) (r, (d′ n, tt)))
 
-  -- the call of `behind`, at the word r
-  abbrev to-behind : Word → Behind 𝓤 H A mem run .Ghost
-  to-behind r = ((tt, tt, tt, (r, (d .at, tt)), (vW r ∷ [], (vint w64 (d .at) ∷ [], tt))), tt)
+  -- the call of `after_word`, at the word r
+  abbrev to-after : Word → AfterWord 𝓤 H A mem run .Ghost
+  to-after r = ((tt, tt, tt, (r, (d .at, tt)), (vW r ∷ [], (vint w64 (d .at) ∷ [], tt))), tt)
 
-  goes-behind : (r : Word) → Is S.the-row r (vW r ∷ []) → d .at < 2 ^ 64 → ent 𝓤 (sem 𝓤 H A ftrue) (Behind 𝓤 H A mem run .pre (to-behind r))
-  goes-behind r is fits =
+  goes-after : (r : Word) → Is S.the-row r (vW r ∷ []) → d .at < 2 ^ 64 → ent 𝓤 (sem 𝓤 H A ftrue) (AfterWord 𝓤 H A mem run .pre (to-after r))
+  goes-after r is fits =
       qed W (‵ ftrue ∷ []) ∵ owned ! usize (Is usize) (uint-makes 𝓤 H A W w64) (d .at) _ (refl, fits) $ fjoin ! $ owned ! S.the-row (Is S.the-row) (EL.makes S.the-type S′.the-plain 𝓤 H A) r _ is $ fjoin ! $
       nothing ! $ join ! $ frame ! $ done !
 
-  behind-said : (r : Word) (n : ℕ) → ent 𝓤 (ensured 𝓤 H A behind′.ended (behind′.clauses 𝓤 H A mem run) tt (r, (d .at, tt)) tt n) (fact 𝓤 (n ≡ behind r (d .at)))
-  behind-said r n = exE 𝓤 _ (λ ws. snd∗ 𝓤 (sem 𝓤 H A (lasts behind′.ended tt (r, (d .at, tt)) ws)) (fact 𝓤 (n ≡ behind r (d .at))))
+  after-said : (r : Word) (n : ℕ) → ent 𝓤 (ensured 𝓤 H A after′.ended (after′.clauses 𝓤 H A mem run) tt (r, (d .at, tt)) tt n) (fact 𝓤 (n ≡ afterWord r (d .at)))
+  after-said r n = exE 𝓤 _ (λ ws. snd∗ 𝓤 (sem 𝓤 H A (lasts after′.ended tt (r, (d .at, tt)) ws)) (fact 𝓤 (n ≡ afterWord r (d .at))))
 
-  exits : (r : Word) (n : ℕ) → r ≡ found → n ≡ behind r (d .at) → ent 𝓤 (⋆ 𝓤 H A (‵ (Own₂ r n) ∷ (‵ (flft κ q) ⊛ ‵ ftrue) ∷ [])) (Post (v₂ κ (made r n)))
+  exits : (r : Word) (n : ℕ) → r ≡ found → n ≡ afterWord r (d .at) → ent 𝓤 (⋆ 𝓤 H A (‵ (Own₂ r n) ∷ (‵ (flft κ q) ⊛ ‵ ftrue) ∷ [])) (Post (v₂ κ (made r n)))
   exits r n e f =
       qed W (‵ (Own₂ r n) ∷ (‵ (flft κ q) ⊛ ‵ ftrue) ∷ []) ∵
       suffices ! _ (ends-at 𝓤 H A next.ended stayed (next.clauses 𝓤 H A mem run) W (((κ, tt), (q, tt), tt, (d, tt), (mach ∷ [], tt)), tt) (v₂ κ (made r n)) (made r n) (tt, tt) (tt, tt)) $
-      says ! (ap (made r) f ∙ ap (λ (t : Word). made t (behind t (d .at))) e) $ move ! (1 ∷ []) $ frame ! $ nothing ! $ nothing ! $ fjoin ! $ frame ! $ done !
+      says ! (ap (made r) f ∙ ap (λ (t : Word). made t (afterWord t (d .at))) e) $ move ! (1 ∷ []) $ frame ! $ nothing ! $ nothing ! $ fjoin ! $ frame ! $ done !
 
-  module _ (C : Calls 𝓤 H) (Λ : Loops 𝓤 H) (fm : FmC 𝓤 H (W .laws) C) (known : Triple 𝓤 (C #features·reader·word-at) (WordAt 𝓤 H A mem run)) (known₂ : Triple 𝓤 (C #features·reader·behind) (Behind 𝓤 H A mem run)) where
+  module _ (C : Calls 𝓤 H) (Λ : Loops 𝓤 H) (fm : FmC 𝓤 H (W .laws) C) (known : Triple 𝓤 (C #features·reader·word-at) (WordAt 𝓤 H A mem run)) (known₂ : Triple 𝓤 (C #features·reader·after-word) (AfterWord 𝓤 H A mem run)) where
     walk : Holds (hasTy (T′.mir (named 0)) mach) × WT mach → ent 𝓤 (onEntry 𝓤 H A next.signature (κ, tt) (q, tt) (d, tt) (mach ∷ [], tt)) (WpFn 𝓤 H C Λ code.function (mach ∷ []) Post)
     walk wt =
         qed W (raw (onEntry 𝓤 H A next.signature (κ, tt) (q, tt) (d, tt) (mach ∷ [], tt)) ∷ []) ∵ enter ! C Λ code.function (mach ∷ []) _ $
@@ -171,10 +171,10 @@ module _ {M : Type 1} (𝓤 : URA M) (H : Heap 𝓤) (A : Atoms 𝓤) (W : Given
         -- [the token; what the reader owns; _9; …; _8; …; _7; …; _6; …; _5; …; _4; …; _3; …; _2; …; _1; …; _0; …]
         land ! (from ! (stop !)) (init ! 16 refl (EL.lawful S.the-type S′.the-laws 𝓤 H A W tt .typed r _ isᵘ .0)) $ rewrite ! 16 (λ (x : Val). ‵ (fat fullShare S′.mir l₂ 0 x)) (ap only eq) refl $
         assigns ! (of-opd ! (load ! (from ! (fld ! refl (stop !))) (look-in ! 18 (sub ! 1 refl (whole !))))) (from ! (stop !)) (init ! 6 refl (tt, wt .1 .1 .0)) $
-        nothing ! $ use1 W (raw (Behind 𝓤 H A mem run .pre (to-behind r))) (goes-behind r is (wt .1 .1 .0 .fits)) $
-        calls-at ! fm (Behind 𝓤 H A mem run) known₂ (to-behind r) (and-then ! (load ! (from ! (stop !)) (look ! 17 refl)) (and-then ! (load ! (from ! (stop !)) (look ! 7 refl)) (no-more !))) (λ u′.
-        use1 W (later (some (λ (n : ℕ). (‵ ftrue ⊛ ‵ (usize .own n (u′ ∷ []))) ⊛ raw (ensured 𝓤 H A behind′.ended (behind′.clauses 𝓤 H A mem run) tt (r, (d .at, tt)) tt n)))) (id⊢ 𝓤 _) $ await ! tt $ pick ! (λ n.
-        split ! $ move ! (1 ∷ []) $ use1 W (raw (fact 𝓤 (n ≡ behind r (d .at)))) (behind-said r n) $ heard ! (n ≡ behind r (d .at)) (λ f. split ! $ drop ! $
+        nothing ! $ use1 W (raw (AfterWord 𝓤 H A mem run .pre (to-after r))) (goes-after r is (wt .1 .1 .0 .fits)) $
+        calls-at ! fm (AfterWord 𝓤 H A mem run) known₂ (to-after r) (and-then ! (load ! (from ! (stop !)) (look ! 17 refl)) (and-then ! (load ! (from ! (stop !)) (look ! 7 refl)) (no-more !))) (λ u′.
+        use1 W (later (some (λ (n : ℕ). (‵ ftrue ⊛ ‵ (usize .own n (u′ ∷ []))) ⊛ raw (ensured 𝓤 H A after′.ended (after′.clauses 𝓤 H A mem run) tt (r, (d .at, tt)) tt n)))) (id⊢ 𝓤 _) $ await ! tt $ pick ! (λ n.
+        split ! $ move ! (1 ∷ []) $ use1 W (raw (fact 𝓤 (n ≡ afterWord r (d .at)))) (after-said r n) $ heard ! (n ≡ afterWord r (d .at)) (λ f. split ! $ drop ! $
         facts ! usize (Is usize) (shows 𝓤 H A usize) n (u′ ∷ []) (λ isⁿ.
         land ! (from ! (stop !)) (init ! 14 refl (uint-lawful 𝓤 H A W w64 .typed n _ isⁿ .0)) $ rewrite ! 14 (λ (x : Val). ‵ (fat fullShare (tyInt w64) l₃ 0 x)) (ap only (isⁿ .0)) refl $
         assigns ! (of-opd ! (load ! (from ! (fld ! refl (stop !))) (look-in ! 18 (sub ! 0 refl (whole !))))) (from ! (stop !)) (init ! 4 refl (tt, wt .1 .0)) $
@@ -187,16 +187,16 @@ module _ {M : Type 1} (𝓤 : URA M) (H : Heap 𝓤) (A : Atoms 𝓤) (W : Given
         move ! (20 ∷ 21 ∷ []) $ free1 ! $ move ! (18 ∷ 19 ∷ []) $ free1 ! $ move ! (16 ∷ 17 ∷ []) $ free1 ! $ move ! (14 ∷ 15 ∷ []) $ free1 ! $ move ! (12 ∷ 13 ∷ []) $ free1 ! $ move ! (10 ∷ 11 ∷ []) $ free1 ! $ move ! (8 ∷ 9 ∷ []) $ free1 ! $ move ! (6 ∷ 7 ∷ []) $ free1 ! $ move ! (4 ∷ 5 ∷ []) $ free1 ! $ move ! (2 ∷ 3 ∷ []) $ free1 ! $ free0 ! $ by ! (exits r n e f))))))))))))))))))))
 
 module _ {M : Type 1} (𝓤 : URA M) (H : Heap 𝓤) (A : Atoms 𝓤) (W : Given 𝓤 H A) (mem : Memory → SProp 𝓤) (run : Routine → Fun 𝓤) where
-  next-walks : (C : Calls 𝓤 H) (Λ : Loops 𝓤 H) → FmC 𝓤 H (W .laws) C → Triple 𝓤 (C #features·reader·word-at) (WordAt 𝓤 H A mem run) → Triple 𝓤 (C #features·reader·behind) (Behind 𝓤 H A mem run)
+  next-walks : (C : Calls 𝓤 H) (Λ : Loops 𝓤 H) → FmC 𝓤 H (W .laws) C → Triple 𝓤 (C #features·reader·word-at) (WordAt 𝓤 H A mem run) → Triple 𝓤 (C #features·reader·after-word) (AfterWord 𝓤 H A mem run)
       → Walks 𝓤 H A next.ended stayed (WpFn 𝓤 H C Λ code.function) (next.clauses 𝓤 H A mem run)
   next-walks C Λ fm known known₂ = walked 𝓤 H A next.ended stayed (next.clauses 𝓤 H A mem run) (WpFn 𝓤 H C Λ code.function) (λ κs. (LL.vals (T.the-type (namedLft 1 0 tt κs)) (T′.the-laws (namedLft 1 0 tt κs)), tt)) (λ κs. (LL.tells (T.the-type (namedLft 1 0 tt κs)) (T′.the-laws (namedLft 1 0 tt κs)), tt))
       (λ κs qs bounds a g are. via 𝓤 _ (fst∗ 𝓤 _ (emp 𝓤)) (walk 𝓤 H A W mem run (κs .0) (qs .0) (a .0) C Λ fm known known₂ (LL.lawful (T.the-type (namedLft 1 0 tt κs)) (T′.the-laws (namedLft 1 0 tt κs)) 𝓤 H A W .typed (a .0) _ (are .0) .0)))
 
 next-meets : {M : Type 1} (𝓤 : URA M) (H : Heap 𝓤) (A : Atoms 𝓤) (W : Given 𝓤 H A) (mem : Memory → SProp 𝓤) (run : Routine → Fun 𝓤) (𝓣 : Tables 𝓤 H)
-    → Triple 𝓤 (𝓣 .C #features·reader·word-at) (WordAt 𝓤 H A mem run) → Triple 𝓤 (𝓣 .C #features·reader·behind) (Behind 𝓤 H A mem run)
+    → Triple 𝓤 (𝓣 .C #features·reader·word-at) (WordAt 𝓤 H A mem run) → Triple 𝓤 (𝓣 .C #features·reader·after-word) (AfterWord 𝓤 H A mem run)
     → Meets 𝓤 H A next.signature (WpFn 𝓤 H (𝓣 .C) (𝓣 .Λ) code.function) (next.spec 𝓤 H A mem run)
-next-meets 𝓤 H A W mem run 𝓣 known-word known-behind = walk-meets 𝓤 H A next.ended stayed W (goes-dropped 𝓤 H A W 1 (plain B) yes (λ κs x f. refl), tt) (next.clauses 𝓤 H A mem run) (WpFn 𝓤 H (𝓣 .C) (𝓣 .Λ) code.function) (WpFn-mono 𝓤 H (W .laws) 𝓣 code.function)
-    (next-walks 𝓤 H A W mem run (𝓣 .C) (𝓣 .Λ) (fmOf 𝓤 H (W .laws) 𝓣) known-word known-behind)
+next-meets 𝓤 H A W mem run 𝓣 known-word known-after = walk-meets 𝓤 H A next.ended stayed W (goes-dropped 𝓤 H A W 1 (plain B) yes (λ κs x f. refl), tt) (next.clauses 𝓤 H A mem run) (WpFn 𝓤 H (𝓣 .C) (𝓣 .Λ) code.function) (WpFn-mono 𝓤 H (W .laws) 𝓣 code.function)
+    (next-walks 𝓤 H A W mem run (𝓣 .C) (𝓣 .Λ) (fmOf 𝓤 H (W .laws) 𝓣) known-word known-after)
 
 pub next-spec : {M : Type 1} → stated.statement M
 unfolding code.routine tablesOf
@@ -205,4 +205,4 @@ next-spec 𝓤 H 𝓜 𝓖 𝓡 =
     (tables 𝓤 H 𝓜 𝓡 code.env .C) (tables 𝓤 H 𝓜 𝓡 code.env .Λ) #features·reader·next code.function (code.unfolded 𝓤 H 𝓜 𝓡)
     (next-meets 𝓤 H (𝓖 .A) (givenOf 𝓤 H 𝓜 𝓖) (𝓜 .mem) (𝓡 .run) (tablesOf 𝓤 H 𝓜 (tables 𝓤 H 𝓜 𝓡 code.env))
     (cited 𝓤 H (WordAt 𝓤 H (𝓖 .A) (𝓜 .mem) (𝓡 .run)) 𝓜 𝓡 code.env #features·reader·word-at word-def.routine code.calls-features·reader·word-at (word-thm.met 𝓤 H 𝓜 𝓖 𝓡))
-    (cited 𝓤 H (Behind 𝓤 H (𝓖 .A) (𝓜 .mem) (𝓡 .run)) 𝓜 𝓡 code.env #features·reader·behind behind-def.routine code.calls-features·reader·behind (behind-thm.met 𝓤 H 𝓜 𝓖 𝓡)))
+    (cited 𝓤 H (AfterWord 𝓤 H (𝓖 .A) (𝓜 .mem) (𝓡 .run)) 𝓜 𝓡 code.env #features·reader·after-word after-def.routine code.calls-features·reader·after-word (after-thm.met 𝓤 H 𝓜 𝓖 𝓡)))

@@ -5,17 +5,17 @@ use Rattle.values.proofs.form.classify.Tie as tie
 use Rattle.values.proofs.form.classify.Reads as reads
 use Rattle.values.proofs.form.classify.Lts as lts
 use Rattle.text.proofs.find_outside.Reads as find-outside-reads
-use Rattle.values.proofs.form.double.Reads as double-reads
-use Rattle.values.proofs.form.single.Reads as single-reads
+use Rattle.values.proofs.form.is_array_header.Reads as is-array-header-reads
+use Rattle.values.proofs.form.is_table_header.Reads as is-table-header-reads
 
-double-requires : tie.Need-double-requires
-double-requires c κs = search needs
+is-array-header-requires : tie.Need-is-array-header-requires
+is-array-header-requires c κs = search needs
 
 returns : tie.Need-returns
 returns c = search (needs, pushes)
 
-single-requires : tie.Need-single-requires
-single-requires c κs = search needs
+is-table-header-requires : tie.Need-is-table-header-requires
+is-table-header-requires c κs = search needs
 
 returns-2 : tie.Need-returns-2
 returns-2 c = search (needs, heads)
@@ -33,9 +33,9 @@ pub classify-spec : {M : Type 1} → statement M
 classify-spec =
     tie.close
     (tie.spec
-    double-requires
+    is-array-header-requires
     returns
-    single-requires
+    is-table-header-requires
     returns-2
     find-outside-requires
     returns-3

@@ -13,7 +13,7 @@ fn main() -> ExitCode {
     let run = Run {
         sides: || Box::new(All::default()),
         count: 1_000_000,
-        seed: clock.expect("behind 1970").as_millis() as u64,
+        seed: clock.expect("after 1970").as_millis() as u64,
     };
     command(run, &words, enough)
 }

@@ -190,7 +190,7 @@ pub const LIMITS: &[Fixed] = &[
     &[(b"\n[a", 1), NAMED, (b".a]", 1)],
     &[(b"[[a", 1), NAMED, (b"]]\nb = 1", 1)],
     &[(b"[[a", 1), NAMED, (b".a]]", 1)],
-    // 16: values made; what goes before it, and what behind
+    // 16: values made; what goes before it, and what after
     &[(b"a = [", 1), FULL, (b"]", 1)],
     &[(b"a = [", 1), FULL, (b"1]", 1)],
     &[(b"a = [", 1), FULL, (b"]\n[a]", 1)],

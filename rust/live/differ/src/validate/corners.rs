@@ -7,7 +7,7 @@ use replay::generators::validate::faults::FAULTS;
 use replay::generators::validate::{plain, spelled};
 use replay::harness::vector::document::Parts;
 
-// A partition, one behind it, a component for each, an application.
+// A partition, one after it, a component for each, an application.
 pub(crate) const A: &str = "[[partition]]\nname = \"a\"\noffset = 0\nsize = 4096\n";
 pub(crate) const B: &str = "[[partition]]\nname = \"b\"\noffset = 4096\nsize = 4096\n";
 pub(crate) const X: &str = "[[component]]\nname = \"x\"\npackage = \"p\"\npartition = \"a\"\n";

@@ -65,7 +65,7 @@ fn numbered(message: &str) -> Option<Told> {
     Some(told(42, 3, place.parse().expect("an entry's number")))
 }
 
-// What stands before the name of a partition or component, and behind it.
+// What stands before the name of a partition or component, and after it.
 const NAMED: [(&str, &str, u32); 16] = [
     ("partition ", " must start at offset 0: ", 41),
     ("duplicate partition name ", "", 43),
@@ -90,9 +90,9 @@ const NAMED: [(&str, &str, u32); 16] = [
 ];
 
 fn named(preset: &Theirs, message: &str) -> Option<Told> {
-    let (name, number) = NAMED.iter().find_map(|(before, behind, number)| {
+    let (name, number) = NAMED.iter().find_map(|(before, after, number)| {
         let (name, rest) = quoted(message.strip_prefix(before)?)?;
-        rest.starts_with(behind).then_some((name, *number))
+        rest.starts_with(after).then_some((name, *number))
     })?;
     let (section, names): (_, Vec<_>) = match number {
         41..=48 => (3, preset.partitions.iter().map(|p| &p.name).collect()),

@@ -35,7 +35,7 @@ impl Answer {
         }
     }
 
-    /// Puts another answer behind this one; the worse status counts.
+    /// Puts another answer after this one; the worse status counts.
     pub fn and(&mut self, mut other: Answer) {
         other.earlier.push((other.out, other.err));
         for (out, err) in other.earlier {

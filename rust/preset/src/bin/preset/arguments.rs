@@ -1,4 +1,4 @@
-//! The words behind `preset`.
+//! The words after `preset`.
 use preset::shown;
 use std::ffi::{OsStr, OsString};
 
@@ -95,7 +95,7 @@ impl Sorted {
     }
 }
 
-// Options from the rest; none where help is asked for. Behind `--` there are no options.
+// Options from the rest; none where help is asked for. After `--` there are no options.
 fn sort(
     mut words: impl Iterator<Item = OsString>,
     options: &[&str],
@@ -112,7 +112,7 @@ fn sort(
             "--" => sorted.files.extend(words.by_ref()),
             _ if options.contains(&option) => {
                 let value = own.or_else(|| words.next());
-                let value = value.ok_or(format!("{option}: nothing stands behind it"))?;
+                let value = value.ok_or(format!("{option}: nothing stands after it"))?;
                 if sorted.option(option).replace(value).is_some() {
                     return Err(format!("{option} stands there twice"));
                 }
@@ -177,7 +177,7 @@ mod tests {
             ("check - -", "check: `-` stands there twice"),
             ("plan", "plan: no file is named"),
             ("plan a b", "plan: more than one file is named"),
-            ("plan a --app", "--app: nothing stands behind it"),
+            ("plan a --app", "--app: nothing stands after it"),
             ("plan a --app k --app=l", "--app stands there twice"),
             ("plan a --svg o", "no option \"--svg\""),
             ("listing -x", "no option \"-x\""),

@@ -1,7 +1,7 @@
 //! Presets in blocks of lines, and changes of them.
 use super::spelling::{SECTIONS, Section, Sort, spellings};
 
-/// One header and the lines below it, each a key and what stands behind it.
+/// One header and the lines below it, each a key and what stands after it.
 #[derive(Clone, Debug)]
 pub struct Block {
     pub section: Section,
@@ -92,7 +92,7 @@ impl Draft {
 /// A change of a draft.
 #[derive(Clone, Debug)]
 pub enum Edit {
-    /// What stands behind a key of an entry; none: the field is left out.
+    /// What stands after a key of an entry; none: the field is left out.
     Field(Section, usize, &'static str, Option<String>),
     /// A block, or a line in front of all headers, in place of a section.
     Instead(&'static str),

@@ -143,7 +143,7 @@ impl Section {
     }
 }
 
-// What stands behind a key: one of each kind of value.
+// What stands after a key: one of each kind of value.
 const ANY: [&str; 12] = [
     " = \"\"",
     " = \"x\"",

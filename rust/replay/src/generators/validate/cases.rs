@@ -1,6 +1,6 @@
 //! All presets around one boundary, for one boundary after the other.
 use super::faults::FAULTS;
-use super::near::{BEFORE, BEHIND, MULTIPLES, TARGETS, named, offsets, sizes, wants};
+use super::near::{AFTER, BEFORE, MULTIPLES, TARGETS, named, offsets, sizes, wants};
 use super::plain::{app, insert, nth_app, plain, texts};
 use crate::generators::random::Rng;
 use crate::model::answer::records::Preset;
@@ -73,12 +73,12 @@ fn layouts() -> Vec<Preset> {
     out
 }
 
-// With another partition of that number, and the one behind it where it can be.
+// With another partition of that number, and the one after it where it can be.
 fn laid(base: &Preset, n: usize, offset: u32, size: u32) -> Preset {
     let mut p = base.clone();
     (p.partitions[n].offset, p.partitions[n].size) = (offset, size);
-    let behind = u32::try_from(end(&p.partitions[n]));
-    p.partitions[n + 1].offset = behind.unwrap_or(0);
+    let after = u32::try_from(end(&p.partitions[n]));
+    p.partitions[n + 1].offset = after.unwrap_or(0);
     p
 }
 
@@ -116,16 +116,14 @@ fn lengths() -> Vec<Preset> {
 // Partitions whose names are cut, trimmed or neither, referred to in every way.
 pub(crate) fn references() -> Vec<Preset> {
     let mut out = Vec::new();
-    let ways = BEFORE
-        .iter()
-        .flat_map(|b| BEHIND.map(|behind| (*b, behind)));
-    for (before, behind) in ways {
+    let ways = BEFORE.iter().flat_map(|b| AFTER.map(|after| (*b, after)));
+    for (before, after) in ways {
         for name in ["a", " a", "a ", "a;b", ";", "\u{A0}a", "a\u{200B}"] {
             let mut base = plain(Chip::D13x, [2, 2, 1]);
             base.partitions[1].name = name.into();
             base.components[1].partition = "p0".into();
             for held in ["a", "p0"] {
-                let reference = [before, held, behind].concat();
+                let reference = [before, held, after].concat();
                 let mut all = [(); 3].map(|_| base.clone());
                 all[0].components.truncate(1);
                 all[0].components[0].partition = reference.clone();

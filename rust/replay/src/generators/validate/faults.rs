@@ -133,7 +133,7 @@ fn start(r: &mut Rng, block: u32) -> u32 {
     [1, block - 1, block, block + 1, u32::MAX][r.below(5)]
 }
 
-// One behind the first, with the end of the one before it.
+// One after the first, with the end of the one before it.
 fn later(p: &mut Preset, n: usize, change: impl FnOnce(&mut PartitionSpec, u64, u32)) {
     let block = erase_block(p.image.media);
     if let [only] = &mut p.partitions[..] {

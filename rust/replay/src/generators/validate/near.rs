@@ -74,9 +74,9 @@ fn names(r: &mut Rng, p: &mut Preset) {
     }
 }
 
-/// What may stand before and behind a name in a reference to it.
+/// What may stand before and after a name in a reference to it.
 pub const BEFORE: [&str; 7] = ["", "", " ", "\t\u{3000}", ";", " ;", "x"];
-pub const BEHIND: [&str; 9] = ["", "", " ", ";", ";x", " ;x", "\u{A0};;", "x", "\u{200B}"];
+pub const AFTER: [&str; 9] = ["", "", " ", ";", ";x", " ;x", "\u{A0};;", "x", "\u{200B}"];
 
 // Each entry refers to some partition in some way.
 fn references(r: &mut Rng, p: &mut Preset) {
@@ -85,9 +85,9 @@ fn references(r: &mut Rng, p: &mut Preset) {
     let components = p.components.iter_mut().map(|c| &mut c.partition);
     for held in components.chain(p.apps.values_mut().map(|a| &mut a.partition)) {
         if r.below(2) == 0 {
-            let (before, behind) = (r.pick(&BEFORE), r.pick(&BEHIND));
+            let (before, after) = (r.pick(&BEFORE), r.pick(&AFTER));
             let name = &names[r.below(names.len())];
-            *held = [before, name, behind].concat();
+            *held = [before, name, after].concat();
         }
     }
 }

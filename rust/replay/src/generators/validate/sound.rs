@@ -101,7 +101,7 @@ fn image(r: &mut Rng, chip: Chip) -> ImageInfo {
     }
 }
 
-// One behind the other, some with room between them, the last one seldom up to the last block.
+// One after the other, some with room between them, the last one seldom up to the last block.
 fn partitions(r: &mut Rng, chip: Chip) -> Vec<PartitionSpec> {
     let (.., media) = belongings(chip);
     let block = erase_block(media);
@@ -181,7 +181,7 @@ fn source(r: &mut Rng, c: &mut ComponentSpec) -> &'static [&'static str] {
     features
 }
 
-// Another package beside the first, or the same one, whose features then are those behind `pbp_features`.
+// Another package beside the first, or the same one, whose features then are those of `pbp_features`.
 fn pbp(r: &mut Rng, c: &mut ComponentSpec, features: &[&str]) {
     let (package, own) = PACKAGES[2 + r.below(PACKAGES.len() - 2)];
     match r.below(6) {
@@ -210,8 +210,8 @@ pub fn reference(r: &mut Rng, name: &str) -> String {
         ("\t", "\u{3000};a;b"),
         ("", " ;"),
     ];
-    let (before, behind) = around[r.below(around.len())];
-    [before, name, behind].concat()
+    let (before, after) = around[r.below(around.len())];
+    [before, name, after].concat()
 }
 
 const KEYS: [&str; 10] = [

@@ -146,7 +146,7 @@ pub fn listed(want: &Lines) -> Listed {
     }
 }
 
-// The lines stand in an output that was filled with that noise, and behind them it is as it was; or the
+// The lines stand in an output that was filled with that noise, and after them it is as it was; or the
 // first line that differs.
 fn written(out: &mut Room, noise: u64, want: &[u8]) -> Result<(), String> {
     let got = &out.bytes()[..want.len()];
@@ -156,7 +156,7 @@ fn written(out: &mut Room, noise: u64, want: &[u8]) -> Result<(), String> {
     if out.filled(noise, want.len()) {
         Ok(())
     } else {
-        Err("the output is changed behind the last line".into())
+        Err("the output is changed after the last line".into())
     }
 }
 

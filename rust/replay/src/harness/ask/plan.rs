@@ -55,7 +55,7 @@ pub fn judge(host: &mut Host, text: &[u8], name: &[u8], read: &Read) -> Result<(
 
 impl Host {
     /// Plans it for one selection, in all sorts of rooms where that is wished for. A brief answer is
-    /// asked for behind the boot chain's.
+    /// asked for after the boot chain's.
     pub fn selecting(
         &mut self,
         one: &Answered,

@@ -282,7 +282,7 @@ pub(crate) fn there<V: View>(view: V) -> Result<bool, String> {
     seen(view).map(|found| found.is_some())
 }
 
-// The first entries, some behind the last one, and one that no list has.
+// The first entries, some after the last one, and one that no list has.
 pub(crate) fn few(count: usize) -> impl Iterator<Item = usize> {
     (0..count.min(66) + 2).chain([usize::MAX])
 }

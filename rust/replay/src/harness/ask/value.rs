@@ -97,7 +97,7 @@ pub fn key_in(s: &[u8], room: usize) -> Result<Key, String> {
     }
 }
 
-// Where the segments end, each asked for by itself; behind the last there is none.
+// Where the segments end, each asked for by itself; after the last there is none.
 fn ends(s: &[u8], room: usize, count: usize) -> Result<Vec<usize>, String> {
     let mut out = Vec::new();
     for i in 0..=count.min(SEGMENTS_MAX) {

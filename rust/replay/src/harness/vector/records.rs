@@ -2,7 +2,7 @@
 //!
 //! `NAME TEXT ok MADE PRESET` or `NAME TEXT refused NUMBER SECTION PLACE`. A text is as in
 //! `document`. A preset is its board, its image, then its partitions, components and applications,
-//! each list in `[` and `]`; a record is its fields, one behind the other, in the order in which
+//! each list in `[` and `]`; a record is its fields, one after the other, in the order in which
 //! they are read, `-` for an absent one; features stand in `[` and `]`.
 use super::document::{Parts, parts, quoted};
 use super::line::{Reader, quote};

@@ -11,7 +11,7 @@ pub struct Answer {
     pub trim: (usize, usize),
     /// The bytes before the comment, the text taken as one line.
     pub kept: usize,
-    /// The string state behind the text, and its `[` and `]` outside strings.
+    /// The string state after the text, and its `[` and `]` outside strings.
     pub scan: (u8, usize, usize),
     /// What is kept of each physical line, each with an LF.
     pub laid: String,

@@ -18,7 +18,7 @@ pub fn headers() -> [(&'static str, String); 7] {
     let (one, four) = ("b=1\n".repeat(2_046), "aaab=1\n".repeat(2_046));
     [
         (
-            "headers of 16 segments behind 2,032 values",
+            "headers of 16 segments after 2,032 values",
             filled(&list(2_031), &header, 2_000),
         ),
         (
@@ -26,7 +26,7 @@ pub fn headers() -> [(&'static str, String); 7] {
             filled(&first(&header, 2_030), &header, 2_000),
         ),
         (
-            "keys of 16 segments behind 1,151 values",
+            "keys of 16 segments after 1,151 values",
             filled(&list(1_150), &key, 850),
         ),
         (
@@ -64,7 +64,7 @@ pub fn lists() -> [(&'static str, String); 2] {
     ]
 }
 
-/// `line` behind `before` as often as the longest text takes it, and `most` times at most.
+/// `line` after `before` as often as the longest text takes it, and `most` times at most.
 pub fn filled(before: &str, line: &str, most: usize) -> String {
     let count = (TEXT_MAX - before.len()) / line.len();
     before.to_string() + &line.repeat(count.min(most))
@@ -103,7 +103,7 @@ fn section(i: usize) -> String {
     }
 }
 
-// A comment behind it, up to the length.
+// A comment after it, up to the length.
 fn commented(text: String, length: usize) -> String {
     let dashes = "-".repeat(length - text.len() - 2);
     format!("{text}#{dashes}\n")

@@ -2,10 +2,10 @@
 use Rattle.meaning.specs.Document as meant
 use Rattle.laws.specs.Tests.{tests}
 use borrow.Author.Needs.{needs}
-use Rattle.values.proofs.form.single.Statement.{statement}
-use Rattle.values.proofs.form.single.Tie as tie
-use Rattle.values.proofs.form.single.Reads as reads
-use Rattle.values.proofs.form.single.Lts as lts
+use Rattle.values.proofs.form.is_table_header.Statement.{statement}
+use Rattle.values.proofs.form.is_table_header.Tie as tie
+use Rattle.values.proofs.form.is_table_header.Reads as reads
+use Rattle.values.proofs.form.is_table_header.Lts as lts
 
 returns : tie.Need-returns
 unfolding meant.tableHeader
@@ -35,8 +35,8 @@ returns-4 : tie.Need-returns-4
 unfolding meant.tableHeader
 returns-4 c = search tests
 
-pub single-spec : {M : Type 1} → statement M
-single-spec =
+pub is-table-header-spec : {M : Type 1} → statement M
+is-table-header-spec =
     tie.close
     (tie.spec
     returns

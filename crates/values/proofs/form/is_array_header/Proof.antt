@@ -2,10 +2,10 @@
 use Rattle.meaning.specs.Document as meant
 use Rattle.laws.specs.Tests.{tests}
 use borrow.Author.Needs.{needs}
-use Rattle.values.proofs.form.double.Statement.{statement}
-use Rattle.values.proofs.form.double.Tie as tie
-use Rattle.values.proofs.form.double.Reads as reads
-use Rattle.values.proofs.form.double.Lts as lts
+use Rattle.values.proofs.form.is_array_header.Statement.{statement}
+use Rattle.values.proofs.form.is_array_header.Tie as tie
+use Rattle.values.proofs.form.is_array_header.Reads as reads
+use Rattle.values.proofs.form.is_array_header.Lts as lts
 
 returns : tie.Need-returns
 unfolding meant.arrayHeader
@@ -45,8 +45,8 @@ returns-5 : tie.Need-returns-5
 unfolding meant.arrayHeader
 returns-5 c = search tests
 
-pub double-spec : {M : Type 1} → statement M
-double-spec =
+pub is-array-header-spec : {M : Type 1} → statement M
+is-array-header-spec =
     tie.close
     (tie.spec
     returns
