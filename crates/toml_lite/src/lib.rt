@@ -103,7 +103,7 @@ fn header(s: &[u8], store: &mut [u8], tree: &mut [u8], st: State, limits: Limits
     let root = Here {
         made: st.made,
         limit: limits.values,
-        place: 1,
+        place: tree::ROOT,
     };
     let key = scalar::key::put_key(s, store, used, limits.segments);
     let verdict = key.verdict;
@@ -126,7 +126,7 @@ fn header_item(s: &[u8], store: &mut [u8], tree: &mut [u8], st: State, limits: L
     let root = Here {
         made: st.made,
         limit: limits.values,
-        place: 1,
+        place: tree::ROOT,
     };
     let key = scalar::key::put_key(s, store, used, limits.segments);
     let verdict = key.verdict;
@@ -300,7 +300,7 @@ pub fn read_lines(s: &[u8], store: &mut [u8], tree: &mut [u8], limits: Limits) -
     let mut line = 1;
     let mut progress = Progress {
         st: State { used: 0, made: 0 },
-        here: 1,
+        here: tree::ROOT,
     };
     while at < s.len() {
         let n = text::next_line(s, at, line);
