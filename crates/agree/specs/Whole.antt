@@ -102,17 +102,17 @@ module _ (values : Values-agree) (lim : Limits) where
 
   -- ---- line by line
 
-  behind-agrees : (bytes bs : List ℕ) (a : Answer Parsed) (b : Answer DocS) → Doc-agrees (bytes ++ bs) a b → Doc-agrees bytes (storedFirst bs a) b
-  behind-agrees bytes bs (accepted p) (accepted r) h = (h .0 ∙ append-assoc bytes bs (p .bytes), h .1, h .2)
-  behind-agrees bytes bs (accepted p) (refused f s q) h = h
-  behind-agrees bytes bs (refused f s q) (accepted r) h = h
-  behind-agrees bytes bs (refused f s q) (refused f' s' q') h = h
+  after-agrees : (bytes bs : List ℕ) (a : Answer Parsed) (b : Answer DocS) → Doc-agrees (bytes ++ bs) a b → Doc-agrees bytes (storedFirst bs a) b
+  after-agrees bytes bs (accepted p) (accepted r) h = (h .0 ∙ append-assoc bytes bs (p .bytes), h .1, h .2)
+  after-agrees bytes bs (accepted p) (refused f s q) h = h
+  after-agrees bytes bs (refused f s q) (accepted r) h = h
+  after-agrees bytes bs (refused f s q) (refused f' s' q') h = h
 
   told-agrees : (bytes : List ℕ) (at : ℕ) (g : Got Doc) (r : R DocS) (ls : List Line) → Line-agrees bytes g r
       → ((d : Doc) (e : DocS) → Same d e → Doc-agrees (e .bytes) (readLines lim d ls (length (e .slots))) (linesS lim ls e))
       → Doc-agrees bytes (lineThen at g (λ e n. readLines lim e ls n)) (toldAt lim at r (linesS lim ls))
   told-agrees bytes at (got d bs n) (ok r) ls h k =
-      behind-agrees bytes bs (readLines lim d ls n) (linesS lim ls r) (rw (h .1, ← (h .0)) (k d r (h .2)))
+      after-agrees bytes bs (readLines lim d ls n) (linesS lim ls r) (rw (h .1, ← (h .0)) (k d r (h .2)))
   told-agrees bytes at (got d bs n) (bad i) ls h k = absurd h
   told-agrees bytes at (failed f) (ok r) ls h k = absurd h
   told-agrees bytes at (failed f) (bad i) ls h k = (h, refl, refl)

@@ -59,13 +59,13 @@ join-held closed n [] h = tt
 join-held (open′ at t) n [] h = tt
 join-held p n (l ∷ ls) h = go (joinOne p n l) (one-held p n l h) (λ q k. join-held q (n + 1) ls k)
   where
-    behind : (o : List Line) (a : Answer (List Line)) → NonBlank o → Joins a → Joins (acceptedThen a (λ r. accepted (o ++ r)))
-    behind o (accepted r) h k = both o r h k
-    behind o (refused f i q) h k = tt
+    after : (o : List Line) (a : Answer (List Line)) → NonBlank o → Joins a → Joins (acceptedThen a (λ r. accepted (o ++ r)))
+    after o (accepted r) h k = both o r h k
+    after o (refused f i q) h k = tt
 
     go : (a : Answer Step) → Steps a → ((q : Pending) → Held q → Joins (join q (n + 1) ls))
         → Joins (acceptedThen a (λ s. acceptedThen (join (s .pending) (n + 1) ls) (λ r. accepted (s .out ++ r))))
-    go (accepted s) h k = behind (s .out) (join (s .pending) (n + 1) ls) (h .0) (k (s .pending) (h .1))
+    go (accepted s) h k = after (s .out) (join (s .pending) (n + 1) ls) (h .0) (k (s .pending) (h .1))
     go (refused f i q) h k = tt
 
 -- no joined line is blank

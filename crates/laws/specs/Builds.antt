@@ -18,16 +18,16 @@ use Rattle.laws.specs.Places.{At, In, in-more, in-left, in-right, in-spl
 
 -- ---- names after others
 
-among-behind : (x y : List ℕ) (ys : List (List ℕ)) → among x (withLast ys y) ≡ false → (among x ys ≡ false) × (same x y ≡ false)
-among-behind x y [] e = (refl, on (same x y) (λ t. never {b = true} refl (rw t at e)) (λ t. t))
-among-behind x y (z ∷ ys) e =
+among-after : (x y : List ℕ) (ys : List (List ℕ)) → among x (withLast ys y) ≡ false → (among x ys ≡ false) × (same x y ≡ false)
+among-after x y [] e = (refl, on (same x y) (λ t. never {b = true} refl (rw t at e)) (λ t. t))
+among-after x y (z ∷ ys) e =
     on (same x z)
     (λ t. never {b = true} refl (rw t at e))
-    (λ t. let r = among-behind x y ys (rw t at e) in (rw t (r .0), r .1))
+    (λ t. let r = among-after x y ys (rw t at e) in (rw t (r .0), r .1))
 
-behind-among : (x y : List ℕ) (ys : List (List ℕ)) → among x ys ≡ false → same x y ≡ false → among x (withLast ys y) ≡ false
-behind-among x y [] e g = rw g
-behind-among x y (z ∷ ys) e g = on (same x z) (λ t. never {b = true} refl (rw t at e)) (λ t. rw t (behind-among x y ys (rw t at e) g))
+after-among : (x y : List ℕ) (ys : List (List ℕ)) → among x ys ≡ false → same x y ≡ false → among x (withLast ys y) ≡ false
+after-among x y [] e g = rw g
+after-among x y (z ∷ ys) e g = on (same x z) (λ t. never {b = true} refl (rw t at e)) (λ t. rw t (after-among x y ys (rw t at e) g))
 
 -- ---- first uses
 
@@ -41,7 +41,7 @@ module _ (earlier : List (List ℕ)) (b : Build) (bs : List Build) where
   -- the first of these is passed over
   later : (d : Build) → First bs d × (among (d .pack) (withLast earlier (b .pack)) ≡ false) → First (b ∷ bs) d × (among (d .pack) earlier ≡ false)
   later d h =
-      let r = among-behind (d .pack) (b .pack) earlier (h .1) in
+      let r = among-after (d .pack) (b .pack) earlier (h .1) in
       (record { place = suc (h .0 .place); here = h .0 .here; first = go (r .1) }, r .0)
     where
       go : same (d .pack) (b .pack) ≡ false → (k : ℕ) (e : Build) → k < suc (h .0 .place) → At (b ∷ bs) k e → e .pack ≡ d .pack → ⊥
@@ -71,7 +71,7 @@ firsts-has earlier (x ∷ bs) zero b h n =
 firsts-has earlier (x ∷ bs) (suc i) b h n =
     on (same (b .pack) (x .pack))
     (λ t. let e : b .pack ≡ x .pack = same-eq (b .pack) (x .pack) t in rw (subst (λ (z : List ℕ). among z earlier ≡ false) e n) (0, x, refl, sym e))
-    (λ t. let r = firsts-has (withLast earlier (x .pack)) bs i b h (behind-among (b .pack) (x .pack) earlier n t) in
+    (λ t. let r = firsts-has (withLast earlier (x .pack)) bs i b h (after-among (b .pack) (x .pack) earlier n t) in
     on (among (x .pack) earlier) (λ u. rw u r) (λ u. rw u (suc (r .0), r .1, r .2, r .3)))
 
 -- and once
@@ -84,7 +84,7 @@ firsts-one earlier (b ∷ bs) i j d e h g p =
   where
     other : (x y : Build) (k : ℕ) → b ≡ x → At (firstUses (withLast earlier (b .pack)) bs) k y → x .pack ≡ y .pack → ⊥
     other x y k a c q =
-        never (eq-same (y .pack) (b .pack) (sym q ∙ ap (λ (z : Build). z .pack) (sym a))) (among-behind (y .pack) (b .pack) earlier (firsts-first (withLast earlier (b .pack)) bs k y c .1) .1)
+        never (eq-same (y .pack) (b .pack) (sym q ∙ ap (λ (z : Build). z .pack) (sym a))) (among-after (y .pack) (b .pack) earlier (firsts-first (withLast earlier (b .pack)) bs k y c .1) .1)
 
     go : ((k l : ℕ) → At (firstUses (withLast earlier (b .pack)) bs) k d → At (firstUses (withLast earlier (b .pack)) bs) l e → k ≡ l)
         → (k l : ℕ) → At (b ∷ firstUses (withLast earlier (b .pack)) bs) k d → At (b ∷ firstUses (withLast earlier (b .pack)) bs) l e → k ≡ l

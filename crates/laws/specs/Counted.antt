@@ -193,13 +193,13 @@ module _ (lim : Limits) where
       (here-to (lim .values) (assign (lim .values) p x) (λ t. assign-to (lim .values) p x t) (d .under) (d .root) n j))))))
   act-to neither d m h = tt
 
-  behind-to : (bs : List ℕ) (a : Answer Parsed) → Within counted (lim .values) a → Within counted (lim .values) (storedFirst bs a)
-  behind-to bs (accepted r) h = h
-  behind-to bs (refused e s p) h = tt
+  after-to : (bs : List ℕ) (a : Answer Parsed) → Within counted (lim .values) a → Within counted (lim .values) (storedFirst bs a)
+  after-to bs (accepted r) h = h
+  after-to bs (refused e s p) h = tt
 
   reading-to : (at : ℕ) (g : Got Doc) (f : Doc → ℕ → Answer Parsed) → Gets (lim .values) g → ((e : Doc) (m : ℕ) → m ≤ lim .values → Within counted (lim .values) (f e m))
       → Within counted (lim .values) (lineThen at g f)
-  reading-to at (got e bs m) f h s = behind-to bs (f e m) (s e m h)
+  reading-to at (got e bs m) f h s = after-to bs (f e m) (s e m h)
   reading-to at (failed e) f h s = tt
 
   lines-to : (d : Doc) (ls : List Line) (m : ℕ) → m ≤ lim .values → Within counted (lim .values) (readLines lim d ls m)

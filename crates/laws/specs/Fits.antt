@@ -299,12 +299,12 @@ abbrev texts : List Line → ℕ
 texts [] = 0
 texts (l ∷ ls) = length (l .text) + texts ls
 
-behind-fits : (n k : ℕ) (bs : List ℕ) (a : Answer Parsed) → length bs ≤ n → Within stored k a → Within stored (n + k) (Rattle.meaning.specs.Document.storedFirst bs a)
-behind-fits n k bs (accepted r) h g = simp length-append (omega arith)
-behind-fits n k bs (refused e s p) h g = tt
+after-fits : (n k : ℕ) (bs : List ℕ) (a : Answer Parsed) → length bs ≤ n → Within stored k a → Within stored (n + k) (Rattle.meaning.specs.Document.storedFirst bs a)
+after-fits n k bs (accepted r) h g = simp length-append (omega arith)
+after-fits n k bs (refused e s p) h g = tt
 
 reading-fits : (at n k : ℕ) (g : Got Doc) (f : Doc → ℕ → Answer Parsed) → Fits n g → ((e : Doc) (m : ℕ) → Within stored k (f e m)) → Within stored (n + k) (lineThen at g f)
-reading-fits at n k (got e bs m) f h s = behind-fits n k bs (f e m) h (s e m)
+reading-fits at n k (got e bs m) f h s = after-fits n k bs (f e m) h (s e m)
 reading-fits at n k (failed e) f h s = tt
 
 lines-fit : (lim : Limits) (d : Doc) (ls : List Line) (m : ℕ) → Within stored (texts ls) (readLines lim d ls m)

@@ -300,12 +300,12 @@ module _ (lim : Limits) where
       (here-once (assign (lim .values) p x) (assign-once (lim .values) p x o) (d .under) (d .root) n h) (λ t g. g))))
   act-once neither d m h = tt
 
-  behind-once : (bs : List ℕ) (a : Answer Parsed) → Rooted a → Rooted (storedFirst bs a)
-  behind-once bs (accepted r) h = h
-  behind-once bs (refused e s p) h = tt
+  after-once : (bs : List ℕ) (a : Answer Parsed) → Rooted a → Rooted (storedFirst bs a)
+  after-once bs (accepted r) h = h
+  after-once bs (refused e s p) h = tt
 
   reading-once : (at : ℕ) (g : Got Doc) (k : Doc → ℕ → Answer Parsed) → Gave Sound g → ((e : Doc) (n : ℕ) → Sound e → Rooted (k e n)) → Rooted (lineThen at g k)
-  reading-once at (got e bs n) k s h = behind-once bs (k e n) (h e n s)
+  reading-once at (got e bs n) k s h = after-once bs (k e n) (h e n s)
   reading-once at (failed f) k s h = tt
 
   lines-once : (ls : List Line) (d : Doc) (m : ℕ) → Sound d → Rooted (readLines lim d ls m)

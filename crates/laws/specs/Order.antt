@@ -37,8 +37,8 @@ less-cases a b p q e = on (eqb a b) (λ t. inr (eqb-true a b t, rw t at e)) (λ 
 less-first : (a b : ℕ) (p q : List ℕ) → a < b → less (a ∷ p) (b ∷ q) ≡ true
 less-first a b p q l = rw (ne-eqb a b (λ e. omega arith)) (lt-ltb a b l)
 
-less-behind : (a b : ℕ) (p q : List ℕ) → a ≡ b → less p q ≡ true → less (a ∷ p) (b ∷ q) ≡ true
-less-behind a b p q e f = rw (eq-eqb a b e) f
+less-after : (a b : ℕ) (p q : List ℕ) → a ≡ b → less p q ≡ true → less (a ∷ p) (b ∷ q) ≡ true
+less-after a b p q e f = rw (eq-eqb a b e) f
 
 pub less-on : (a b c : List ℕ) → less a b ≡ true → less b c ≡ true → less a c ≡ true
 less-on [] [] c e f = never e refl
@@ -50,7 +50,7 @@ less-on (a ∷ p) (b ∷ q) (c ∷ r) e f =
     ⊎-elim
     (λ (h : a < b). ⊎-elim (λ (k : b < c). less-first a c p r (omega arith)) (λ (k : (b ≡ c) × (less q r ≡ true)). less-first a c p r (omega (arith, k .0))) (less-cases b c q r f))
     (λ (h : (a ≡ b) × (less p q ≡ true)). ⊎-elim (λ (k : b < c). less-first a c p r (omega (arith, h .0)))
-    (λ (k : (b ≡ c) × (less q r ≡ true)). less-behind a c p r (h .0 ∙ k .0) (less-on p q r (h .1) (k .1))) (less-cases b c q r f))
+    (λ (k : (b ≡ c) × (less q r ≡ true)). less-after a c p r (h .0 ∙ k .0) (less-on p q r (h .1) (k .1))) (less-cases b c q r f))
     (less-cases a b p q e)
 
 -- two strings of which neither comes first are one

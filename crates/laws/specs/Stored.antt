@@ -47,9 +47,9 @@ module _ (room : List ℕ) (at : ℕ) (bs : List ℕ) where
       ap length split ∙ omega (arith, length-append head rest, head-long (omega arith), length-drop (at + length bs) room)
 
   -- the next store begins where the last one ended
-  pub stored-behind : (cs : List ℕ) (next : ℕ) → at ≤ length room → next ≡ at + length bs → stored (stored room at bs) next cs ≡ stored room at (bs ++ cs)
+  pub stored-then : (cs : List ℕ) (next : ℕ) → at ≤ length room → next ≡ at + length bs → stored (stored room at bs) next cs ≡ stored room at (bs ++ cs)
   unfolding stored head rest
-  stored-behind cs next h e =
+  stored-then cs next h e =
       let n : length head ≡ next = head-long h ∙ sym e in
       let m : at + length (bs ++ cs) ≡ next + length cs = omega (arith, length-append bs cs) in
       let d : drop (next + length cs) (head ++ rest) ≡ drop (next + length cs) room =

@@ -94,8 +94,8 @@ alone b s d = record {
 }
 
 -- and else the last of what is left
-behind : (b : ℕ) (s r : List ℕ) → drop (char (b ∷ s) - 1) s ≡ r → Last r → Last (b ∷ s)
-behind b s r d l = record {
+after : (b : ℕ) (s r : List ℕ) → drop (char (b ∷ s) - 1) s ≡ r → Last r → Last (b ∷ s)
+after b s r d l = record {
   cs = headOf (char (b ∷ s)) b s ∷ l .cs;
   x = b ∷ (take (char (b ∷ s) - 1) s ++ l .x);
   b = l .b;
@@ -114,7 +114,7 @@ last-of (suc k) b s h = go (drop (char (b ∷ s) - 1) s) refl (λ c r. last-of k
   where
     go : (r : List ℕ) → drop (char (b ∷ s) - 1) s ≡ r → ((c : ℕ) (r : List ℕ) → length r ≤ k → Last (c ∷ r)) → Last (b ∷ s)
     go [] d ih = alone b s d
-    go (c ∷ r) d ih = behind b s (c ∷ r) d (ih c r (omega (arith, length-drop (char (b ∷ s) - 1) s, ap length d)))
+    go (c ∷ r) d ih = after b s (c ∷ r) d (ih c r (omega (arith, length-drop (char (b ∷ s) - 1) s, ap length d)))
 
 -- a white character at the end goes, any other stays
 tail-white : (cs : List Char) (c : Char) → whiteChar c ≡ true → trimTail (cs ++ (c ∷ [])) ≡ trimTail cs

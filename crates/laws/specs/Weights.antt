@@ -348,12 +348,12 @@ module _ (lim : Limits) where
       (λ p. here-adds (along length (weight x) p) (assign (lim .values) p x) (assign-adds (lim .values) p x) (d .under) (d .root) i)))
   act-paid neither d m = tt
 
-  behind-weighs : (n k : ℕ) (bs : List ℕ) (a : Answer Parsed) → k ≤ n + length bs → Weighed k a → Weighed n (storedFirst bs a)
-  behind-weighs n k bs (accepted r) h g = omega (arith, length-append bs (r .bytes))
-  behind-weighs n k bs (refused e s p) h g = tt
+  after-weighs : (n k : ℕ) (bs : List ℕ) (a : Answer Parsed) → k ≤ n + length bs → Weighed k a → Weighed n (storedFirst bs a)
+  after-weighs n k bs (accepted r) h g = omega (arith, length-append bs (r .bytes))
+  after-weighs n k bs (refused e s p) h g = tt
 
   reading-weighs : (at n : ℕ) (g : Got Doc) (k : Doc → ℕ → Answer Parsed) → Paid rootOf n g → ((e : Doc) (i : ℕ) → Weighed (rootOf e) (k e i)) → Weighed n (lineThen at g k)
-  reading-weighs at n (got e bs i) k h w = behind-weighs n (rootOf e) bs (k e i) h (w e i)
+  reading-weighs at n (got e bs i) k h w = after-weighs n (rootOf e) bs (k e i) h (w e i)
   reading-weighs at n (failed f) k h w = tt
 
   lines-weigh : (ls : List Line) (d : Doc) (m : ℕ) → Weighed (rootOf d) (readLines lim d ls m)

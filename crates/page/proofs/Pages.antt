@@ -4,7 +4,7 @@ use mathlib.Core.List.{List, [], _++_}
 use mathlib.Core.Path.{_≡_, refl, sym, ap, _∙_}
 use native.Mathlib.Omega.{arith}
 use lib.ListN.{length, length-append}
-use Rattle.laws.specs.Stored.{stored, stored-nil, stored-behind}
+use Rattle.laws.specs.Stored.{stored, stored-nil, stored-then}
 use Rattle.page.specs.Page.{Wrote}
 
 pub wrote-nil : (out : List ℕ) (at : ℕ) → Wrote [] out at out at
@@ -19,5 +19,5 @@ module _ {a b out out′ out″ : List ℕ} {at at′ at″ : ℕ} where
             let both : length (a ++ b) ≡ length a + length b = length-append a b in
             let p : (out′ ≡ stored out at a) × (at′ ≡ at + length a) = h .fits (omega (arith, both)) in
             let q : (out″ ≡ stored out′ at′ b) × (at″ ≡ at′ + length b) = k .fits (omega (arith, both, p .1, h .long)) in
-            (q .0 ∙ ap (λ (o : List ℕ). stored o at′ b) (p .0) ∙ stored-behind out at a b at′ (omega arith) (p .1), omega (arith, both, p .1, q .1));
+            (q .0 ∙ ap (λ (o : List ℕ). stored o at′ b) (p .0) ∙ stored-then out at a b at′ (omega arith) (p .1), omega (arith, both, p .1, q .1));
       }

@@ -208,9 +208,9 @@ module _ (room store : Seq ℕ) (made n i at : ℕ) (r : PlannedFound) (e : at �
     unfolding composed
     composed-here k f = rw (← e, le-ltb i at h, eq-eqb i at k) f
 
-    pub composed-behind : (i ≡ at → ⊥) → r ≡ own room store made (i - 1) → r ≡ composed room store made n i
+    pub composed-after : (i ≡ at → ⊥) → r ≡ own room store made (i - 1) → r ≡ composed room store made n i
     unfolding composed
-    composed-behind k f = rw (← e, le-ltb i at h, ne-eqb i at k) f
+    composed-after k f = rw (← e, le-ltb i at h, ne-eqb i at k) f
 
 module _ (room store : Seq ℕ) (made : ℕ) (c : Choice) (i : ℕ) where
   pub chain-is : (r : PlannedFound) → c ≡ choices.BootChain → r ≡ own room store made i → r ≡ component room store made c i

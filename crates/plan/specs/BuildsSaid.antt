@@ -50,9 +50,9 @@ abbrev pub KeptAll : List Build → Type 0
 KeptAll [] = Unit {0}
 KeptAll (u ∷ us) = Kept (u .«package») × KeptAll us
 
-kept-behind : (us : List Build) (u : Build) → KeptAll us → Kept (u .«package») → KeptAll (us ++ (u ∷ []))
-kept-behind [] u h k = (k, tt)
-kept-behind (v ∷ us) u h k = (h .0, kept-behind us u (h .1) k)
+kept-after : (us : List Build) (u : Build) → KeptAll us → Kept (u .«package») → KeptAll (us ++ (u ∷ []))
+kept-after [] u h k = (k, tt)
+kept-after (v ∷ us) u h k = (h .0, kept-after us u (h .1) k)
 
 module _ (room store : List ℕ) (made n : ℕ) where
   -- a component's packages
@@ -98,9 +98,9 @@ module _ (room store : List ℕ) (made : ℕ) (name : List ℕ) where
   packs-skip [] u h = rw h
   packs-skip (e ∷ es) u h = rw (packs-skip es u h)
 
-  packs-behind : (es : List Build) (u : Build) → isGiven (u .«package») ≡ true → packs (es ++ (u ∷ [])) ≡ withLast (packs es) (spelled store name (u .«package»))
-  packs-behind [] u h = rw h
-  packs-behind (e ∷ es) u h = rw (packs-behind es u h) (on (isGiven (e .«package»)) (λ t. rw t) (λ t. rw t))
+  packs-after : (es : List Build) (u : Build) → isGiven (u .«package») ≡ true → packs (es ++ (u ∷ [])) ≡ withLast (packs es) (spelled store name (u .«package»))
+  packs-after [] u h = rw h
+  packs-after (e ∷ es) u h = rw (packs-after es u h) (on (isGiven (e .«package»)) (λ t. rw t) (λ t. rw t))
 
   -- a package stands among those of the earlier uses where one of them is of it
   among-packs : (from len : ℕ) (es : List Build) → KeptAll es
@@ -121,11 +121,11 @@ module _ (room store : List ℕ) (made : ℕ) (name : List ℕ) where
   pub first-uses-say : (es us : List Build) → KeptAll es → KeptAll us → map (buildMeant room store made name) (firstUses store es us) ≡ meant.firstUses (packs es) (usesMeant us)
   first-uses-say es [] h k = refl
   first-uses-say es (u ∷ us) h k =
-      let more = first-uses-say (es ++ (u ∷ [])) us (kept-behind es u h (k .0)) (k .1) in
+      let more = first-uses-say (es ++ (u ∷ [])) us (kept-after es u h (k .0)) (k .1) in
       kept-cases (u .«package») (k .0)
       (λ t. rw (fresh-absent es u t, ap isGiven t) (rw (packs-skip es u (ap isGiven t)) at more))
       (λ from len t.
-      let m = rw (packs-behind es u (ap isGiven t)) at more in
+      let m = rw (packs-after es u (ap isGiven t)) at more in
       rw (fresh-stored es u from len h t, ap isGiven t)
       (on (among (spelled store name (u .«package»)) (packs es)) (λ f. rw f m) (λ f. rw f (ap (λ (bs : List meant.Build). (buildMeant room store made name) u ∷ bs) m))))
 
@@ -159,13 +159,13 @@ module _ (room store : List ℕ) (made : ℕ) (name : List ℕ) where
 
   -- ---- with the application
 
-  uses-behind : (us : List Build) (u : Build) → usesMeant (us ++ (u ∷ [])) ≡ usesMeant us ++ usesMeant (u ∷ [])
-  uses-behind [] u = refl
-  uses-behind (v ∷ us) u = rw (uses-behind us u) (on (isGiven (v .«package»)) (λ t. rw t) (λ t. rw t))
+  uses-after : (us : List Build) (u : Build) → usesMeant (us ++ (u ∷ [])) ≡ usesMeant us ++ usesMeant (u ∷ [])
+  uses-after [] u = refl
+  uses-after (v ∷ us) u = rw (uses-after us u) (on (isGiven (v .«package»)) (λ t. rw t) (λ t. rw t))
 
-  wanted-behind : (cs : List schema.Component) (c : schema.Component) → meant.wantedBy (withLast cs c) ≡ meant.wantedBy cs ++ meant.wanted c
-  wanted-behind [] c = append-nil (meant.wanted c)
-  wanted-behind (d ∷ cs) c = rw (wanted-behind cs c) (sym (append-assoc (meant.wanted d) (meant.wantedBy cs) (meant.wanted c)))
+  wanted-after : (cs : List schema.Component) (c : schema.Component) → meant.wantedBy (withLast cs c) ≡ meant.wantedBy cs ++ meant.wanted c
+  wanted-after [] c = append-nil (meant.wanted c)
+  wanted-after (d ∷ cs) c = rw (wanted-after cs c) (sym (append-assoc (meant.wanted d) (meant.wantedBy cs) (meant.wanted c)))
 
   application-use-says : (n : ℕ) → usesMeant (applicationUse room store made n ∷ []) ≡ meant.wanted (meant.componentOf (applicationOf room store made name 32 n))
   unfolding applicationUse meant.wanted meant.componentOf parsing.applicationAt reading.applicationRead
@@ -178,14 +178,14 @@ module _ (room store : List ℕ) (made : ℕ) (name : List ℕ) where
   builds-of-say ns n =
       let us : List Build = usesOf room store made ns in
       let u : Build = applicationUse room store made n in
-      let k : KeptAll (us ++ (u ∷ [])) = kept-behind us u (uses-kept room store made ns) (application-use-kept room store made n) in
+      let k : KeptAll (us ++ (u ∷ [])) = kept-after us u (uses-kept room store made ns) (application-use-kept room store made n) in
       let cs : List schema.Component = map (componentOf room store made name 32) ns in
       first-uses-say [] (us ++ (u ∷ [])) tt k
       ∙ ap (meant.firstUses [])
-      (uses-behind us u
+      (uses-after us u
       ∙ ap (λ (bs : List meant.Build). bs ++ usesMeant (u ∷ [])) (uses-say ns)
       ∙ ap (λ (bs : List meant.Build). meant.wantedBy cs ++ bs) (application-use-says n)
-      ∙ sym (wanted-behind cs (meant.componentOf (applicationOf room store made name 32 n))))
+      ∙ sym (wanted-after cs (meant.componentOf (applicationOf room store made name 32 n))))
 
   boot-builds-say : (ns : List ℕ) → map (buildMeant room store made name) (firstUses store [] (usesOf room store made ns)) ≡ meant.buildsOf none (map (componentOf room store made name 32) ns)
   unfolding meant.buildsOf meant.inOrder

@@ -201,12 +201,12 @@ module _ {X : Type 0} (f : schemas.Component → X) (a : schemas.Component) wher
   ahead-here [] = refl
   ahead-here (c ∷ cs) = on (nil? (c .role .partition)) (λ e. rw e (ahead-here cs)) (λ e. rw e)
 
-  ahead-behind : (cs : Seq schemas.Component) (i : ℕ) → leading cs ≤ i → entryAt (map f (meant.ahead a cs)) (suc i) ≡ entryAt (map f cs) i
-  ahead-behind [] i h = refl
-  ahead-behind (c ∷ cs) zero h = on (nil? (c .role .partition)) (λ e. absurd (let z : suc (leading cs) ≤ 0 = rw e at h in omega (arith, z))) (λ e. rw e)
-  ahead-behind (c ∷ cs) (suc i) h =
+  ahead-after : (cs : Seq schemas.Component) (i : ℕ) → leading cs ≤ i → entryAt (map f (meant.ahead a cs)) (suc i) ≡ entryAt (map f cs) i
+  ahead-after [] i h = refl
+  ahead-after (c ∷ cs) zero h = on (nil? (c .role .partition)) (λ e. absurd (let z : suc (leading cs) ≤ 0 = rw e at h in omega (arith, z))) (λ e. rw e)
+  ahead-after (c ∷ cs) (suc i) h =
       on (nil? (c .role .partition))
-      (λ e. let z : suc (leading cs) ≤ suc i = rw e at h in rw e (ahead-behind cs i (omega (arith, z))))
+      (λ e. let z : suc (leading cs) ≤ suc i = rw e at h in rw e (ahead-after cs i (omega (arith, z))))
       (λ e. rw e)
 
 module _ (room store : Seq ℕ) (made : ℕ) (name : Seq ℕ) where
@@ -251,7 +251,7 @@ module _ (room store : Seq ℕ) (made : ℕ) (name : Seq ℕ) where
         let j : i ≡ suc (i - 1) = omega (arith, l, m) in
         rw (e, d)
         (own-means (i - 1)
-        ∙ sym (ap (entryAt (map meant.planned (meant.ahead a componentsMeant))) j ∙ ahead-behind meant.planned a componentsMeant (i - 1) (omega (arith, k, l, m))))))
+        ∙ sym (ap (entryAt (map meant.planned (meant.ahead a componentsMeant))) j ∙ ahead-after meant.planned a componentsMeant (i - 1) (omega (arith, k, l, m))))))
 
 -- ---- all of them
 

@@ -18,7 +18,7 @@ use Rattle.meaning.specs.Space.{trim}
 use Rattle.meaning.specs.Keys.{segment, segments, keys}
 use Rattle.laws.specs.Cases.{on}
 use Rattle.laws.specs.Parts.{rest-of}
-use Rattle.laws.specs.Stored.{stored-nil, stored-behind, length-stored}
+use Rattle.laws.specs.Stored.{stored-nil, stored-then, length-stored}
 use Rattle.slices.specs.Found.{Found}
 use Rattle.text.proofs.Cuts.{cut-there, cut-none}
 use Rattle.scalar.specs.declared.key.Verdict.{Verdict}
@@ -31,7 +31,7 @@ use Rattle.scalar.specs.Splits.{Taken, none, by, taken, takes, flat, byt
 
 -- ---- bytes laid after bytes
 stored-stored : (store : List ℕ) (at : ℕ) (a b : List ℕ) → at ≤ length store → stored (stored store at a) (at + length a) b ≡ stored store at (a ++ b)
-stored-stored store at a b h = stored-behind store at a b (at + length a) h refl
+stored-stored store at a b h = stored-then store at a b (at + length a) h refl
 
 flat-snoc : (ks : List (List ℕ)) (k : List ℕ) → flat (ks ++ (k ∷ [])) ≡ flat ks ++ k
 flat-snoc [] k = append-nil k

@@ -12,7 +12,7 @@ use lib.ListN.{length, getD, set, length-replicate, replicate-append-replicate}
 use lib.Seq.{set-split, split-at, drop-length}
 use Rattle.meaning.specs.Base.{pick, zeros}
 use Rattle.laws.specs.Cases.{on, never}
-use Rattle.laws.specs.Stored.{stored, stored-nil, stored-cons, stored-behind, length-stored}
+use Rattle.laws.specs.Stored.{stored, stored-nil, stored-cons, stored-then, length-stored}
 use Rattle.slices.specs.Clear.{clear}
 use Rattle.slices.specs.Numbers.{little}
 use Rattle.slices.proofs.Numbering.{Laying, lay-on, lay-end}
@@ -118,7 +118,7 @@ empty-start s =
 
 more-zeros : (s : List ℕ) (i k m : ℕ) → i ≤ length s → stored (stored s i (zeros k)) (i + k) (zeros m) ≡ stored s i (zeros (k + m))
 more-zeros s i k m h =
-    stored-behind s i (zeros k) (zeros m) (i + k) h (omega (arith, length-zeros k)) ∙ ap (stored s i) (replicate-append-replicate k m 0)
+    stored-then s i (zeros k) (zeros m) (i + k) h (omega (arith, length-zeros k)) ∙ ap (stored s i) (replicate-append-replicate k m 0)
 
 module _ (s₀ s t : List ℕ) (i k : ℕ) where
   pub empty-on : Emptying s₀ s i → k ≤ length s - i → t ≡ stored s i (zeros k) → Emptying s₀ t (i + k)

@@ -60,8 +60,8 @@ split-of f l ls e =
     (λ p. let z : _≡_ {A = ℕ} 0 1 = cc (lines-none f n refl (ltb-false n (length f) p)) in absurd (omega arith))
 
 -- ---- a joined line that starts at `at`, whose text so far is t, in front of the rest f
-behind : (s : List ℕ) (at : ℕ) (t f : List ℕ) → drop at s ≡ t ++ (10 ∷ f) → drop (at + length t + 1) s ≡ f
-behind s at t f e =
+after : (s : List ℕ) (at : ℕ) (t f : List ℕ) → drop at s ≡ t ++ (10 ∷ f) → drop (at + length t + 1) s ≡ f
+after s at t f e =
     let k : at + length t + 1 ≡ at + (length t + 1) = omega arith in
     let l : length (t ++ (10 ∷ [])) ≡ length t + 1 = length-append t (10 ∷ []) in
     rw k (sym (drop-drop (length t + 1) at s) ∙ ap (drop (length t + 1)) (e ∙ sym (append-assoc t (10 ∷ []) f)) ∙ drop-at (t ++ (10 ∷ [])) f (length t + 1) l)
@@ -82,7 +82,7 @@ onward k ls st = acceptedThen st (λ x. acceptedThen (join (x .pending) k ls) (�
 module _ (s : List ℕ) (at n : ℕ) where
   whole-says : (t f : List ℕ) (m : ℕ) (ls : List (List ℕ)) → drop at s ≡ t ++ (10 ∷ f) → ls ≡ linesOf f
       → fate (scan fresh t) ≡ Whole → Says s (onward (n + m) ls (settled n t)) (placed at n (joints.Whole (length t) m))
-  whole-says t f m ls e q p = rw (p, behind s at t f e, ← (front s at t f e), q)
+  whole-says t f m ls e q p = rw (p, after s at t f e, ← (front s at t f e), q)
 
   gather-says : (ls : List (List ℕ)) (t f : List ℕ) (m : ℕ) → drop at s ≡ t ++ (10 ∷ f) → ls ≡ linesOf f
       → Says s (onward (n + m) ls (settled n t)) (placed at n (gather t m ls))
@@ -114,7 +114,7 @@ says-in s [] at n e = refl
 says-in s (l ∷ ls) at n e =
     let x : Split (drop at s) l ls = split-of (drop at s) l ls e in
     on (blank l)
-    (λ p. rw (p, after-nothing (join closed (n + 1) ls)) (says-in s ls (at + length l + 1) (n + 1) (ap linesOf (behind s at l (x .rest) (x .is)) ∙ sym (x .lines))))
+    (λ p. rw (p, after-nothing (join closed (n + 1) ls)) (says-in s ls (at + length l + 1) (n + 1) (ap linesOf (after s at l (x .rest) (x .is)) ∙ sym (x .lines))))
     (λ p. rw p (gather-says s at n ls l (x .rest) 1 (x .is) (x .lines)))
 
 pub says : (s : List ℕ) (at n : ℕ) → Says s (join closed n (linesOf (drop at s))) (next s at n)

@@ -5,7 +5,7 @@ use mathlib.Core.List.{List, [], _∷_, _++_, append-assoc}
 use mathlib.Core.Path.{_≡_, refl, sym, ap, _∙_}
 use native.Mathlib.Omega.{arith}
 use lib.ListN.{length, getD, set, length-set}
-use Rattle.laws.specs.Stored.{stored, stored-nil, stored-cons, stored-behind}
+use Rattle.laws.specs.Stored.{stored, stored-nil, stored-cons, stored-then}
 use Rattle.slices.specs.Numbers.{little, number}
 use Rattle.tree.specs.declared.Slot.{Slot}
 use Rattle.tree.specs.Room.{Holds, place, body, cell, slotAt, hung}
@@ -24,8 +24,8 @@ marked tree at a b h =
 three : (tree t₀ t₁ t₂ xs ys zs : List ℕ) (at p q : ℕ) → at ≤ length tree → p ≡ at + length xs → q ≡ at + length (xs ++ ys)
     → t₀ ≡ stored tree at xs → t₁ ≡ stored t₀ p ys → t₂ ≡ stored t₁ q zs → t₂ ≡ stored tree at (xs ++ (ys ++ zs))
 three tree t₀ t₁ t₂ xs ys zs at p q h e f g₀ g₁ g₂ =
-    let k : t₁ ≡ stored tree at (xs ++ ys) = g₁ ∙ ap (λ (t : List ℕ). stored t p ys) g₀ ∙ stored-behind tree at xs ys p h e in
-    g₂ ∙ ap (λ (t : List ℕ). stored t q zs) k ∙ stored-behind tree at (xs ++ ys) zs q h f ∙ ap (stored tree at) (append-assoc xs ys zs)
+    let k : t₁ ≡ stored tree at (xs ++ ys) = g₁ ∙ ap (λ (t : List ℕ). stored t p ys) g₀ ∙ stored-then tree at xs ys p h e in
+    g₂ ∙ ap (λ (t : List ℕ). stored t q zs) k ∙ stored-then tree at (xs ++ ys) zs q h f ∙ ap (stored tree at) (append-assoc xs ys zs)
 
 module _ (tree t₀ t₁ t₂ : List ℕ) (v : Slot) where
   pub linked : (at : ℕ) → at + 6 ≤ length tree → t₀ ≡ stored tree at (little 2 (v .parent)) → t₁ ≡ stored t₀ (at + 2) (little 2 (v .key))

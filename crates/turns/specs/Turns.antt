@@ -87,9 +87,9 @@ any-among : (bytes : List ℕ) (m : Mark) (es : List Mark) → anyOf (sameName b
 any-among bytes m [] = refl
 any-among bytes m (e ∷ es) = rw (any-among bytes m es)
 
-map-behind : {X Y : Type 0} (f : X → Y) (xs : List X) (x : X) → map f (withLast xs x) ≡ withLast (map f xs) (f x)
-map-behind f [] x = refl
-map-behind f (y ∷ xs) x = rw (map-behind f xs x)
+map-after : {X Y : Type 0} (f : X → Y) (xs : List X) (x : X) → map f (withLast xs x) ≡ withLast (map f xs) (f x)
+map-after f [] x = refl
+map-after f (y ∷ xs) x = rw (map-after f xs x)
 
 -- an entry that has the name of an earlier one has a fault
 met-fault : (number : ℕ) (m : Mark) → 1 ≤ number → entryFault number true m ≡ 0 → ⊥
@@ -116,7 +116,7 @@ module _ (number : ℕ) (bytes : List ℕ) (h : 1 ≤ number) (section : ℕ) wh
       let a : among (named bytes m) (map (named bytes) es) ≡ false = sym (any-among bytes m es) ∙ e in
       let b : eqb i (i + suc n) ≡ false = ne-eqb i (i + suc n) (λ z. omega arith) in
       let d : i + suc n ≡ i + 1 + n = omega arith in
-      rw (e, a, b) (step-fault section i (entryFault number false m) (firstFault number (i + suc n) (i + 1) ms) w (λ z. rw d (rw (map-behind (named bytes) es m) at (turns (i + 1) (withLast es m) ms)))))
+      rw (e, a, b) (step-fault section i (entryFault number false m) (firstFault number (i + suc n) (i + 1) ms) w (λ z. rw d (rw (map-after (named bytes) es m) at (turns (i + 1) (withLast es m) ms)))))
 
 pub twin-first : (number : ℕ) (bytes : List ℕ) (ms : List Mark) → 1 ≤ number → firstFault number (twin bytes ms) 0 ms ≡ judged number bytes ms
 unfolding judged

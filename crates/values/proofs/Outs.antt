@@ -10,7 +10,7 @@ use lib.ListN.{length, length-append}
 use borrow.Author.Tests.{eqb-true}
 use Rattle.meaning.specs.Base.{pick}
 use Rattle.laws.specs.Cases.{on}
-use Rattle.laws.specs.Stored.{stored, stored-nil, stored-behind, length-stored}
+use Rattle.laws.specs.Stored.{stored, stored-nil, stored-then, length-stored}
 use Rattle.tree.specs.declared.Slot.{Slot}
 use Rattle.tree.specs.Room.{cell}
 use Rattle.tree.specs.Laws.{length-cell}
@@ -154,9 +154,9 @@ then-left {limit} {n} {m} {store} {tree} {store₁} {tree₁} {store₂} {tree�
   short = omega (arith, length-append (o .bytes) (p .bytes), h .short, k .short);
   most = omega (arith, length-append (o .slots) (p .slots), k .most);
   store-is = k .store-is ∙ ap (λ (l : List ℕ). stored l (st .used + length (o .bytes)) (p .bytes)) (h .store-is)
-      ∙ stored-behind store (st .used) (o .bytes) (p .bytes) (st .used + length (o .bytes)) used refl;
+      ∙ stored-then store (st .used) (o .bytes) (p .bytes) (st .used + length (o .bytes)) used refl;
   tree-is = k .tree-is ∙ ap (λ (l : List ℕ). stored l (32 * (st .made + length (o .slots))) (cells (p .slots))) (h .tree-is)
-      ∙ stored-behind tree (32 * st .made) (cells (o .slots)) (cells (p .slots)) (32 * (st .made + length (o .slots))) (omega (arith, h .most)) (omega (arith, length-cells (o .slots)))
+      ∙ stored-then tree (32 * st .made) (cells (o .slots)) (cells (p .slots)) (32 * (st .made + length (o .slots))) (omega (arith, h .most)) (omega (arith, length-cells (o .slots)))
       ∙ ap (stored tree (32 * st .made)) (sym (cells-append (o .slots) (p .slots)));
 }
 

@@ -1,5 +1,5 @@
 use borrow.Author.Needs.{needs}
-use Rattle.plan.proofs.Composing.{composed-before, composed-behind, composed-here}
+use Rattle.plan.proofs.Composing.{composed-before, composed-after, composed-here}
 use Rattle.plan.proofs.component.composed.Statement.{statement}
 use Rattle.plan.proofs.component.composed.Tie as tie
 use Rattle.plan.proofs.component.composed.Reads as reads
@@ -30,7 +30,7 @@ planned-component-requires-2 : tie.Need-planned-component-requires-2
 planned-component-requires-2 c κs = search needs
 
 returns-3 : tie.Need-returns-3
-returns-3 c = search (needs, composed-behind)
+returns-3 c = search (needs, composed-after)
 
 pub composed-spec : {M : Type 1} → statement M
 composed-spec =
