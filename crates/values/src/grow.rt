@@ -121,7 +121,8 @@ fn make_item(tree: &mut [u8], here: Here) -> Grown
 fn push_new(tree: &mut [u8], here: Here, segment: Segment) -> Grown
     requires { ⌜ Keys (here .limit) (now tree) (here .made) (segment .from) (segment .end) ⌝ }
     ensures { λ r. ⌜ Grew (here .limit) (now (tree .entry)) (now (tree .exit)) (here .made) (onward
-        (makeS (here .limit) (slotsOf (now (tree .entry)) (here .made)) (keyedSlot 4 (here .place) (segOf (segment .from) (segment .end))))
+        (makeS (here .limit) (slotsOf (now (tree .entry)) (here .made))
+        (keyedSlot 4 (here .place) (segOf (segment .from) (segment .end))))
         (itemS (here .limit))) r ⌝ }
 {
     let g = make_keyed(tree, KIND_ARRAY, here, segment);
