@@ -117,7 +117,7 @@ pub enum Key {
 pub fn width() -> u32
     ensures { λ r. ⌜ r ≡ 32 ⌝ }
 {
-    32
+    VALUE_BYTES as u32
 }
 
 // How many values a room takes.

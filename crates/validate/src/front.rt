@@ -4,6 +4,7 @@ use parse::Refusal;
 use schema::Board;
 use schema::Chip;
 use schema::Image;
+use schema::LONGEST_NAME;
 use schema::Media;
 use schema::Text;
 use schema::Word;
@@ -180,7 +181,7 @@ pub fn check_front(store: &[u8], name: &[u8], b: Board, i: Image) -> Refusal
         return parse::refusal_at(parse::IN_BOARD, 32, 0);
     }
     let app = i.app;
-    if 32 < size(store, name, app) {
+    if LONGEST_NAME < size(store, name, app) {
         return parse::refusal_at(parse::IN_IMAGE, 33, 0);
     }
     let target = b.target;
