@@ -16,7 +16,7 @@ use Rattle.meaning.specs.Plan.{Selection, bootChain, app, Build, built, Source,
 use Rattle.meaning.specs.Plan.{Plan, Planned, componentOf, partitionFor, plan, computes}
 
 abbrev pub planning : Selection → List ℕ → Answer Planned
-planning selection text = plan of01 32 32768 65536 (ascii "board") selection text
+planning selection text = plan of01 32768 65536 (ascii "board") selection text
 
 -- ---- 01's example
 

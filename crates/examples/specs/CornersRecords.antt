@@ -284,7 +284,7 @@ application-full = refl
 
 -- a preset from the text in lent rooms of so many bytes, to whose board `board` is lent
 abbrev in-rooms : ℕ → ℕ → List ℕ → Answer whole.Read
-in-rooms store tree s = whole.read of01 32 store tree (ascii "board") s
+in-rooms store tree s = whole.read of01 store tree (ascii "board") s
 
 -- corner 33: `x.aic` is not in the store, which has the segments alone: `[apps.x]`
 pub not-stored : acceptedThen (in-rooms 32768 65536 (ascii "[apps.x]")) (λ r. accepted (r .parsed .bytes))

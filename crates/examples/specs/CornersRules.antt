@@ -24,7 +24,7 @@ at number section place = record { number = number; section = section; place = p
 
 -- what validation says of a text
 unfoldable pub says : List ℕ → Says
-says s = said (validate of01 32 32768 65536 (ascii "board") s)
+says s = said (validate of01 32768 65536 (ascii "board") s)
 
 -- a partition `boot`, and a component that is loaded there
 abbrev boot : List String

@@ -156,13 +156,13 @@ preset = record {
 }
 
 -- "lends `board`"
-pub example-preset : whole.read of01 32 32768 65536 (ascii "board") example
+pub example-preset : whole.read of01 32768 65536 (ascii "board") example
     ≡ accepted (record { parsed = record { root = tree; bytes = store; made = 21 }; preset = preset })
 unfolding whole.computes
 example-preset = refl
 
 -- "Output", byte for byte
-pub example-listing : printed (listing of01 32 32768 65536 (outSize (ascii "board")) (ascii "board") example)
+pub example-listing : printed (listing of01 32768 65536 (outSize (ascii "board")) (ascii "board") example)
     ≡ lined (
     "ok d13x spi-nor 2 1 1 21"
     ∷ "part boot 0 262144"
@@ -177,7 +177,7 @@ unfolding listings.computes
 example-listing = refl
 
 -- "A refusal prints `refused`, number, section, place.": of P12's empty text
-pub empty-listing : printed (listing of01 32 32768 65536 (outSize (ascii "board")) (ascii "board") [])
+pub empty-listing : printed (listing of01 32768 65536 (outSize (ascii "board")) (ascii "board") [])
     ≡ lined ("refused 40 3 0" ∷ [])
 unfolding listings.computes
 empty-listing = refl

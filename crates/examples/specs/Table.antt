@@ -50,7 +50,7 @@ pub record P : Type 0 where
   -- P11 "line `x`, then `]`, is 3 at line 2"
   pub p11 : document of01 (ascii "x\n]") ≡ atLine 3 2
   -- P12 "empty text is 40"
-  pub p12 : validate of01 32 32768 65536 (ascii "board") [] ≡ refused (numbered 40) inPartition 0
+  pub p12 : validate of01 32768 65536 (ascii "board") [] ≡ refused (numbered 40) inPartition 0
 
 pub held : P
 unfolding

@@ -27,7 +27,7 @@ use Rattle.text.specs.Walk.{next, Follows}
 use Rattle.text.specs.Answers.{Count, answerOf, measured, Small, Reads}
 use Rattle.host.specs.declared.Lines.{Lines}
 use Rattle.host.specs.declared.Line.{Line}
-use Rattle.host.specs.Text.{noLine, lineOf, linesOf, refusedAt, judged, roomOf, Exported}
+use Rattle.host.specs.Text.{noLine, lineOf, linesOf, refusedAt, judged, Exported}
 
 -- ---- text_next
 module _ (s : List ℕ) (at n : ℕ) (r : Next) (f : Follows s at n r) where

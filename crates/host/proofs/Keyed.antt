@@ -21,7 +21,7 @@ use Rattle.scalar.proofs.Keying.{Accepted, accepted}
 use Rattle.toml_lite.specs.Rooms.{verdictNumber}
 use Rattle.toml_lite.proofs.Keying.{verdict-fine, verdict-bad}
 use Rattle.host.specs.declared.single_values.Segments.{Segments}
-use Rattle.host.specs.Values.{segmentsOf, splitRoom, endOf, Split, Ends}
+use Rattle.host.specs.Values.{segmentsOf, endOf, Split, Ends}
 use Rattle.slices.proofs.Zeroing.{length-zeros}
 
 zeros-at : (n i : ℕ) → getD (zeros n) i 0 ≡ 0

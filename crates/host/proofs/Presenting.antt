@@ -10,13 +10,13 @@ use lib.Dec.{ltb}
 use lib.ListN.{length}
 use Rattle.meaning.specs.Base.{pick, zeros}
 use Rattle.meaning.specs.Limits.{of01}
-use Rattle.meaning.specs.Refusal.{Answer, accepted, refused, numberOf, inText}
+use Rattle.meaning.specs.Refusal.{Answer, accepted, refused, numberOf, inText, atLine}
 use Rattle.meaning.specs.Document.{Parsed, inRooms}
 use Rattle.meaning.specs.Tree.{table}
 use Rattle.laws.specs.Cases.{on}
 use Rattle.scalar.specs.Stores.{over}
 use Rattle.values.specs.declared.State.{State}
-use Rattle.values.specs.Doc.{Doc}
+use Rattle.values.specs.Doc.{Doc, documentS}
 use Rattle.agree.specs.Steps.{Agree}
 use Rattle.agree.specs.Rooms.{carried}
 use Rattle.agree.specs.Whole.{Doc-agrees}
@@ -37,14 +37,28 @@ use Rattle.tree.specs.Order.{next}
 use Rattle.tree.specs.Steps.{itemsFrom, toCome, Gives, item-given, item-ended, Begins, KeyGives, key-given, key-ended}
 use Rattle.toml_lite.specs.declared.Read.{Read}
 use Rattle.toml_lite.specs.declared.Read.the-variants.{Fine, Fault}
-use Rattle.toml_lite.specs.Rooms.{readOf, Small, Cleared, suffice, judged, treeOf}
+use Rattle.toml_lite.specs.Rooms.{readOf, Small, Cleared, suffice, judged}
+use Rattle.toml_lite.proofs.Reading.{suffices}
 use Rattle.host.specs.declared.documents.Outcome.{Outcome}
 use Rattle.host.specs.declared.documents.At.{At}
-use Rattle.host.specs.Documents.{outcomeOf, storeOf, Presented, atOf, within, childShown, lastVisited, nextShown}
+use Rattle.host.specs.Documents.{outcomeOf, Presented, atOf, within, childShown, lastVisited, nextShown}
 use Rattle.slices.proofs.Zeroing.{length-zeros}
 
+-- what is accepted in the rooms is accepted
+no-17 : {G : Type 0} (d : Doc) → atLine 17 0 ≡ accepted d → G
+no-17 d e = let z : _≡_ {A = ℕ} 0 1 = cc in absurd (omega arith)
+
+pub judged-is : (s : List ℕ) (n m : ℕ) (d : Doc) → judged s n m ≡ accepted d → documentS of01 s ≡ accepted d
+unfolding judged
+judged-is s n m d e = on (suffice n m) (λ p. rw p at e) (λ p. no-17 d (rw p at e))
+
+-- and the rooms are large
+pub large : (s : List ℕ) (n m : ℕ) (d : Doc) → judged s n m ≡ accepted d → (32768 ≤ n) × (65536 ≤ m)
+unfolding judged
+large s n m d e = on (suffice n m) (λ p. suffices n m p) (λ p. no-17 d (rw p at e))
+
 -- both levels judge the rooms alike
-pub judged-agrees : (s : List ℕ) (n m : ℕ) → Doc-agrees [] (inRooms of01 32 n m s) (judged s n m)
+pub judged-agrees : (s : List ℕ) (n m : ℕ) → Doc-agrees [] (inRooms of01 n m s) (judged s n m)
 unfolding inRooms judged suffice
 judged-agrees s n m =
     on (ltb n 32768) (λ p. rw p (refl, refl, refl))
@@ -59,9 +73,9 @@ module _ (s store tree store' tree' : List ℕ) (r : Read)
   line-fits k l e = let t : Small 65536 (Fault k l) = rw e at (c .told .small) in record { fits = omega arith }
 
   pub fine-out : (st : State) → r ≡ Fine st → Presented s store tree store' tree' (record { number = 0; section = 0; place = 0; made = st .made })
-  fine-out st e = go (inRooms of01 32 (length store) (length tree) s) (judged s (length store) (length tree)) refl refl (judged-agrees s (length store) (length tree)) c
+  fine-out st e = go (inRooms of01 (length store) (length tree) s) (judged s (length store) (length tree)) refl refl (judged-agrees s (length store) (length tree)) c
     where
-      go : (a : Answer Parsed) (b : Answer Doc) → a ≡ inRooms of01 32 (length store) (length tree) s → b ≡ judged s (length store) (length tree) → Doc-agrees [] a b
+      go : (a : Answer Parsed) (b : Answer Doc) → a ≡ inRooms of01 (length store) (length tree) s → b ≡ judged s (length store) (length tree) → Doc-agrees [] a b
           → Cleared (zeros (length store)) (zeros (length tree)) store' tree' b r → Presented s store tree store' tree' (record { number = 0; section = 0; place = 0; made = st .made })
       go (accepted p) (accepted d) ea eb h c =
           let x : Fine st ≡ readOf (accepted d) = sym e ∙ c .told .says in
@@ -71,7 +85,7 @@ module _ (s store tree store' tree' : List ℕ) (r : Read)
           record {
             says = rw (← ea, z);
             store-is = rw (← ea) w;
-            tree-is = rw (← eb) (c .tree-is);
+            tree-is = rw (← ea, judged-is s (length store) (length tree) d (sym eb)) (c .tree-is);
             shows = rw (← ea)
                 (record {
                   slots = d .slots;
@@ -86,9 +100,9 @@ module _ (s store tree store' tree' : List ℕ) (r : Read)
           let x : Fine st ≡ Fault (numberOf f') q' = sym e ∙ c .told .says in let z : _≡_ {A = ℕ} 0 1 = cc in absurd (omega arith)
 
   pub fault-out : (k l : ℕ) → r ≡ Fault k l → Presented s store tree store' tree' (record { number = k; section = 0; place = l; made = 0 })
-  fault-out k l e = go (inRooms of01 32 (length store) (length tree) s) (judged s (length store) (length tree)) refl refl (judged-agrees s (length store) (length tree)) c
+  fault-out k l e = go (inRooms of01 (length store) (length tree) s) (judged s (length store) (length tree)) refl refl (judged-agrees s (length store) (length tree)) c
     where
-      go : (a : Answer Parsed) (b : Answer Doc) → a ≡ inRooms of01 32 (length store) (length tree) s → b ≡ judged s (length store) (length tree) → Doc-agrees [] a b
+      go : (a : Answer Parsed) (b : Answer Doc) → a ≡ inRooms of01 (length store) (length tree) s → b ≡ judged s (length store) (length tree) → Doc-agrees [] a b
           → Cleared (zeros (length store)) (zeros (length tree)) store' tree' b r → Presented s store tree store' tree' (record { number = k; section = 0; place = l; made = 0 })
       go (accepted p) (accepted d) ea eb h c =
           let x : Fault k l ≡ readOf (accepted d) = sym e ∙ c .told .says in let z : _≡_ {A = ℕ} 0 1 = cc in absurd (omega arith)
@@ -101,7 +115,7 @@ module _ (s store tree store' tree' : List ℕ) (r : Read)
           record {
             says = rw (← ea, h .0, v, h .2, u, w);
             store-is = rw (← ea) (c .store-is ∙ ap zeros (length-zeros (length store)));
-            tree-is = rw (← eb) (c .tree-is);
+            tree-is = rw (← ea) (c .tree-is ∙ ap zeros (length-zeros (length tree)));
             shows = rw (← ea) tt;
           }
 

@@ -31,8 +31,7 @@ use Rattle.agree.specs.Whole.{Doc-agrees}
 use Rattle.agree.specs.Theorem.{bytes-fit, slots-fit}
 use Rattle.agree.specs.Doors as doors
 use Rattle.toml_lite.specs.Rooms as rooms
-use Rattle.toml_lite.specs.Rooms.{suffice, judged}
-use Rattle.toml_lite.proofs.Reading.{suffices}
+use Rattle.toml_lite.specs.Rooms.{judged}
 use Rattle.parse.specs.declared.Refusal.{Refusal}
 use Rattle.preset.specs.declared.Outcome as parsed
 use Rattle.parse.specs.Refusals.{earlier}
@@ -52,30 +51,18 @@ use Rattle.plan.specs.ChoiceSaid.{selection, selected, plan-says}
 use Rattle.plan.specs.Planning.{planning}
 use Rattle.host.specs.declared.documents.Outcome.{Outcome}
 use Rattle.host.specs.Documents.{Shown}
-use Rattle.host.specs.Presets.{outcomeBy, storeBy, treeBy, Recorded, Records, Answered, recorded, validated, exported}
+use Rattle.host.specs.Presets.{outcomeBy, Recorded, Records, Answered, recorded, validated, exported}
 use Rattle.host.specs.Plans.{planned}
 use Rattle.slices.proofs.Zeroing.{length-zeros}
-use Rattle.host.proofs.Presenting.{judged-agrees}
+use Rattle.host.proofs.Presenting.{judged-is, large, judged-agrees}
 
 -- ---- an accepted text is short
 no-one : {G : Type 0} (d : Doc) → atLine 1 0 ≡ accepted d → G
 no-one d e = let z : _≡_ {A = ℕ} 0 1 = cc in absurd (omega arith)
 
-no-17 : {G : Type 0} (d : Doc) → atLine 17 0 ≡ accepted d → G
-no-17 d e = let z : _≡_ {A = ℕ} 0 1 = cc in absurd (omega arith)
-
 short : (s : List ℕ) (d : Doc) → documentS of01 s ≡ accepted d → length s ≤ 32768
 unfolding documentS
 short s d e = on (ltb 32768 (length s)) (λ p. no-one d (rw p at e)) (λ p. ltb-false 32768 (length s) p)
-
-judged-is : (s : List ℕ) (n m : ℕ) (d : Doc) → judged s n m ≡ accepted d → documentS of01 s ≡ accepted d
-unfolding judged
-judged-is s n m d e = on (suffice n m) (λ p. rw p at e) (λ p. no-17 d (rw p at e))
-
--- and the rooms are large
-large : (s : List ℕ) (n m : ℕ) (d : Doc) → judged s n m ≡ accepted d → (32768 ≤ n) × (65536 ≤ m)
-unfolding judged
-large s n m d e = on (suffice n m) (λ p. suffices n m p) (λ p. no-17 d (rw p at e))
 
 few-bytes : (s : List ℕ) (n m : ℕ) (d : Doc) → judged s n m ≡ accepted d → length (d .bytes) < 65536
 few-bytes s n m d e = let k = judged-is s n m d e in omega (arith, bytes-fit of01 s d k, short s d k)
@@ -125,9 +112,9 @@ module _ (judge : List ℕ → List ℕ → ℕ → Refusal) (way : Table → An
     found = judge room bytes made
 
     -- ---- 01's answer, from the judge's
-    module _ (ep : inRooms of01 32 (length store) (length tree) text ≡ accepted p) where
+    module _ (ep : inRooms of01 (length store) (length tree) text ≡ accepted p) where
       abbrev its : Answer Read
-      its = answer way (inRooms of01 32 (length store) (length tree) text)
+      its = answer way (inRooms of01 (length store) (length tree) text)
 
       answer-fine : found .number ≡ 0 → its ≡ accepted (record { parsed = p; preset = presetIn room bytes made name })
       answer-fine z = rw (ep, says-accepted (way (p .root)) found _ says z)
@@ -177,7 +164,7 @@ module _ (judge : List ℕ → List ℕ → ℕ → Refusal) (way : Table → An
           record {
             says = rw (e, eo, mm);
             store-is = rw e (es ∙ ap (λ (b : List ℕ). over b (zeros (length store))) (h .0));
-            tree-is = rw (e, ed) et;
+            tree-is = rw (e, doc) et;
             shows = rw e (record { shown = shown es et; stands = rw (mm, et) sounds; clear = rw (mm, es, et) (js .clear room bytes made z); records = rw (mm, es, et) });
           }
 
@@ -197,13 +184,13 @@ module _ (judge : List ℕ → List ℕ → ℕ → Refusal) (way : Table → An
 -- ---- every text
 pub answered-is : (judge : List ℕ → List ℕ → ℕ → Refusal) (way : Table → Answer meant.Preset) (text name store tree store' tree' : List ℕ) (o : parsed.Outcome) → Judges name judge way
     → settled.Parsed judge text store tree store' tree' o
-    → Answered (answer way (inRooms of01 32 (length store) (length tree) text)) text name store tree store' tree' (exported o)
+    → Answered (answer way (inRooms of01 (length store) (length tree) text)) text name store tree store' tree' (exported o)
 answered-is judge way text name store tree store' tree' o js r =
-    go (inRooms of01 32 (length store) (length tree) text) (judged text (length store) (length tree)) refl refl (judged-agrees text (length store) (length tree)) (r .by)
+    go (inRooms of01 (length store) (length tree) text) (judged text (length store) (length tree)) refl refl (judged-agrees text (length store) (length tree)) (r .by)
   where
-    go : (a : Answer Parsed) (b : Answer Doc) → inRooms of01 32 (length store) (length tree) text ≡ a → judged text (length store) (length tree) ≡ b → Doc-agrees [] a b
+    go : (a : Answer Parsed) (b : Answer Doc) → inRooms of01 (length store) (length tree) text ≡ a → judged text (length store) (length tree) ≡ b → Doc-agrees [] a b
         → settled.ReadBy judge b (zeros (length store)) (zeros (length tree)) store' tree' o
-        → Answered (answer way (inRooms of01 32 (length store) (length tree) text)) text name store tree store' tree' (exported o)
+        → Answered (answer way (inRooms of01 (length store) (length tree) text)) text name store tree store' tree' (exported o)
     go (accepted p) (accepted d) ea eb h j =
         on (eqb (found judge way text name store tree js p d eb h store' tree' o j .number) 0)
         (λ z. answered-fine judge way text name store tree js p d eb h store' tree' o j ea (eqb-true (found judge way text name store tree js p d eb h store' tree' o j .number) 0 z))
@@ -221,13 +208,13 @@ answered-is judge way text name store tree store' tree' o js r =
 -- a tree that the judge passes is accepted by 01
 pub accepted-is : (judge : List ℕ → List ℕ → ℕ → Refusal) (way : Table → Answer meant.Preset) (text name store tree store' tree' : List ℕ) (o : parsed.Outcome) → Judges name judge way
     → settled.Parsed judge text store tree store' tree' o → (d : Doc) → judged text (length store) (length tree) ≡ accepted d → o .number ≡ 0
-    → (p : Read) × (answer way (inRooms of01 32 (length store) (length tree) text) ≡ accepted p)
+    → (p : Read) × (answer way (inRooms of01 (length store) (length tree) text) ≡ accepted p)
 accepted-is judge way text name store tree store' tree' o js r d ed z =
-    go (inRooms of01 32 (length store) (length tree) text) (judged text (length store) (length tree)) refl refl (judged-agrees text (length store) (length tree)) (r .by)
+    go (inRooms of01 (length store) (length tree) text) (judged text (length store) (length tree)) refl refl (judged-agrees text (length store) (length tree)) (r .by)
   where
-    go : (a : Answer Parsed) (b : Answer Doc) → inRooms of01 32 (length store) (length tree) text ≡ a → judged text (length store) (length tree) ≡ b → Doc-agrees [] a b
+    go : (a : Answer Parsed) (b : Answer Doc) → inRooms of01 (length store) (length tree) text ≡ a → judged text (length store) (length tree) ≡ b → Doc-agrees [] a b
         → settled.ReadBy judge b (zeros (length store)) (zeros (length tree)) store' tree' o
-        → (p : Read) × (answer way (inRooms of01 32 (length store) (length tree) text) ≡ accepted p)
+        → (p : Read) × (answer way (inRooms of01 (length store) (length tree) text) ≡ accepted p)
     go (accepted p) (accepted c) ea eb h j =
         let v = found judge way text name store tree js p c eb h store' tree' o j in
         on (eqb (v .number) 0)
@@ -298,9 +285,9 @@ validating-judges name =
     judges-next name (verdicts.reading name) (λ room store made. faults.verdict room store made name) (presetOf of01 name) rules (λ room store made. tt) (reading-judges name)
     (λ room store made. rules-say room store made name)
 
-validated-is : (text name store tree : List ℕ) → validated text name store tree ≡ answer (rulesOver name) (inRooms of01 32 (length store) (length tree) text)
+validated-is : (text name store tree : List ℕ) → validated text name store tree ≡ answer (rulesOver name) (inRooms of01 (length store) (length tree) text)
 unfolding validate read
-validated-is text name store tree = answer-next (inRooms of01 32 (length store) (length tree) text) (presetOf of01 name) rules
+validated-is text name store tree = answer-next (inRooms of01 (length store) (length tree) text) (presetOf of01 name) rules
 
 pub valid-is : (text name store tree store' tree' : List ℕ) (o : parsed.Outcome) (q : Outcome) → settled.Parsed (validating name) text store tree store' tree' o → q ≡ exported o
     → Answered (validated text name store tree) text name store tree store' tree' q
@@ -319,10 +306,10 @@ planning-judges name app key =
     (λ room store made. plan-says room store made name app key)
 
 planned-is : (text name : List ℕ) (app : ℕ) (key store tree : List ℕ)
-    → planned text name app key store tree ≡ answer (planOver name app key) (inRooms of01 32 (length store) (length tree) text)
+    → planned text name app key store tree ≡ answer (planOver name app key) (inRooms of01 (length store) (length tree) text)
 planned-is text name app key store tree =
     rw (validated-is text name store tree)
-    (answer-next (inRooms of01 32 (length store) (length tree) text) (rulesOver name) (λ preset. plans.planOf preset (selection app key)))
+    (answer-next (inRooms of01 (length store) (length tree) text) (rulesOver name) (λ preset. plans.planOf preset (selection app key)))
 
 pub plan-is : (text name : List ℕ) (app : ℕ) (key store tree store' tree' : List ℕ) (o : parsed.Outcome) (q : Outcome) → settled.Parsed (planning name app key) text store tree store' tree' o
     → q ≡ exported o → Answered (planned text name app key store tree) text name store tree store' tree' q
@@ -339,10 +326,10 @@ plan-accepted text name app key store tree store' tree' o r d ed z =
 -- and what it accepts has a tree
 pub plan-judged : (text name : List ℕ) (app : ℕ) (key store tree : List ℕ) (p : Read) → planned text name app key store tree ≡ accepted p → (d : Doc) × (judged text (length store) (length tree) ≡ accepted d)
 plan-judged text name app key store tree p e =
-    go (inRooms of01 32 (length store) (length tree) text) (judged text (length store) (length tree)) refl refl (judged-agrees text (length store) (length tree)) (sym (planned-is text name app key store tree) ∙ e)
+    go (inRooms of01 (length store) (length tree) text) (judged text (length store) (length tree)) refl refl (judged-agrees text (length store) (length tree)) (sym (planned-is text name app key store tree) ∙ e)
   where
-    go : (a : Answer Parsed) (b : Answer Doc) → inRooms of01 32 (length store) (length tree) text ≡ a → judged text (length store) (length tree) ≡ b → Doc-agrees [] a b
-        → answer (planOver name app key) (inRooms of01 32 (length store) (length tree) text) ≡ accepted p → (d : Doc) × (judged text (length store) (length tree) ≡ accepted d)
+    go : (a : Answer Parsed) (b : Answer Doc) → inRooms of01 (length store) (length tree) text ≡ a → judged text (length store) (length tree) ≡ b → Doc-agrees [] a b
+        → answer (planOver name app key) (inRooms of01 (length store) (length tree) text) ≡ accepted p → (d : Doc) × (judged text (length store) (length tree) ≡ accepted d)
     go a (accepted d) ea eb h k = (d, eb)
     go (accepted x) (refused f i q) ea eb h k = absurd h
     go (refused f i q) (refused f' i' q') ea eb h k = let x : refused f i q ≡ accepted p = rw ea at k in let y : _≡_ {A = ℕ} 0 1 = cc in absurd (omega arith)

@@ -34,10 +34,10 @@ use Rattle.preset.specs.Settled.{Parsed}
 use Rattle.preset.specs.Listings as entries
 use Rattle.host.specs.declared.documents.Outcome.{Outcome}
 use Rattle.host.specs.declared.listings.Listed.{Listed}
-use Rattle.host.specs.Presets.{Recorded, Answered, outcomeBy, storeBy, treeBy, Records, exported}
+use Rattle.host.specs.Presets.{Recorded, Answered, outcomeBy, Records, exported}
 use Rattle.host.specs.Plans.{planned}
 use Rattle.host.specs.Planned.{plan, planned-read, planned-made}
-use Rattle.host.specs.Listings.{listedBy, outBy, readBy, listing, ReportedBy, Reported}
+use Rattle.host.specs.Listings.{listedBy, readBy, listing, ReportedBy, Reported}
 use Rattle.host.proofs.Recording.{plan-is, plan-accepted, plan-judged}
 
 -- the same numbers
@@ -147,7 +147,7 @@ module _ (text name store tree out store' tree' out' : List ℕ) (r : lists.List
             ∙ ap (linesOf made (p .preset)) plan-is-its
 
         fits : length (meant.listed x .lines) ≤ outSize name
-        fits = planned-fits 32 (length store) (length tree) name text x (its .2)
+        fits = planned-fits (length store) (length tree) name text x (its .2)
 
         accepted-is : Reported text name store tree out store' tree' out' (shown r)
         accepted-is =

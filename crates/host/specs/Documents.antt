@@ -4,12 +4,12 @@ use mathlib.Core.List.{List}
 use mathlib.Core.Path.{_≡_}
 use lib.Dec.{eqb, ltb}
 use lib.ListN.{length}
-use Rattle.meaning.specs.Base.{pick, zeros}
+use Rattle.meaning.specs.Base.{pick}
 use Rattle.meaning.specs.Limits.{of01}
 use Rattle.meaning.specs.Refusal.{Answer, accepted, refused, numberOf}
+use Rattle.meaning.specs.Rooms.{roomAfter}
 use Rattle.meaning.specs.Tree.{table}
 use Rattle.meaning.specs.Document.{Parsed, inRooms}
-use Rattle.scalar.specs.Stores.{over}
 use Rattle.tree.specs.declared.Slot.{Slot}
 use Rattle.tree.specs.declared.Found.{Found}
 use Rattle.tree.specs.declared.Found.the-variants.{Nothing}
@@ -18,7 +18,7 @@ use Rattle.tree.specs.Room.{slotAt, look, child}
 use Rattle.tree.specs.Order.{next}
 use Rattle.agree.specs.Steps.{Agree}
 use Rattle.agree.specs.Rooms.{Carried}
-use Rattle.toml_lite.specs.Rooms.{judged, treeOf}
+use Rattle.toml_lite.specs.Rooms.{valuesOf}
 use Rattle.host.specs.declared.documents.Outcome.{Outcome}
 use Rattle.host.specs.declared.documents.At.{At}
 
@@ -26,11 +26,6 @@ use Rattle.host.specs.declared.documents.At.{At}
 abbrev pub outcomeOf : Answer Parsed → Outcome
 outcomeOf (accepted p) = record { number = 0; section = 0; place = 0; made = p .made }
 outcomeOf (refused f section place) = record { number = numberOf f; section = section; place = place; made = 0 }
-
--- "Every key segment and string value is decoded into the store .. The rest of both rooms is zero"; "all lent rooms then hold zero"
-abbrev pub storeOf : ℕ → Answer Parsed → List ℕ
-storeOf n (accepted p) = over (p .bytes) (zeros n)
-storeOf n (refused f section place) = zeros n
 
 -- the rooms show 01's tree: values whose kinds, keys, items and payloads along every path are its
 pub record Shown (store tree : List ℕ) (p : Parsed) : Type 0 where
@@ -43,12 +38,16 @@ abbrev pub Shows : List ℕ → List ℕ → Answer Parsed → Type 0
 Shows store tree (accepted p) = Shown store tree p
 Shows store tree (refused f section place) = Unit
 
--- what reading a preset leaves: the answer and the store by 01's definition, and a tree room that shows 01's tree, byte for byte by the values of `toml_lite/specs/Doc`
+-- 01's answer to a text and rooms of these lengths: its tree
+abbrev pub parsed : List ℕ → List ℕ → List ℕ → Answer Parsed
+parsed s store tree = inRooms of01 (length store) (length tree) s
+
+-- what reading a text leaves: the answer and the store by 01's definition, and a tree room that shows 01's tree, byte for byte by `toml_lite/specs/Rooms.valuesOf`
 pub record Presented (s store tree store' tree' : List ℕ) (r : Outcome) : Type 0 where
-  pub says : r ≡ outcomeOf (inRooms of01 32 (length store) (length tree) s)
-  pub store-is : store' ≡ storeOf (length store) (inRooms of01 32 (length store) (length tree) s)
-  pub tree-is : tree' ≡ treeOf (zeros (length tree)) (judged s (length store) (length tree))
-  pub shows : Shows store' tree' (inRooms of01 32 (length store) (length tree) s)
+  pub says : r ≡ outcomeOf (parsed s store tree)
+  pub store-is : store' ≡ roomAfter (λ p. p .bytes) (length store) (parsed s store tree)
+  pub tree-is : tree' ≡ roomAfter (λ p. valuesOf s) (length tree) (parsed s store tree)
+  pub shows : Shows store' tree' (parsed s store tree)
 
 -- ---- views
 abbrev pub atOf : Found → At

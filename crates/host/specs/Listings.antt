@@ -3,24 +3,19 @@ use Prim.Native.Nat.{ℕ}
 use mathlib.Core.List.{List}
 use mathlib.Core.Path.{_≡_, sym, _∙_}
 use lib.ListN.{length}
-use Rattle.meaning.specs.Base.{zeros}
 use Rattle.meaning.specs.Limits.{of01}
 use Rattle.meaning.specs.Refusal.{Answer, accepted, refused, numberOf, acceptedThen}
+use Rattle.meaning.specs.Rooms.{roomAfter, outputAfter}
 use Rattle.meaning.specs.Preset.{Read}
 use Rattle.meaning.specs.Listing as meant
-use Rattle.scalar.specs.Stores.{over}
+use Rattle.toml_lite.specs.Rooms.{valuesOf}
 use Rattle.host.specs.declared.listings.Listed.{Listed}
-use Rattle.host.specs.Presets.{storeBy, treeBy, Records}
+use Rattle.host.specs.Presets.{Records}
 
 -- "A refusal returns its number, a section .. and a place"
 abbrev pub listedBy : Answer meant.Listed → Listed
 listedBy (accepted l) = record { number = 0; section = 0; place = 0; written = length (l .lines) }
 listedBy (refused f section place) = record { number = numberOf f; section = section; place = place; written = 0 }
-
--- the lines, and the output after them as it was; "all lent rooms then hold zero"
-abbrev pub outBy : List ℕ → Answer meant.Listed → List ℕ
-outBy out (accepted l) = over (l .lines) out
-outBy out (refused f section place) = zeros (length out)
 
 -- what was read for it
 abbrev pub readBy : Answer meant.Listed → Answer Read
@@ -28,14 +23,14 @@ readBy a = acceptedThen a (λ l. accepted (l .planned .read))
 
 -- 01's answer to a text, a lent name and rooms of these lengths: its listing
 abbrev pub listing : List ℕ → List ℕ → List ℕ → List ℕ → List ℕ → Answer meant.Listed
-listing text name store tree out = meant.listing of01 32 (length store) (length tree) (length out) name text
+listing text name store tree out = meant.listing of01 (length store) (length tree) (length out) name text
 
 -- what a call leaves that has this answer to a text, by what the output held before
 pub record ReportedBy (a : Answer meant.Listed) (text name store tree out store' tree' out' : List ℕ) (r : Listed) : Type 0 where
   pub says : r ≡ listedBy a
-  pub store-is : store' ≡ storeBy (length store) (readBy a)
-  pub tree-is : tree' ≡ treeBy text (length store) (length tree) (readBy a)
-  pub out-is : out' ≡ outBy out a
+  pub store-is : store' ≡ roomAfter (λ x. x .parsed .bytes) (length store) (readBy a)
+  pub tree-is : tree' ≡ roomAfter (λ x. valuesOf text) (length tree) (readBy a)
+  pub out-is : out' ≡ outputAfter (λ l. l .lines) out a
   pub shows : Records name store' tree' (readBy a)
 
 abbrev pub Reported : List ℕ → List ℕ → List ℕ → List ℕ → List ℕ → List ℕ → List ℕ → List ℕ → Listed → Type 0

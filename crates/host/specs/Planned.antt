@@ -53,7 +53,7 @@ use Rattle.host.specs.Records.{bytesOf, partitionOf}
 module _ (text name : List ℕ) (app : ℕ) (key store tree : List ℕ) where
   -- 01's answer to a text, a lent name, a selection and rooms of these lengths
   abbrev pub plan : Answer meant.Planned
-  plan = meant.plan of01 32 (length store) (length tree) name (selection app key) text
+  plan = meant.plan of01 (length store) (length tree) name (selection app key) text
 
   -- the records of a plan are those of what was read
   pub planned-read : planned text name app key store tree ≡ acceptedThen plan (λ x. accepted (x .read))

@@ -4,13 +4,12 @@ use mathlib.Core.Bool.{true}
 use mathlib.Core.List.{List}
 use mathlib.Core.Path.{_≡_}
 use lib.ListN.{length}
-use Rattle.meaning.specs.Base.{zeros}
 use Rattle.meaning.specs.Limits.{of01}
 use Rattle.meaning.specs.Refusal.{Answer, accepted, refused, numberOf}
+use Rattle.meaning.specs.Rooms.{roomAfter}
 use Rattle.meaning.specs.Preset.{Read, read, validate}
-use Rattle.scalar.specs.Stores.{over}
 use Rattle.tree.specs.Doors.{fieldsOf}
-use Rattle.toml_lite.specs.Rooms.{judged, treeOf}
+use Rattle.toml_lite.specs.Rooms.{valuesOf}
 use Rattle.preset.specs.declared.Outcome as parsed
 use Rattle.parse.specs.Refused.{lentText, verdict}
 use Rattle.parse.specs.Views.{holdsValues}
@@ -23,16 +22,6 @@ abbrev pub outcomeBy : Answer Read → Outcome
 outcomeBy (accepted p) = record { number = 0; section = 0; place = 0; made = p .parsed .made }
 outcomeBy (refused f section place) = record { number = numberOf f; section = section; place = place; made = 0 }
 
--- the text's bytes, then zeros; "all lent rooms then hold zero"
-abbrev pub storeBy : ℕ → Answer Read → List ℕ
-storeBy n (accepted p) = over (p .parsed .bytes) (zeros n)
-storeBy n (refused f section place) = zeros n
-
--- the text's values, then zeros
-abbrev pub treeBy : List ℕ → ℕ → ℕ → Answer Read → List ℕ
-treeBy text store tree (accepted p) = treeOf (zeros tree) (judged text store tree)
-treeBy text store tree (refused f section place) = zeros tree
-
 -- the rooms show 01's tree, and what is read from them is 01's preset, without a refusal
 pub record Recorded (name store tree : List ℕ) (p : Read) : Type 0 where
   pub shown : Shown store tree (p .parsed)
@@ -44,20 +33,20 @@ abbrev pub Records : List ℕ → List ℕ → List ℕ → Answer Read → Type
 Records name store tree (accepted p) = Recorded name store tree p
 Records name store tree (refused f section place) = Unit
 
--- what a call leaves that has this answer to a text
+-- what a call leaves that has this answer to a text: its bytes in the store, its values in the tree room
 pub record Answered (a : Answer Read) (text name store tree store' tree' : List ℕ) (r : Outcome) : Type 0 where
   pub says : r ≡ outcomeBy a
-  pub store-is : store' ≡ storeBy (length store) a
-  pub tree-is : tree' ≡ treeBy text (length store) (length tree) a
+  pub store-is : store' ≡ roomAfter (λ x. x .parsed .bytes) (length store) a
+  pub tree-is : tree' ≡ roomAfter (λ x. valuesOf text) (length tree) a
   pub shows : Records name store' tree' a
 
 -- 01's answer to a text, a lent name and rooms of these lengths: its records
 abbrev pub recorded : List ℕ → List ℕ → List ℕ → List ℕ → Answer Read
-recorded text name store tree = read of01 32 (length store) (length tree) name text
+recorded text name store tree = read of01 (length store) (length tree) name text
 
 -- and one that obeys the rules
 abbrev pub validated : List ℕ → List ℕ → List ℕ → List ℕ → Answer Read
-validated text name store tree = validate of01 32 (length store) (length tree) name text
+validated text name store tree = validate of01 (length store) (length tree) name text
 
 -- the same numbers
 abbrev pub exported : parsed.Outcome → Outcome

@@ -4,10 +4,11 @@ use mathlib.Core.Bool.{Bool}
 use mathlib.Core.List.{List, [], _∷_, _++_}
 use mathlib.Core.Path.{_≡_}
 use lib.Dec.{ltb}
-use lib.ListN.{length, drop}
-use Rattle.meaning.specs.Base.{pick, zeros}
+use lib.ListN.{length}
+use Rattle.meaning.specs.Base.{pick}
 use Rattle.meaning.specs.Limits.{of01}
 use Rattle.meaning.specs.Refusal.{Answer, accepted, refused, Fault, numberOf, numbered, atNoLine}
+use Rattle.meaning.specs.Rooms.{roomAfter}
 use Rattle.meaning.specs.Lines as meant
 use Rattle.chars.specs.declared.Span as chars
 use Rattle.text.specs.declared.Next.{Next}
@@ -50,14 +51,10 @@ refusedAt n p = record { number = n; section = 0; place = p; lines = 0; used = 0
 abbrev pub judged : List ℕ → List ℕ → Answer Count
 judged s room = pick (ltb (length room) 32769) (atNoLine 17) (measured (length (laid s)) (meant.lines of01 s))
 
--- an accepted text leaves its laid lines and then zeros, a refusal only zeros
-abbrev pub roomOf : List ℕ → List ℕ → Answer Count → List ℕ
-roomOf s room (accepted c) = laid s ++ drop (length (laid s)) (zeros (length room))
-roomOf s room (refused f a p) = zeros (length room)
-
+-- an accepted text leaves its laid lines
 pub record Exported (s room room' : List ℕ) (r : Lines) : Type 0 where
   pub says : r ≡ linesOf (judged s room)
-  pub left : room' ≡ roomOf s room (judged s room)
+  pub left : room' ≡ roomAfter (λ c. laid s) (length room) (judged s room)
 
 -- there is no line, for the reason that the kind tells
 abbrev pub noLine : ℕ → ℕ → Line

@@ -5,6 +5,7 @@ use tree::Found;
 use tree::Item;
 use tree::Key;
 ghost use mathlib.Core.Path.{_≡_};
+ghost use Rattle.meaning.specs.Limits.{valueBytes};
 ghost use Rattle.host.specs.Documents.{Presented, atOf, keyShown, childShown, lastVisited, nextShown};
 
 // number 0: accepted, and then made counts the values; else 01's number, section and place.
@@ -26,7 +27,7 @@ pub struct At {
 // Bytes per value of the tree room.
 #[no_mangle]
 pub extern "C" fn preset_value_size() -> u32
-    ensures { λ r. ⌜ r ≡ 32 ⌝ }
+    ensures { λ r. ⌜ r ≡ valueBytes ⌝ }
 {
     tree::width()
 }

@@ -10,7 +10,7 @@ use lib.Dec.{ltb}
 use lib.ListN.{length, length-append}
 use Rattle.meaning.specs.Base.{pick, ascii, nil?, orDefault}
 use Rattle.meaning.specs.declared.Limits.{Limits}
-use Rattle.meaning.specs.Limits.{of01}
+use Rattle.meaning.specs.Limits.{of01, valueBytes}
 use Rattle.meaning.specs.Refusal.{accepted, acceptedThen}
 use Rattle.meaning.specs.Tree.{Table}
 use Rattle.meaning.specs.Utf8.{valid}
@@ -214,24 +214,24 @@ module _ (lim : Limits) where
   text-weighs : (s : List ℕ) (x : Parsed) → document lim s ≡ accepted x → weightIn (x .root) ≤ lim .text
   text-weighs s x e = omega (arith, subst (Weighed 0) e (document-weighs lim s), subst (Within stored (length s)) e (fits lim s), text-short s x e)
 
-  module _ (width store tree : ℕ) (name text : List ℕ) (x : Read) where
-    valid-read : validate lim width store tree name text ≡ accepted x → read lim width store tree name text ≡ accepted x
+  module _ (store tree : ℕ) (name text : List ℕ) (x : Read) where
+    valid-read : validate lim store tree name text ≡ accepted x → read lim store tree name text ≡ accepted x
     unfolding validate
     valid-read e =
-        let y = after-accepted (λ (r : Read). acceptedThen (rules (r .preset)) (λ u. accepted r)) (read lim width store tree name text) x e in
+        let y = after-accepted (λ (r : Read). acceptedThen (rules (r .preset)) (λ u. accepted r)) (read lim store tree name text) x e in
         let u = after-accepted (λ u. accepted (y .0)) (rules (y .0 .preset)) x (y .2) in
         y .1 ∙ u .2
 
-    rooms-document : (p : Parsed) → inRooms lim width store tree text ≡ accepted p → document lim text ≡ accepted p
+    rooms-document : (p : Parsed) → inRooms lim store tree text ≡ accepted p → document lim text ≡ accepted p
     unfolding inRooms
     rooms-document p e =
         on (ltb store (lim .text)) (λ t. refused-never _ _ _ p (rw t at e))
-        (λ t. on (ltb tree (width * lim .values)) (λ u. refused-never _ _ _ p (rw (t, u) at e)) (λ u. rw (t, u) at e))
+        (λ t. on (ltb tree (valueBytes * lim .values)) (λ u. refused-never _ _ _ p (rw (t, u) at e)) (λ u. rw (t, u) at e))
 
-    read-parts : read lim width store tree name text ≡ accepted x → (document lim text ≡ accepted (x .parsed)) × (presetOf lim name (x .parsed .root) ≡ accepted (x .preset))
+    read-parts : read lim store tree name text ≡ accepted x → (document lim text ≡ accepted (x .parsed)) × (presetOf lim name (x .parsed .root) ≡ accepted (x .preset))
     unfolding read
     read-parts e =
-        let y = after-accepted (λ (p : Parsed). acceptedThen (presetOf lim name (p .root)) (λ r. accepted (record { parsed = p; preset = r }))) (inRooms lim width store tree text) x e in
+        let y = after-accepted (λ (p : Parsed). acceptedThen (presetOf lim name (p .root)) (λ r. accepted (record { parsed = p; preset = r }))) (inRooms lim store tree text) x e in
         let z = after-accepted (λ r. accepted (record { parsed = y .0; preset = r })) (presetOf lim name (y .0 .root)) x (y .2) in
         subst (λ (q : Read). (document lim text ≡ accepted (q .parsed)) × (presetOf lim name (q .parsed .root) ≡ accepted (q .preset))) (accepted-one (record { parsed = y .0; preset = z .0 }) x (z .2)) (rooms-document (y .0) (y .1), z .1)
 
@@ -256,11 +256,11 @@ unfolding planOf chosen
 plan-is r p e = accepted-one (composed r bootChain none) p e
 
 -- those of an accepted plan
-pub planned-fits : (width store tree : ℕ) (name text : List ℕ) (x : Planned) → plan of01 width store tree name bootChain text ≡ accepted x → length (listed x .lines) ≤ outSize name
-planned-fits width store tree name text x e =
-    let h = text-planned of01 width store tree name text bootChain x e in
-    let q = read-parts of01 width store tree name text (x .read) (valid-read of01 width store tree name text (x .read) (h .0)) in
+pub planned-fits : (store tree : ℕ) (name text : List ℕ) (x : Planned) → plan of01 store tree name bootChain text ≡ accepted x → length (listed x .lines) ≤ outSize name
+planned-fits store tree name text x e =
+    let h = text-planned of01 store tree name text bootChain x e in
+    let q = read-parts of01 store tree name text (x .read) (valid-read of01 store tree name text (x .read) (h .0)) in
     let root = x .read .parsed .root in
     subst (λ (p : Plan). length (linesOf (x .read .parsed .made) (x .read .preset) p) ≤ outSize name) (plan-is (x .read .preset) (x .plan) (h .1))
-    (lines-fit (x .read .parsed .made) name root (x .read .preset) (valid-rules of01 width store tree name text (x .read) (h .0))
+    (lines-fit (x .read .parsed .made) name root (x .read .preset) (valid-rules of01 store tree name text (x .read) (h .0))
     (subst (Tells (Costs root 28 68 40 of01 name)) (q .1) (preset-costs root 28 68 40 of01 name)) (text-weighs of01 text (x .read .parsed) (q .0)))

@@ -10,24 +10,24 @@ use Rattle.meaning.specs.Preset.{Read, read, validate}
 use Rattle.meaning.specs.Plan.{Selection, Planned, planOf, plan}
 use Rattle.laws.specs.Answers.{accepted-one, after-accepted}
 
-module _ (lim : Limits) (width store tree : ℕ) (name text : List ℕ) where
+module _ (lim : Limits) (store tree : ℕ) (name text : List ℕ) where
   -- what is validated obeys the rules
-  pub valid-rules : (x : Read) → validate lim width store tree name text ≡ accepted x → rules (x .preset) ≡ fine
+  pub valid-rules : (x : Read) → validate lim store tree name text ≡ accepted x → rules (x .preset) ≡ fine
   unfolding validate
   valid-rules x e =
-      let y = after-accepted (λ (r : Read). acceptedThen (rules (r .preset)) (λ u. accepted r)) (read lim width store tree name text) x e in
+      let y = after-accepted (λ (r : Read). acceptedThen (rules (r .preset)) (λ u. accepted r)) (read lim store tree name text) x e in
       let u = after-accepted (λ u. accepted (y .0)) (rules (y .0 .preset)) x (y .2) in
       subst (λ (r : Read). rules (r .preset) ≡ fine) (accepted-one (y .0) x (u .2)) (u .1)
 
   module _ (s : Selection) where
     abbrev validated : Answer Read
-    validated = validate lim width store tree name text
+    validated = validate lim store tree name text
 
     abbrev ending : Read → Answer Planned
     ending x = acceptedThen (planOf (x .preset) s) (λ p. accepted (record { read = x; plan = p }))
 
     -- a plan is made of a preset that is validated
-    pub text-planned : (q : Planned) → plan lim width store tree name s text ≡ accepted q
+    pub text-planned : (q : Planned) → plan lim store tree name s text ≡ accepted q
         → (validated ≡ accepted (q .read)) × (planOf (q .read .preset) s ≡ accepted (q .plan))
     unfolding plan
     text-planned q e =

@@ -7,7 +7,7 @@ use lib.Dec.{eqb, ltb}
 use lib.ListN.{length, getD, take, drop}
 use Rattle.meaning.specs.Base.{pick, nil?, final, concat}
 use Rattle.meaning.specs.Bytes.{equalsSign, openBracket, closeBracket}
-use Rattle.meaning.specs.Limits.{Limits}
+use Rattle.meaning.specs.Limits.{Limits, valueBytes}
 use Rattle.meaning.specs.Refusal.{Answer, accepted, refused, acceptedThen, numbered, inText, atNoLine}
 use Rattle.meaning.specs.Utf8.{valid}
 use Rattle.meaning.specs.Space.{trim}
@@ -129,10 +129,10 @@ module _ (lim : Limits) where
 
   -- 17: "a lent room is too small", by its length alone: "The lent text store must take 32,768 bytes and the lent
   -- tree room 2,048 values, at a size per value fixed in docs/"
-  unfoldable pub inRooms : ℕ → ℕ → ℕ → List ℕ → Answer Parsed
-  inRooms width store tree s =
+  unfoldable pub inRooms : ℕ → ℕ → List ℕ → Answer Parsed
+  inRooms store tree s =
       pick (ltb store (lim .text)) (atNoLine 17)
-      (pick (ltb tree (width * lim .values)) (atNoLine 17) (document s))
+      (pick (ltb tree (valueBytes * lim .values)) (atNoLine 17) (document s))
 
 unfoldable pub computes : Unit {0}
 unfolding arrayHeader tableHeader form assignment readForm document inRooms

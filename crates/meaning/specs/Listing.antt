@@ -110,10 +110,10 @@ abbrev pub listed : Planned → Listed
 listed x = record { planned = x; lines = linesOf (x .read .parsed .made) (x .read .preset) (x .plan) }
 
 -- "plans the boot chain"; 17 where the output is too small, as for any lent room
-unfoldable pub listing : Limits → ℕ → ℕ → ℕ → ℕ → List ℕ → List ℕ → Answer Listed
-listing lim width store tree out name text =
+unfoldable pub listing : Limits → ℕ → ℕ → ℕ → List ℕ → List ℕ → Answer Listed
+listing lim store tree out name text =
     pick (short out name) (refused (numbered 17) inText 0)
-    (acceptedThen (plan lim width store tree name bootChain text) (λ x. accepted (listed x)))
+    (acceptedThen (plan lim store tree name bootChain text) (λ x. accepted (listed x)))
 
 -- what the program prints
 unfoldable pub printed : Answer Listed → List ℕ

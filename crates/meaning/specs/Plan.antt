@@ -15,8 +15,7 @@ use Rattle.meaning.specs.Preset.{Read, validate}
 
 -- ---- what is asked for, and what a plan says
 
--- document 004, `Selection`: "The boot chain alone", or "The boot chain plus the `[apps.<package>]` application"
--- of a key
+-- document 004, `Selection`: the boot chain alone, or with the application of a key
 pub data Selection : Type 0 where
   bootChain : Selection
   app : List ℕ → Selection
@@ -94,7 +93,7 @@ planned c =
 
 -- ---- the application
 
--- document 003, `AppSpec::component`: "Convert `[apps.<package>]` into a target-only" component
+-- document 003, `AppSpec::component`: an application as a component that is for the target alone
 unfoldable pub componentOf : Application → Component
 componentOf a =
     record {
@@ -130,7 +129,7 @@ pub record Entry : Type 0 where
   pub place : ℕ
   pub application : Application
 
--- document 003, `Preset::app`: "The application declared by `[apps.<package>]`"; the first of these is entry n
+-- document 003, `Preset::app`: the application that has the key; the first of these is entry n
 abbrev pub declared : ℕ → List ℕ → List Application → Option Entry
 declared n key [] = none
 declared n key (a ∷ more) =
@@ -161,7 +160,7 @@ abbrev pub ahead : Component → List Component → List Component
 ahead a [] = a ∷ []
 ahead a (c ∷ cs) = pick (nil? (c .role .partition)) (c ∷ ahead a cs) (a ∷ c ∷ cs)
 
--- document 004, `ImagePlan::components`: "Components in composition order"
+-- document 004, `ImagePlan::components`: the components in the order of composition
 unfoldable pub composition : Option Application → List Component → List Component
 composition none cs = cs
 composition (some a) cs = ahead (componentOf a) cs
@@ -262,9 +261,9 @@ pub record Planned : Type 0 where
   pub plan : Plan
 
 -- "Reading, validating and planning each start from the text": 1 to 70, then 80, then 81
-unfoldable pub plan : Limits → ℕ → ℕ → ℕ → List ℕ → Selection → List ℕ → Answer Planned
-plan lim width store tree name selection text = do
-  r ← validate lim width store tree name text
+unfoldable pub plan : Limits → ℕ → ℕ → List ℕ → Selection → List ℕ → Answer Planned
+plan lim store tree name selection text = do
+  r ← validate lim store tree name text
   p ← planOf (r .preset) selection
   accepted (record { read = r; plan = p })
 

@@ -15,16 +15,16 @@ pub record Read : Type 0 where
   pub preset : schema.Preset
 
 -- "Order: 17, 1, 2; .. then line by line; then fields"
-unfoldable pub read : Limits → ℕ → ℕ → ℕ → List ℕ → List ℕ → Answer Read
-read lim width store tree name text = do
-  parsed ← inRooms lim width store tree text
+unfoldable pub read : Limits → ℕ → ℕ → List ℕ → List ℕ → Answer Read
+read lim store tree name text = do
+  parsed ← inRooms lim store tree text
   preset ← presetOf lim name (parsed .root)
   accepted (record { parsed = parsed; preset = preset })
 
 -- ".. then validation in table order": what reading gives, where no rule refuses it
-unfoldable pub validate : Limits → ℕ → ℕ → ℕ → List ℕ → List ℕ → Answer Read
-validate lim width store tree name text = do
-  r ← read lim width store tree name text
+unfoldable pub validate : Limits → ℕ → ℕ → List ℕ → List ℕ → Answer Read
+validate lim store tree name text = do
+  r ← read lim store tree name text
   u ← rules (r .preset)
   accepted r
 

@@ -21,10 +21,10 @@ pub data Fault : Type 0 where
   numbered : ℕ → Fault
   unmet : Unmet → Fault
 
--- 01's number; the others have none
+-- 01's number; the others have one that is not in 01's table, so that none of them is taken for an acceptance
 abbrev pub numberOf : Fault → ℕ
 numberOf (numbered n) = n
-numberOf (unmet e) = 0
+numberOf (unmet e) = 999
 
 -- the answer of a reader that knows no place: a value or a number
 pub data R (X : Type 0) : Type 0 where

@@ -31,17 +31,17 @@ medias = spiNor ∷ spiNand ∷ []
 abbrev pub kinds : List Kind
 kinds = kindApp ∷ kindPbp ∷ kindRaw ∷ []
 
--- document 003, `Chip::name`: "`d13x` | `d21x`"
+-- document 003, `Chip::name`: `d13x` or `d21x`
 unfoldable pub chipWord : Chip → List ℕ
 chipWord d13x = ascii "d13x"
 chipWord d21x = ascii "d21x"
 
--- document 003, `Media::name`: "`spi-nor` | `spi-nand`"
+-- document 003, `Media::name`: `spi-nor` or `spi-nand`
 unfoldable pub mediaWord : Media → List ℕ
 mediaWord spiNor = ascii "spi-nor"
 mediaWord spiNand = ascii "spi-nand"
 
--- document 003, `ComponentKind::parse`: "app | pbp | raw"
+-- document 003, `ComponentKind::parse`: `app`, `pbp` or `raw`
 unfoldable pub kindWord : Kind → List ℕ
 kindWord kindApp = ascii "app"
 kindWord kindPbp = ascii "pbp"

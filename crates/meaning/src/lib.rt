@@ -21,6 +21,9 @@ pub const APPLICATIONS: usize = 64;
 
 pub const FEATURES: usize = 32;
 
+// Bytes of the tree room that one value takes: "at a size per value fixed in docs/".
+pub const VALUE_BYTES: usize = 32;
+
 // Figures of that kind; 01's are one value of them.
 pub struct Limits {
     pub text: usize,

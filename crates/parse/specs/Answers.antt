@@ -13,10 +13,19 @@ use Rattle.parse.specs.Reads.{Gives}
 
 -- ---- one answer after the other
 
+-- the fault has a number of 01's table
+abbrev pub OfTable : Fault → Type 0
+OfTable (numbered n) = 1 ≤ n
+OfTable (unmet e) = ⊥
+
+pub table-number : (f : Fault) → OfTable f → 1 ≤ numberOf f
+table-number (numbered n) h = h
+table-number (unmet e) h = absurd h
+
 -- a refusal, number 0 for none, says what a definition says, and y is what it gives
 abbrev pub Told-by : {X : Type 0} → Answer X → Refusal → X → Type 0
 Told-by (accepted x) r y = (r .number ≡ 0) × (y ≡ x)
-Told-by (refused f s p) r y = (r ≡ refusal (numberOf f) s p) × (1 ≤ numberOf f)
+Told-by (refused f s p) r y = (r ≡ refusal (numberOf f) s p) × OfTable f
 
 -- the same as a record: its type says what was answered
 pub record Says {X : Type 0} (a : Answer X) (r : Refusal) (y : X) : Type 0 where
@@ -36,7 +45,7 @@ told-after : {X Y : Type 0} (a : Answer X) (k : X → Answer Y) (r s : Refusal) 
 told-after (accepted x) k r s y z g h = rw (earlier-none r s (g .0), ← g .1) h
 told-after (refused f n p) k r s y z g h =
     let e : r .number ≡ numberOf f = ap (λ (q : Refusal). q .number) (g .0) in
-    (earlier-some r s (omega arith) ∙ g .0, g .1)
+    (earlier-some r s (omega (arith, table-number f (g .1))) ∙ g .0, g .1)
 
 told-made : {X Y : Type 0} (a : Answer X) (f : X → Y) (r : Refusal) (y : X) → Told-by a r y → Told-by (acceptedThen a (λ x. accepted (f x))) r (f y)
 told-made (accepted x) f r y g = (g .0, ap f (g .1))
@@ -65,11 +74,11 @@ pub says-accepted : {X : Type 0} (a : Answer X) (r : Refusal) (y : X) → Says a
 says-accepted (accepted x) r y s e = ap accepted (sym (s .told-by .1))
 says-accepted (refused f n p) r y s e =
     let d : r .number ≡ numberOf f = ap (λ (q : Refusal). q .number) (s .told-by .0) in
-    absurd (omega (arith, s .told-by .1))
+    absurd (omega (arith, table-number f (s .told-by .1)))
 
-numbered-by : (f : Fault) → 1 ≤ numberOf f → f ≡ numbered (numberOf f)
+numbered-by : (f : Fault) → OfTable f → f ≡ numbered (numberOf f)
 numbered-by (numbered n) h = refl
-numbered-by (unmet e) h = absurd (omega arith)
+numbered-by (unmet e) h = absurd h
 
 pub says-refused : {X : Type 0} (a : Answer X) (r : Refusal) (y : X) → Says a r y → 1 ≤ r .number → a ≡ refused (numbered (r .number)) (r .section) (r .place)
 says-refused (accepted x) r y s h = absurd (omega (arith, s .told-by .0))
@@ -79,7 +88,7 @@ says-refused (refused f n p) r y s h = rw (s .told-by .0) (ap (λ (g : Fault). r
 pub accepted-says : {X : Type 0} (a : Answer X) (r : Refusal) (x y : X) → Says a r y → a ≡ accepted x → (r .number ≡ 0) × (y ≡ x)
 accepted-says a r x y s e = rw e at (s .told-by)
 
-pub refused-says : {X : Type 0} (a : Answer X) (r : Refusal) (f : Fault) (n p : ℕ) (y : X) → Says a r y → a ≡ refused f n p → (r ≡ refusal (numberOf f) n p) × (1 ≤ numberOf f)
+pub refused-says : {X : Type 0} (a : Answer X) (r : Refusal) (f : Fault) (n p : ℕ) (y : X) → Says a r y → a ≡ refused f n p → (r ≡ refusal (numberOf f) n p) × OfTable f
 refused-says a r f n p y s e = rw e at (s .told-by)
 
 -- two refusals are none where the first of them is

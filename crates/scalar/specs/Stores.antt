@@ -1,12 +1,9 @@
 -- Bytes laid into a store after those already there.
 use Prim.Native.Nat.{ℕ, _+_, _≤_}
-use mathlib.Core.List.{List, _++_}
-use lib.ListN.{length, drop}
+use mathlib.Core.List.{List}
+use lib.ListN.{length}
 unfoldable pub use Rattle.laws.specs.Stored.{stored}
-
--- a room with the bytes at its head
-abbrev pub over : List ℕ → List ℕ → List ℕ
-over bytes room = bytes ++ drop (length bytes) room
+pub use Rattle.meaning.specs.Rooms.{over}
 
 -- from at on, the store takes as many bytes as s has
 pub record Room (s store : List ℕ) (at : ℕ) : Type 0 where

@@ -130,6 +130,18 @@ pub struct KindRead {
 }
 
 impl Chip {
+    pub const D13X_NAME: Word = Word::D13x;
+
+    pub const D21X_NAME: Word = Word::D21x;
+
+    pub const D13X_TARGET: Word = Word::Target13;
+
+    pub const D21X_TARGET: Word = Word::Target21;
+
+    pub const D13X_MEDIA: Media = Media::SpiNor;
+
+    pub const D21X_MEDIA: Media = Media::SpiNand;
+
     pub fn parse(w: &[u8]) -> ChipRead
         ensures { λ r. ⌜ r ≡ chipRead (now (w .entry)) ⌝ }
     {
@@ -155,8 +167,8 @@ impl Chip {
         ensures { λ r. ⌜ r ≡ chipWord self ⌝ }
     {
         match self {
-            Chip::D13x => Word::D13x,
-            Chip::D21x => Word::D21x,
+            Chip::D13x => Chip::D13X_NAME,
+            Chip::D21x => Chip::D21X_NAME,
         }
     }
 
@@ -164,8 +176,8 @@ impl Chip {
         ensures { λ r. ⌜ r ≡ targetWord self ⌝ }
     {
         match self {
-            Chip::D13x => Word::Target13,
-            Chip::D21x => Word::Target21,
+            Chip::D13x => Chip::D13X_TARGET,
+            Chip::D21x => Chip::D21X_TARGET,
         }
     }
 
@@ -173,8 +185,8 @@ impl Chip {
         ensures { λ r. ⌜ r ≡ mediaChoice self ⌝ }
     {
         match self {
-            Chip::D13x => Media::SpiNor,
-            Chip::D21x => Media::SpiNand,
+            Chip::D13x => Chip::D13X_MEDIA,
+            Chip::D21x => Chip::D21X_MEDIA,
         }
     }
 
@@ -187,6 +199,10 @@ impl Chip {
 }
 
 impl Media {
+    pub const NOR_NAME: Word = Word::SpiNor;
+
+    pub const NAND_NAME: Word = Word::SpiNand;
+
     pub const NOR_BLOCK: u32 = 4096;
 
     pub const NAND_BLOCK: u32 = 131072;
@@ -216,8 +232,8 @@ impl Media {
         ensures { λ r. ⌜ r ≡ mediaWord self ⌝ }
     {
         match self {
-            Media::SpiNor => Word::SpiNor,
-            Media::SpiNand => Word::SpiNand,
+            Media::SpiNor => Media::NOR_NAME,
+            Media::SpiNand => Media::NAND_NAME,
         }
     }
 

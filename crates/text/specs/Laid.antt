@@ -6,6 +6,7 @@ use mathlib.Core.Path.{_≡_}
 use lib.Dec.{ltb}
 use lib.ListN.{length, getD, take, drop}
 use Rattle.meaning.specs.Base.{pick, before, cut}
+pub use Rattle.meaning.specs.Rooms.{over}
 use Rattle.meaning.specs.Lines.{dropCr, physical, kept, keptLines}
 use Rattle.text.specs.declared.Piece.{Piece}
 
@@ -17,10 +18,6 @@ flat (l ∷ ls) = l ++ (10 ∷ flat ls)
 -- the kept bytes of every physical line
 unfoldable pub laid : List ℕ → List ℕ
 laid s = flat (keptLines (physical s))
-
--- a room with the laid text at its head
-abbrev pub over : List ℕ → List ℕ → List ℕ
-over bytes room = bytes ++ drop (length bytes) room
 
 -- the lines of a laid text: what stands before each LF
 abbrev pub init : List (List ℕ) → List (List ℕ)

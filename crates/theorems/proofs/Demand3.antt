@@ -273,9 +273,9 @@ demand r s p obeys made =
     }
 
 pub text-demand : TextMeetsDemand
-text-demand lim width store tree name text s q e =
-    let h = text-planned lim width store tree name text s q e in
-    demand (q .read .preset) s (q .plan) (valid-rules lim width store tree name text (q .read) (h .0)) (h .1)
+text-demand lim store tree name text s q e =
+    let h = text-planned lim store tree name text s q e in
+    demand (q .read .preset) s (q .plan) (valid-rules lim store tree name text (q .read) (h .0)) (h .1)
 
 -- ---- beside it
 

@@ -13,7 +13,7 @@ use Rattle.theorems.specs.Listing.{ListingFits}
 
 pub listing-fits : ListingFits
 unfolding listing
-listing-fits width store tree out name text l e =
+listing-fits store tree out name text l e =
     on (short out name) (λ t. refused-never _ _ _ l (rw t at e))
-    (λ t. let x = after-accepted (λ x. accepted (listed x)) (plan of01 width store tree name bootChain text) l (rw t at e) in
-    subst (λ (k : Listed). length (k .lines) ≤ outSize name) (accepted-one (listed (x .0)) l (x .2)) (planned-fits width store tree name text (x .0) (x .1)))
+    (λ t. let x = after-accepted (λ x. accepted (listed x)) (plan of01 store tree name bootChain text) l (rw t at e) in
+    subst (λ (k : Listed). length (k .lines) ≤ outSize name) (accepted-one (listed (x .0)) l (x .2)) (planned-fits store tree name text (x .0) (x .1)))

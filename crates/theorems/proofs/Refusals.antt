@@ -86,10 +86,10 @@ else-planned r s h = go (planOf r s) refl
 
 pub text-refused : TextRefusedOnlyFor80And81
 unfolding plan
-text-refused lim width store tree name text s f section place e = go (after-refused ending validated f section place e)
+text-refused lim store tree name text s f section place e = go (after-refused ending validated f section place e)
   where
     validated : Answer Read
-    validated = validate lim width store tree name text
+    validated = validate lim store tree name text
 
     ending : Read → Answer Planned
     ending x = acceptedThen (planOf (x .preset) s) (λ p. accepted (record { read = x; plan = p }))
@@ -106,8 +106,8 @@ text-refused lim width store tree name text s f section place e = go (after-refu
 
 pub refused-first : TextRefusedByValidation
 unfolding plan
-refused-first lim width store tree name text s f section place e = rw e
+refused-first lim store tree name text s f section place e = rw e
 
 pub refused-then : TextAlwaysRefusedFor80And81
 unfolding plan
-refused-then lim width store tree name text s x f section place e h = rw (e, why-refused (x .preset) s f section place h)
+refused-then lim store tree name text s x f section place e h = rw (e, why-refused (x .preset) s f section place h)

@@ -42,17 +42,17 @@ pub record Says (a : Answer Read) (name store tree store' tree' : List ℕ) (r :
 abbrev pub ReadSays : Type 0
 ReadSays = (text name store tree store' tree' : List ℕ) (r : Outcome)
     → Answered (recorded text name store tree) text name store tree store' tree' r
-    → Says (read of01 32 (length store) (length tree) name text) name store tree store' tree' r
+    → Says (read of01 (length store) (length tree) name text) name store tree store' tree' r
 
 abbrev pub ValidateSays : Type 0
 ValidateSays = (text name store tree store' tree' : List ℕ) (r : Outcome)
     → Answered (validated text name store tree) text name store tree store' tree' r
-    → Says (validate of01 32 (length store) (length tree) name text) name store tree store' tree' r
+    → Says (validate of01 (length store) (length tree) name text) name store tree store' tree' r
 
 -- selection 0 is the boot chain, any other the application of the key
 abbrev pub planBy01 : List ℕ → List ℕ → ℕ → List ℕ → List ℕ → List ℕ → Answer meant.Planned
 planBy01 text name app key store tree =
-    meant.plan of01 32 (length store) (length tree) name (selection app key) text
+    meant.plan of01 (length store) (length tree) name (selection app key) text
 
 -- what was read for a plan
 abbrev pub readOf : Answer meant.Planned → Answer Read
@@ -87,8 +87,8 @@ readFor a = acceptedThen a (λ l. accepted (l .planned .read))
 abbrev pub ListingSays : Type 0
 ListingSays = (text name store tree out store' tree' out' : List ℕ) (r : Listed)
     → Reported text name store tree out store' tree' out' r
-    → Lists (meant-listing.listing of01 32 (length store) (length tree) (length out) name text) out out' r
-    × RoomsAfter (readFor (meant-listing.listing of01 32 (length store) (length tree) (length out) name text))
+    → Lists (meant-listing.listing of01 (length store) (length tree) (length out) name text) out out' r
+    × RoomsAfter (readFor (meant-listing.listing of01 (length store) (length tree) (length out) name text))
     name store tree store' tree'
 
 -- ---- the contracts leave no choice: two results that meet one are equal, answer and rooms

@@ -164,24 +164,24 @@ PlainNameIsFound = (name : List ℕ) → before 59 name ≡ length name → trim
 
 -- the plan of a text has all of the above
 abbrev pub TextMeetsDemand : Type 0
-TextMeetsDemand = (lim : Limits) (width store tree : ℕ) (name text : List ℕ) (s : Selection) (q : Planned)
-    → meant.plan lim width store tree name s text ≡ accepted q → Demand (q .read .preset) s (q .plan)
+TextMeetsDemand = (lim : Limits) (store tree : ℕ) (name text : List ℕ) (s : Selection) (q : Planned)
+    → meant.plan lim store tree name s text ≡ accepted q → Demand (q .read .preset) s (q .plan)
 
 -- where planning a text is refused, validation refuses it so; or validation accepts it, and there is a reason
 abbrev pub TextRefusedOnlyFor80And81 : Type 0
-TextRefusedOnlyFor80And81 = (lim : Limits) (width store tree : ℕ) (name text : List ℕ) (s : Selection)
-    (f : Fault) (section place : ℕ) → meant.plan lim width store tree name s text ≡ refused f section place
-    → (validate lim width store tree name text ≡ refused f section place)
-    ⊎ ((x : Read) × (validate lim width store tree name text ≡ accepted x) × Why (x .preset) s f section place)
+TextRefusedOnlyFor80And81 = (lim : Limits) (store tree : ℕ) (name text : List ℕ) (s : Selection)
+    (f : Fault) (section place : ℕ) → meant.plan lim store tree name s text ≡ refused f section place
+    → (validate lim store tree name text ≡ refused f section place)
+    ⊎ ((x : Read) × (validate lim store tree name text ≡ accepted x) × Why (x .preset) s f section place)
 
 -- what validation refuses planning refuses with the same words
 abbrev pub TextRefusedByValidation : Type 0
-TextRefusedByValidation = (lim : Limits) (width store tree : ℕ) (name text : List ℕ) (s : Selection)
-    (f : Fault) (section place : ℕ) → validate lim width store tree name text ≡ refused f section place
-    → meant.plan lim width store tree name s text ≡ refused f section place
+TextRefusedByValidation = (lim : Limits) (store tree : ℕ) (name text : List ℕ) (s : Selection)
+    (f : Fault) (section place : ℕ) → validate lim store tree name text ≡ refused f section place
+    → meant.plan lim store tree name s text ≡ refused f section place
 
 -- and what validation accepts it refuses where there is a reason
 abbrev pub TextAlwaysRefusedFor80And81 : Type 0
-TextAlwaysRefusedFor80And81 = (lim : Limits) (width store tree : ℕ) (name text : List ℕ) (s : Selection) (x : Read)
-    (f : Fault) (section place : ℕ) → validate lim width store tree name text ≡ accepted x
-    → Why (x .preset) s f section place → meant.plan lim width store tree name s text ≡ refused f section place
+TextAlwaysRefusedFor80And81 = (lim : Limits) (store tree : ℕ) (name text : List ℕ) (s : Selection) (x : Read)
+    (f : Fault) (section place : ℕ) → validate lim store tree name text ≡ accepted x
+    → Why (x .preset) s f section place → meant.plan lim store tree name s text ≡ refused f section place

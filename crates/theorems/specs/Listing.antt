@@ -9,5 +9,5 @@ use Rattle.meaning.specs.Listing.{Listed, listing, outSize}
 
 -- for every lent name and text, whatever the rooms
 abbrev pub ListingFits : Type 0
-ListingFits = (width store tree out : ℕ) (name text : List ℕ) (l : Listed)
-    → listing of01 width store tree out name text ≡ accepted l → length (l .lines) ≤ outSize name
+ListingFits = (store tree out : ℕ) (name text : List ℕ) (l : Listed)
+    → listing of01 store tree out name text ≡ accepted l → length (l .lines) ≤ outSize name

@@ -1,7 +1,7 @@
 -- What the rooms hold between lines, what reading a line asks of them, and what it leaves.
 use Prim.Native.Nat.{ℕ, _+_, _*_, _≤_, _<_}
 use mathlib.Core.Bool.{Bool, true, false}
-use mathlib.Core.List.{List}
+use mathlib.Core.List.{List, []}
 use mathlib.Core.Path.{_≡_}
 use lib.Dec.{ltb}
 use lib.ListN.{length, take, drop}
@@ -175,6 +175,15 @@ pub record Cleared (store tree store' tree' : List ℕ) (m : Answer Doc) (r : Re
   pub store-is : store' ≡ storeOf store m
   pub tree-is : tree' ≡ treeOf tree m
   pub carried : Carried tree' m
+
+-- the bytes of the values that a document has, one value after the other
+abbrev pub cellsOf : Answer Doc → List ℕ
+cellsOf (accepted d) = cells (d .slots)
+cellsOf (refused f section line) = []
+
+-- and of those that reading a text makes
+abbrev pub valuesOf : List ℕ → List ℕ
+valuesOf s = cellsOf (documentS of01 s)
 
 -- ---- whole texts
 -- both rooms are empty, and large enough for every text within the limits; the scratch takes one of n bytes

@@ -5,6 +5,7 @@ ghost use mathlib.Core.Path.{_≡_};
 ghost use mathlib.Core.List.{[], _∷_};
 ghost use Prim.Native.Nat.{_+_, _*_, _/_, _-_, _≤_};
 ghost use lib.ListN.{length};
+ghost use Rattle.meaning.specs.Limits.{valueBytes};
 ghost use Rattle.laws.specs.Stored.{stored};
 ghost use Rattle.tree.specs.Room as room;
 ghost use Rattle.tree.specs.Room.{Holds, Finds, Counts, Clear, cell, slotAt, hung};
@@ -50,7 +51,7 @@ pub const KIND_NEGATIVE: u8 = 6;
 // A string's data is where its bytes start, and so many times its length.
 pub const STRING_LENGTH_UNIT: u64 = 65536;
 // Bytes per value.
-pub const VALUE_BYTES: usize = 32;
+pub const VALUE_BYTES: usize = meaning::VALUE_BYTES;
 
 // The most that a string's data can be: both its start and its length below the unit.
 const STRING_MOST: u64 = 4294967295;
@@ -115,14 +116,14 @@ pub enum Key {
 
 // Bytes per value.
 pub fn width() -> u32
-    ensures { λ r. ⌜ r ≡ 32 ⌝ }
+    ensures { λ r. ⌜ r ≡ valueBytes ⌝ }
 {
     VALUE_BYTES as u32
 }
 
 // How many values a room takes.
 pub fn capacity(tree: &[u8]) -> usize
-    ensures { λ r. ⌜ r ≡ length (now (tree .entry)) / 32 ⌝ }
+    ensures { λ r. ⌜ r ≡ length (now (tree .entry)) / valueBytes ⌝ }
 {
     tree.len() / VALUE_BYTES
 }

@@ -6,7 +6,7 @@ use native.Mathlib.Omega.{arith}
 use borrow.Author.Tests.{eqb-false}
 use lib.Dec.{eqb}
 use Rattle.meaning.specs.Base.{pick, nil?, ascii}
-use Rattle.meaning.specs.Refusal.{accepted, refused, numberOf, inBoard, inImage}
+use Rattle.meaning.specs.Refusal.{accepted, refused, inBoard, inImage}
 use Rattle.meaning.specs.Verdict.{Verdict, firstRefusal, judged, long}
 use Rattle.meaning.specs.Schema as meant
 use Rattle.meaning.specs.Rules as rules
@@ -26,7 +26,7 @@ use Rattle.parse.specs.Front.{chipOf, boardRead, imageNames, imageRest, imageRe
 use Rattle.parse.specs.Entries.{refusalOf}
 use Rattle.parse.specs.Meant.{boardMeant, imageMeant}
 use Rattle.parse.specs.Reads.{Kept, text-kept}
-use Rattle.parse.specs.Answers.{Told-by, Says}
+use Rattle.parse.specs.Answers.{OfTable, Told-by, Says}
 use Rattle.validate.specs.Fronts.{Plain, Fronted, ruled}
 
 -- ---- verdicts
@@ -34,7 +34,7 @@ use Rattle.validate.specs.Fronts.{Plain, Fronted, ruled}
 -- 1 at least, where there is one
 abbrev pub Numbered : Verdict → Type 0
 Numbered (accepted u) = Unit {0}
-Numbered (refused f section place) = 1 ≤ numberOf f
+Numbered (refused f section place) = OfTable f
 
 -- the same as a record: its type names the verdict
 pub record Sound (v : Verdict) : Type 0 where

@@ -19,7 +19,7 @@ use Rattle.parse.specs.Entries.{partitionAt}
 use Rattle.parse.specs.Front.{frontRead}
 use Rattle.parse.specs.Refused.{lentText, partitionNumbers}
 use Rattle.parse.specs.Whole.{presetMeant, partitionOf, componentOf, applicationOf}
-use Rattle.parse.specs.Answers.{Says, says-after, says-by}
+use Rattle.parse.specs.Answers.{Says, table-number, says-after, says-by}
 use Rattle.turns.specs.Marks.{anyOf, faultOf}
 use Rattle.layout.specs.Parts.{partName, partMeant}
 use Rattle.layout.specs.Layouts.{layout-verdict}
@@ -39,7 +39,7 @@ says-and {v} {w} {r} {s} g h = go v refl g
     go (accepted t) e k = says-after (λ x. w) k (h e)
     go (refused f n p) e k =
         let d : r .number ≡ numberOf f = ap (λ (q : Refusal). q .number) (k .told-by .0) in
-        let l : 1 ≤ numberOf f = k .told-by .1 in
+        let l : 1 ≤ numberOf f = table-number f (k .told-by .1) in
         says-by (sym (rw (ne-eqb (r .number) 0 (λ z. omega (arith, d, l))))) k
 
 -- ---- partitions
