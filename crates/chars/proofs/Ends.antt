@@ -2,15 +2,15 @@
 use Prim.Native.Nat.{ℕ, _+_, _-_, _≤_, _<_}
 use mathlib.Core.Bool.{Bool, true, false}
 use mathlib.Core.List.{List, [], _∷_}
-use mathlib.Core.Path.{_≡_, refl, sym, _∙_}
+use mathlib.Core.Path.{_≡_, refl, sym, ap, _∙_}
 use native.Mathlib.Omega.{arith}
 use native.Mathlib.Nat.{add-zero}
 use borrow.Author.Tests.{ltb-true, eq-eqb, ne-eqb}
 use lib.Dec.{eqb, ltb}
-use lib.ListN.{length, getD, take, drop, length-drop}
+use lib.ListN.{length, getD, take, drop, length-take, length-drop}
 use lib.Seq.{length-take-le, getD-take, getD-drop}
 use Rattle.meaning.specs.Base.{nil?}
-use Rattle.meaning.specs.Space.{trimStart, blank}
+use Rattle.meaning.specs.Space.{trimStart, trim, blank}
 use Rattle.laws.specs.Parts.{rest-of}
 use Rattle.laws.specs.Trim.{blank-is}
 use Rattle.chars.specs.Ascii.{space-white, high-plain}
@@ -70,3 +70,15 @@ snug-both s a e r st en g t =
     both s a e
     (start-plain s a st (omega (arith, length-drop a s)) (f .narrow) false (f .plain) refl)
     (end-plain (take (length s - a) d) e en z (h .narrow) false (h .plain) refl)
+
+-- ---- two parts that meet the promise are the same
+trimmed-long : (s : List ℕ) (r : Span) → Trimmed s r → r .end ≡ r .from + length (trim s)
+trimmed-long s r g =
+    omega (arith, g .low, g .high, ap length (g .is), length-take (r .end - r .from) (drop (r .from) s), length-drop (r .from) s)
+
+pub trimmed-decides : (s : List ℕ) (p q : Span) → Trimmed s p → Trimmed s q → p ≡ q
+trimmed-decides s p q g h =
+    let f : p .from ≡ q .from = g .at ∙ sym (h .at) in
+    let e : p .end ≡ q .end = omega (arith, f, trimmed-long s p g, trimmed-long s q h) in
+    let x : _≡_ {A = Span} (record { from = p .from; end = p .end }) (record { from = q .from; end = q .end }) = rw (f, e) in
+    x

@@ -9,9 +9,7 @@ use borrow.Author.Tests.{lt-ltb, le-ltb, ltb-true, ltb-false, eq-eqb, ne-eqb, eq
 use lib.Dec.{eqb, ltb}
 use lib.ListN.{length}
 use Rattle.meaning.specs.Base.{pick, zeros}
-use Rattle.meaning.specs.Rooms.{over}
 use Rattle.laws.specs.Cases.{on}
-use Rattle.laws.specs.Stored.{stored}
 use Rattle.values.specs.declared.State.{State}
 use Rattle.values.specs.declared.Reply.{Reply}
 use Rattle.values.specs.declared.Reply.the-variants.{Fine, Fault}
@@ -21,11 +19,7 @@ use Rattle.toml_lite.proofs.Reading.{suffices}
 use Rattle.host.specs.declared.single_values.ValueRead.{ValueRead}
 use Rattle.host.specs.Values.{sizeFault, outOf, valueFault, Readout}
 use Rattle.slices.proofs.Zeroing.{length-zeros}
-
--- bytes laid from 0 on stand at the head
-stored-head : (room bytes : List ℕ) → stored room 0 bytes ≡ over bytes room
-unfolding stored
-stored-head room bytes = rw (zero-add (length bytes))
+use Rattle.preset.proofs.Lining.{over-stored}
 
 -- what the sizes say where they are 01's
 record Sizes (s store tree : List ℕ) : Type 0 where
@@ -85,8 +79,8 @@ module _ (s store tree z t : List ℕ) (ez : z ≡ zeros (length store)) (et : t
           let m : e ≡ moved (record { used = 0; made = 0 }) (outOf s) = cc in
           record {
             says = rw (fault-is, p, m, zero-add (length (outOf s .bytes)), zero-add (length (outOf s .slots)));
-            store-is = rw (fault-is, p) (rw ez at (f .store-is) ∙ stored-head (zeros (length store)) (outOf s .bytes));
-            tree-is = rw (fault-is, p) (rw et at (f .tree-is) ∙ stored-head (zeros (length tree)) (cells (outOf s .slots)));
+            store-is = rw (fault-is, p) (rw ez at (f .store-is) ∙ over-stored (outOf s .bytes) (zeros (length store)));
+            tree-is = rw (fault-is, p) (rw et at (f .tree-is) ∙ over-stored (cells (outOf s .slots)) (zeros (length tree)));
           })
           (λ p.
           let g : Fine e ≡ Fault (outOf s .fault) (moved (record { used = 0; made = 0 }) (outOf s)) = sym q ∙ rw p at (f .says) in

@@ -7,7 +7,8 @@ use mathlib.Core.Path.{_≡_, refl, sym, ap, subst, _∙_}
 use native.Mathlib.Omega.{arith}
 use borrow.Author.Tests.{ltb-false, leb-false}
 use lib.Dec.{ltb, leb}
-use lib.ListN.{length}
+use lib.ListN.{length, take}
+use lib.Seq.{take-all}
 use Rattle.meaning.specs.Base.{pick}
 use Rattle.meaning.specs.Limits.{of01}
 use Rattle.meaning.specs.Refusal.{Answer, accepted, refused, numbered, acceptedThen, Fault}
@@ -32,6 +33,7 @@ use Rattle.preset.specs.declared.Outcome as entered
 use Rattle.preset.specs.declared.listing.Listed as lists
 use Rattle.preset.specs.Settled.{Parsed}
 use Rattle.preset.specs.Listings as entries
+use Rattle.preset.specs.Listings.{linesIn}
 use Rattle.host.specs.declared.documents.Outcome.{Outcome}
 use Rattle.host.specs.declared.listings.Listed.{Listed}
 use Rattle.host.specs.Presets.{Recorded, Answered, outcomeBy, Records, exported}
@@ -152,8 +154,10 @@ module _ (text name store tree out store' tree' out' : List ℕ) (r : lists.List
         accepted-is : Reported text name store tree out store' tree' out' (shown r)
         accepted-is =
             let d = plan-judged text name 0 [] store tree p e in
-            let n : length (lines tree' store' (o .made) name) ≡ length (meant.listed x .lines) = ap length said in
-            let k = h .lined (d .0) (d .1) .fine fine (omega (arith, n, fits, long .0)) in
+            let all : linesIn out name store' tree' (o .made) ≡ meant.listed x .lines =
+            ap (take (length out)) said ∙ take-all (length out) (meant.listed x .lines) (omega (arith, fits, long .0)) in
+            let n : length (linesIn out name store' tree' (o .made)) ≡ length (meant.listed x .lines) = ap length all in
+            let k = h .lined (d .0) (d .1) .fine fine in
             let w : length (meant.listed x .lines) % 4294967296 ≡ length (meant.listed x .lines) = omega (arith, fits, long .1) in
             let a : listing text name store tree out ≡ accepted (meant.listed x) = answer ∙ rw (its .2) in
             rw a
@@ -161,7 +165,7 @@ module _ (text name store tree out store' tree' out' : List ℕ) (r : lists.List
               says = ap shown (k .0) ∙ ap (λ (m : ℕ). record { number = 0; section = 0; place = 0; written = m }) (ap (λ (m : ℕ). m % 4294967296) n ∙ w);
               store-is = g .store-is;
               tree-is = g .tree-is;
-              out-is = k .1 ∙ ap (λ (s : List ℕ). over s out) said;
+              out-is = k .1 ∙ ap (λ (s : List ℕ). over s out) all;
               shows = recorded;
             })
 

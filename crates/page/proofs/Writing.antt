@@ -1,12 +1,12 @@
 -- Bytes, numbers, words and texts on a page: one law for each way out.
-use Prim.Native.Nat.{ℕ, _+_, _-_, _≤_, _<_}
+use Prim.Native.Nat.{ℕ, zero, suc, min, _+_, _-_, _≤_, _<_}
 use mathlib.Core.Bool.{Bool, true, false}
 use mathlib.Core.List.{List, [], _∷_, _++_, append-nil}
 use mathlib.Core.Path.{_≡_, refl, sym, ap, subst, _∙_}
 use native.Mathlib.Omega.{arith}
 use borrow.Author.Tests.{ne-eqb}
 use lib.Dec.{eqb}
-use lib.ListN.{length, take, drop, length-take, drop-of-length-le}
+use lib.ListN.{length, take, drop, length-take, length-drop, drop-of-length-le}
 use lib.Seq.{drop-drop}
 use Rattle.meaning.specs.Base.{nil?, ascii}
 use Rattle.meaning.specs.Listing.{decimal, dashed}
@@ -22,25 +22,39 @@ use Rattle.schema.specs.declared.Span.{Span}
 use Rattle.schema.specs.Words.{word, all, Stands, word-part}
 use Rattle.schema.specs.Texts.{clip, spelled}
 use Rattle.page.specs.Page.{Wrote, Digits}
-use Rattle.page.proofs.Pages.{wrote-then}
+use Rattle.page.proofs.Pages.{none-past, wrote-then}
 
 -- ---- bytes
+take-again : (n : ℕ) (s : List ℕ) → take (length (take n s)) s ≡ take n s
+take-again zero [] = refl
+take-again zero (x ∷ s) = refl
+take-again (suc n) [] = refl
+take-again (suc n) (x ∷ s) = ap (λ (l : List ℕ). x ∷ l) (take-again n s)
+
 module _ (s out : List ℕ) (at : ℕ) where
   pub put-past : length out < at → Wrote s out at out at
-  put-past h = record { long = refl; fits = λ k. absurd (omega arith) }
-
-  pub put-over : at ≤ length out → length out - at < length s → Wrote s out at out at
-  put-over h l = record { long = refl; fits = λ k. absurd (omega arith) }
+  put-past h =
+      record { left = sym (none-past s out at (omega arith)); place = omega (arith, length-take (length out - at) s) }
 
   -- the part of the page with the bytes in it is back
-  pub put-in : (ys : List ℕ) → at ≤ length out → length s ≤ length out - at → ys ≡ s ++ drop (length s) (take (at + length s - at) (drop at out))
-      → Wrote s out at (take at out ++ (ys ++ drop (at + length s - at) (drop at out))) (at + length s)
+  -- the part that is written, and the part of the page for it
+  pub part-count : (n room : ℕ) → n ≡ min room (length s) → n ≡ length (take n s)
+  part-count n room h = omega (arith, length-take n s)
+
+  pub part-fits : (n : ℕ) → at ≤ length out → n ≡ min (length out - at) (length s) → length (take n s) ≤ length (take (at + n - at) (drop at out))
+  part-fits n l h = omega (arith, length-take n s, length-take (at + n - at) (drop at out), length-drop at out)
+
+  pub put-in : (n : ℕ) (ys : List ℕ) → n ≡ min (length out - at) (length s) → ys ≡ take n s ++ drop (length (take n s)) (take (at + n - at) (drop at out))
+      → Wrote s out at (take at out ++ (ys ++ drop (at + n - at) (drop at out))) (at + n)
   unfolding stored
-  put-in ys h l e =
-      let k : at + length s - at ≡ length s = omega arith in
-      let n : drop (length s) (take (length s) (drop at out)) ≡ [] = drop-of-length-le (take (length s) (drop at out)) {i = length s} (omega (arith, length-take (length s) (drop at out))) in
-      let w : take at out ++ (ys ++ drop (at + length s - at) (drop at out)) ≡ stored out at s = rw (e, k, n, append-nil, drop-drop (length s) at out) in
-      record { long = ap length w ∙ length-stored out at s (omega arith); fits = λ _. (w, refl) }
+  put-in n ys r e =
+      let h : n ≡ length (take (length out - at) s) = r ∙ sym (length-take (length out - at) s) in
+      let k : at + n - at ≡ n = omega arith in
+      let f : take n s ≡ take (length out - at) s = ap (λ (m : ℕ). take m s) h ∙ take-again (length out - at) s in
+      let g : length (take n s) ≡ n = ap length f ∙ sym h in
+      let m : drop n (take n (drop at out)) ≡ [] = drop-of-length-le (take n (drop at out)) {i = n} (omega (arith, length-take n (drop at out))) in
+      let w : take at out ++ (ys ++ drop (at + n - at) (drop at out)) ≡ take at out ++ (take n s ++ drop (at + n) out) = rw (e, k, g, m, append-nil, drop-drop n at out) in
+      record { left = w ∙ rw (← h, f); place = ap (λ (m : ℕ). at + m) h }
 
 -- a field by what it says
 pub field-by : {s t o o1 : List ℕ} {n n1 : ℕ} → Wrote (32 ∷ s) o n o1 n1 → s ≡ t → Wrote (32 ∷ t) o n o1 n1

@@ -4,6 +4,7 @@ use schema::Text;
 use schema::Word;
 ghost use mathlib.Core.Path.{_≡_};
 ghost use mathlib.Core.List.{_∷_, _++_};
+ghost use Prim.Native.Nat.{min};
 ghost use lib.ListN.{length};
 ghost use Rattle.meaning.specs.Base.{nil?, ascii};
 ghost use Rattle.meaning.specs.Listing.{decimal, dashed};
@@ -11,18 +12,26 @@ ghost use Rattle.schema.specs.Words as words;
 ghost use Rattle.schema.specs.Texts.{spelled};
 ghost use Rattle.page.specs.Page.{Wrote, Digits};
 
-// Bytes at a place of the page, and the place after them; nothing where they do not fit.
+// How many bytes of s so much room takes.
+fn fitting(s: &[u8], room: usize) -> usize
+    ensures { λ r. ⌜ r ≡ min room (length (now (s .entry))) ⌝ }
+{
+    if room < s.len() {
+        return room;
+    }
+    s.len()
+}
+
+// Bytes at a place of the page, as many of them as it takes, and the place after them.
 pub fn put(out: &mut [u8], at: usize, s: &[u8]) -> usize
     ensures { λ r. ⌜ Wrote (now (s .entry)) (now (out .entry)) at (now (out .exit)) r ⌝ }
 {
     if out.len() < at {
         return at;
     }
-    if out.len() - at < s.len() {
-        return at;
-    }
-    let to = at + s.len();
-    slices::copy(s, &mut out[at..to]);
+    let n = fitting(s, out.len() - at);
+    let to = at + n;
+    slices::copy(&s[..n], &mut out[at..to]);
     to
 }
 

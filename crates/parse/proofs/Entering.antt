@@ -66,6 +66,7 @@ use Rattle.parse.specs.Entries.{
   Among,
   Few,
   Keyed,
+  NoPartitions,
   Partitioned,
   noList,
   listOf,
@@ -306,7 +307,7 @@ module _ (room store : Seq ℕ) (made place end : ℕ) where
       parts-room = omega (arith, k .few, ap length more)
 
       module _ (p : PartitionRead) (e : p ≡ partitionAt room store made n) where
-        pub parts-not : (r : Partitions) → (p .fault ≡ 0 → ⊥) → r .fault ≡ refusalAt 3 (p .fault) i → Partitioned (eachPartition room store made place end) r
+        pub parts-not : (r : Partitions) → (p .fault ≡ 0 → ⊥) → NoPartitions (refusalAt 3 (p .fault) i) r → Partitioned (eachPartition room store made place end) r
         parts-not r f t =
             let q : asR (p .fault) (p .partition) ≡ bad (p .fault) = wrong (p .fault) (p .partition) f in
             let b : partitionR room store made n ≡ bad (p .fault) = rw (← e) q in
@@ -351,7 +352,7 @@ module _ (room store : Seq ℕ) (made n : ℕ) (l : List) (h : Counts room (l .e
   parts-few limit a k g = record { rooms = a .rooms; within = a .end; few = omega (arith, counted) }
 
   module _ (limit : ℕ) (r : Partitions) where
-    pub parts-many : limit < n → r .fault ≡ refusalAt 3 25 limit → Partitioned (partitions room store made l limit) r
+    pub parts-many : limit < n → NoPartitions (refusalAt 3 25 limit) r → Partitioned (partitions room store made l limit) r
     unfolding listed
     parts-many g e = rw (counted, lt-ltb limit n g) e
 

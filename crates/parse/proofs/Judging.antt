@@ -44,6 +44,7 @@ use Rattle.parse.specs.declared.view.ApplicationFound.the-variants as ap
 use Rattle.parse.specs.Refusals.{inSection, earlier}
 use Rattle.parse.specs.Fields.{mediaAt}
 use Rattle.parse.specs.Front.{tableAt, chipOf, boardRead, imageRead, frontOf, frontRead}
+use Rattle.parse.specs.Given.{partitioned-fault}
 use Rattle.parse.specs.Entries.{listOf, orOther, listAt, keysOf, keysAt, Among, Partitioned, partitions, components, applications, refusalOf, partitionAt, componentAt, applicationAt, Keyed, nthKey}
 use Rattle.parse.specs.Views.{partitionList, componentList, applicationList, goodPartition, goodComponent, goodApplication, partitionOf, componentOf, applicationOf, partition, component, application, listsOf, countsOf, deviceOf, holdsValues}
 use Rattle.parse.specs.Refused as refused
@@ -128,15 +129,11 @@ module _ (room store : Seq ℕ) (made : ℕ) (l : List) (h : Rooms room made) wh
     application-stood e = among-stood room made l m r n (applications-among room store made l h e) f q
 
 -- ---- one group after the other
-partitioned : (m : Answer (Seq Partition)) (r : Partitions) → Partitioned m r → r .fault ≡ refusalOf m
-partitioned (accepted ps) r h = h .0
-partitioned (refused f s p) r h = h
-
 module _ (room store : Seq ℕ) (made : ℕ) (lim : Limits) (l : List) where
   pub partitions-judged : (r : Partitions) (a b : Refusal) → l ≡ partitionList room store made → Partitioned (partitions room store made l (lim .partitions)) r
       → a ≡ inSection 3 (l .fault) → b ≡ earlier a (r .fault) → b ≡ partitionFault room store made lim
   partitions-judged r a b e p d q =
-      q ∙ rw (d, partitioned (partitions room store made l (lim .partitions)) r p, e)
+      q ∙ rw (d, partitioned-fault (partitions room store made l (lim .partitions)) r p, e)
 
   pub components-judged : (r a b : Refusal) → l ≡ componentList room store made → r ≡ components room store made l (lim .components) (lim .features)
       → a ≡ inSection 4 (l .fault) → b ≡ earlier a r → b ≡ componentFault room store made lim

@@ -199,6 +199,10 @@ pub record Keyed (room store : Seq ℕ) (l : List) (most n : ℕ) : Type 0 where
 abbrev pub blank : Partition
 blank = record { from = 0; len = 0; offset = 0; size = 0 }
 
+-- a refusal, and no partition
+abbrev pub NoPartitions : Refusal → Partitions → Type 0
+NoPartitions f r = (r .fault ≡ f) × (r .count ≡ 0) × (r .items ≡ replicate 32 blank)
+
 abbrev pub Partitioned : Answer (Seq Partition) → Partitions → Type 0
 Partitioned (accepted ps) r = (r .fault ≡ refusalAt 0 0 0) × (r .count ≡ length ps) × (length ps ≤ 32) × (r .items ≡ ps ++ replicate (32 - length ps) blank)
-Partitioned (refused f section place) r = r .fault ≡ refusalAt section (numberOf f) place
+Partitioned (refused f section place) r = NoPartitions (refusalAt section (numberOf f) place) r

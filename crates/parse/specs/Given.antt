@@ -94,7 +94,7 @@ module _ (room store : Seq ℕ) (end place : ℕ) where
 -- what a reader of partitions tells
 pub partitioned-fault : (a : Answer (Seq Partition)) (r : Partitions) → entries.Partitioned a r → r .fault ≡ refusalOf a
 partitioned-fault (accepted ps) r p = p .0
-partitioned-fault (refused f s n) r p = p
+partitioned-fault (refused f s n) r p = p .0
 
 map-map : {X Y : Type 0} (f : X → Y) (given : ℕ → X) (ns : Seq ℕ) → map f (map given ns) ≡ map (λ n. f (given n)) ns
 map-map f given [] = refl

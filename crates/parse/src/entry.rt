@@ -19,7 +19,7 @@ ghost use Prim.Native.Nat.{_≤_};
 ghost use Rattle.tree.specs.Room.{Holds, Finds};
 ghost use Rattle.tree.specs.Doors.{Rooms, Stood, Spread};
 ghost use Rattle.parse.specs.Entries as entries;
-ghost use Rattle.parse.specs.Entries.{Among, Few, Partitioned, Keyed};
+ghost use Rattle.parse.specs.Entries.{Among, Few, NoPartitions, Partitioned, Keyed};
 ghost use Rattle.parse.specs.Refusals as refusals;
 
 // The refusal of an entry that is no table.
@@ -185,13 +185,19 @@ pub fn application_at(
     }
 }
 
-fn no_partitions(number: u32, place: usize, items: [Partition; meaning::PARTITIONS]) -> Partitions
-    ensures { λ r. ⌜ (r .fault ≡ entries.refusalAt 3 number place) × (r .count ≡ 0) × (r .items ≡ items) ⌝ }
+fn no_partitions(number: u32, place: usize) -> Partitions
+    ensures { λ r. ⌜ NoPartitions (entries.refusalAt 3 number place) r ⌝ }
 {
+    let blank = Partition {
+        from: 0,
+        len: 0,
+        offset: 0,
+        size: 0,
+    };
     Partitions {
         fault: crate::refusal_at(crate::IN_PARTITION, number, place),
         count: 0,
-        items,
+        items: [blank; meaning::PARTITIONS],
     }
 }
 
@@ -222,7 +228,7 @@ fn each_partition(tree: &[u8], store: &[u8], made: usize, place: u16, end: usize
             Item::At { value, rest } => {
                 let r = partition_at(tree, store, made, value);
                 if r.fault != 0 {
-                    return no_partitions(r.fault, i, items);
+                    return no_partitions(r.fault, i);
                 }
                 let p = r.partition;
                 items[i] = p;
@@ -246,13 +252,7 @@ pub fn read_partitions(
 {
     let n = tree::count_items(tree, list.end, list.place);
     if limit < n {
-        let blank = Partition {
-            from: 0,
-            len: 0,
-            offset: 0,
-            size: 0,
-        };
-        return no_partitions(TOO_MANY, limit, [blank; meaning::PARTITIONS]);
+        return no_partitions(TOO_MANY, limit);
     }
     each_partition(tree, store, made, list.place, list.end)
 }

@@ -69,7 +69,7 @@ pub fn earlier(a: Refusal, b: Refusal) -> Refusal
     a
 }
 
-// "One that is not UTF-8 counts as `board`."
+// "one that is not UTF-8 counts as `board`"
 pub fn lent_name(name: &[u8]) -> Text
     ensures { λ r. ⌜ r ≡ refused.lentText (now (name .entry)) ⌝ }
 {

@@ -62,7 +62,7 @@ module _ (p : Partitions) where
   taken-by : (a : Answer (Seq Partition)) → Numbered a → Partitioned a p → p .fault .number ≡ 0 → Taken (given a) (p .items) (p .count)
   taken-by (accepted ps) h q z =
       record { long = q .1; fits = omega (arith, q .1, q .2); are = rw (q .1, q .3) (take-append-seam ps (replicate (32 - length ps) blank)) }
-  taken-by (refused f s n) h q z = let e : p .fault .number ≡ numberOf f = ap (λ (r : Refusal). r .number) q in absurd (omega (arith, e))
+  taken-by (refused f s n) h q z = let e : p .fault .number ≡ numberOf f = ap (λ (r : Refusal). r .number) (q .0) in absurd (omega (arith, e))
 
   none-by : (a : Answer (Seq Partition)) → Partitioned a p → (p .fault .number ≡ 0 → ⊥) → given a ≡ []
   none-by (accepted ps) q z = absurd (z (ap (λ (r : Refusal). r .number) (q .0)))

@@ -91,7 +91,7 @@ fn no_builds() -> [Use; MOST_USES]
     [blank; MOST_USES]
 }
 
-// "Each component's package, then its `pbp_package`", whose bin is the package itself.
+// "each component's package, then its `pbp_package`", whose bin is the package itself.
 fn wanted_at(tree: &[u8], store: &[u8], made: usize, n: usize) -> Wanted
     requires { ⌜ Rooms (now tree) made × Stood (now tree) n ⌝ }
     ensures { λ r. ⌜ builds.bothAt r ≡ builds.wantedAt (now (tree .entry)) (now (store .entry)) made n ⌝ }
@@ -159,7 +159,7 @@ fn application_use(tree: &[u8], store: &[u8], made: usize, n: usize) -> Use
     }
 }
 
-// "The application last": that use after those of the components.
+// "the application last": that use after those of the components.
 fn with_application(tree: &[u8], store: &[u8], made: usize, n: usize, u: BuildList) -> BuildList
     requires { ⌜ Rooms (now tree) made × Stood (now tree) n × builds.Room u ⌝ }
     ensures { λ r. ⌜ builds.Followed (now (tree .entry)) (now (store .entry)) made n u r ⌝ }
@@ -217,7 +217,7 @@ fn uses(tree: &[u8], store: &[u8], made: usize, c: Choice) -> BuildList
     }
 }
 
-// "One per package, with the first use's `bin`", and its features.
+// "one per package, with the first use's `bin`", and its features.
 pub fn builds(tree: &[u8], store: &[u8], made: usize, c: Choice) -> BuildList
     requires { ⌜ Rooms (now tree) made × Standing (now tree) c ⌝ }
     ensures { λ r. ⌜ Used 129 (builds.buildsOf (now (tree .entry)) (now (store .entry)) made c) r ⌝ }

@@ -95,7 +95,7 @@ fn leader(tree: &[u8], store: &[u8], made: usize) -> Found
     }
 }
 
-// "The package, else `bin`, else file stem" of the first `app` component with a partition, if there is one.
+// "the package, else `bin`, else file stem" of the first `app` component with a partition, if there is one.
 fn leading(tree: &[u8], store: &[u8], made: usize) -> Text
     requires { ⌜ Rooms (now tree) made ⌝ }
     ensures { λ r. ⌜ r ≡ stems.leading (now (tree .entry)) (now (store .entry)) made ⌝ }
@@ -116,7 +116,7 @@ fn leading(tree: &[u8], store: &[u8], made: usize) -> Text
     }
 }
 
-// "Else the board name."
+// "else the board name"
 fn boot_stem(tree: &[u8], store: &[u8], made: usize, name: &[u8]) -> Text
     requires { ⌜ Rooms (now tree) made ⌝ }
     ensures { λ r. ⌜ r ≡ stems.bootStem (now (tree .entry)) (now (store .entry)) made (now (name .entry)) ⌝ }

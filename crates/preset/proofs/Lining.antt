@@ -2,9 +2,9 @@
 use Prim.Native.Nat.{ℕ, _+_, _-_, _≤_, _<_}
 use mathlib.Core.Bool.{Bool, true, false}
 use mathlib.Core.List.{List as Seq, []}
-use mathlib.Core.Path.{_≡_, sym, ap, _∙_}
+use mathlib.Core.Path.{_≡_, refl, sym, ap, subst, _∙_}
 use native.Mathlib.Omega.{arith}
-use borrow.Author.Tests.{eqb-false, lt-ltb, le-ltb, le-leb, lt-leb, leb-true, leb-false}
+use borrow.Author.Tests.{eqb-true, eqb-false, lt-ltb, le-ltb, le-leb, lt-leb, leb-true, leb-false}
 use lib.Dec.{eqb, leb}
 use lib.ListN.{length}
 use Rattle.meaning.specs.Base.{zeros}
@@ -26,8 +26,8 @@ use Rattle.report.specs.Shown.{lines}
 use Rattle.preset.specs.declared.Outcome.{Outcome}
 use Rattle.preset.specs.declared.listing.Listed.{Listed}
 use Rattle.preset.specs.Settled.{Kept, Parsed}
-use Rattle.preset.specs.Listings.{Emptied, Listing, TreeListed, Lined, Planned, Short, Lists}
-use Rattle.preset.proofs.Settling.{judged-on, read-refused}
+use Rattle.preset.specs.Listings.{Emptied, Listing, TreeListed, linesIn, Lined, Planned, Short, ListsBy, Lists}
+use Rattle.preset.proofs.Settling.{judged-on, read-refused, parsed-decides}
 
 -- ---- the room of the output
 
@@ -68,13 +68,13 @@ pub list-rooms : (tree : Seq ℕ) (o : Outcome) → Listing tree o → o .number
 list-rooms tree o h z = h .rooms z
 
 -- bytes at the head of a room
-over-stored : (s room : Seq ℕ) → stored room 0 s ≡ over s room
+pub over-stored : (s room : Seq ℕ) → stored room 0 s ≡ over s room
 unfolding stored
 over-stored s room = let e : 0 + length s ≡ length s = omega arith in rw e
 
 module _ (name store tree out : Seq ℕ) (o : Outcome) (h : Listing tree o) (out' : Seq ℕ) where
   pub lined-not : (o .number ≡ 0 → ⊥) → (r : Listed) → Emptied out out' o r → Lined name store tree out out' o r
-  lined-not z r e = record { not = λ y. e; low = rw (e .says) (h .low); fine = λ y f. absurd (z y) }
+  lined-not z r e = record { not = λ y. e; low = rw (e .says) (h .low); fine = λ y. absurd (z y) }
 
   pub lined-fine : o .number ≡ 0 → (n : ℕ) → Wrote (lines tree store (o .made) name) out 0 out' n
       → Lined name store tree out out' o (record { number = 0; section = 0; place = 0; written = n })
@@ -82,10 +82,10 @@ module _ (name store tree out : Seq ℕ) (o : Outcome) (h : Listing tree o) (out
       record {
         not = λ y. absurd (y z);
         low = omega arith;
-        fine = λ y f.
-            let k = w .fits (omega (arith, f)) in
-            let m : n ≡ length (lines tree store (o .made) name) = omega (arith, k .1) in
-            (rw m, k .0 ∙ over-stored (lines tree store (o .made) name) out);
+        fine = λ y.
+            let e : length out - 0 ≡ length out = omega arith in
+            let m : n ≡ length (linesIn out name store tree (o .made)) = omega (arith, rw e at (w .place)) in
+            (rw m, rw e at (w .left) ∙ over-stored (linesIn out name store tree (o .made)) out);
       }
 
 -- ---- all of it
@@ -127,3 +127,42 @@ module _ (text name store tree out : Seq ℕ) (b : Bool) (eb : b ≡ short (leng
 
   pub lists-long : b ≡ false → Planned text name store tree out store' tree' out' r → Lists text name store tree out store' tree' out' r
   lists-long t p = record { low = p .low; by = rw (sym eb ∙ t) p }
+
+-- ---- two results that meet the promise for the same output are equal, answer and all three rooms
+module _ (text name store tree out store₁ tree₁ out₁ store₂ tree₂ out₂ : Seq ℕ) (r₁ r₂ : Listed) where
+  abbrev Same : Type 0
+  Same = (r₁ ≡ r₂) × (store₁ ≡ store₂) × (tree₁ ≡ tree₂) × (out₁ ≡ out₂)
+
+  emptied-one : (o : Outcome) → Emptied out out₁ o r₁ → Emptied out out₂ o r₂ → (r₁ ≡ r₂) × (out₁ ≡ out₂)
+  emptied-one o h k = (h .says ∙ sym (k .says), h .out-is ∙ sym (k .out-is))
+
+  lined-one : (o : Outcome) → Lined name store₁ tree₁ out out₁ o r₁ → Lined name store₁ tree₁ out out₂ o r₂ → (r₁ ≡ r₂) × (out₁ ≡ out₂)
+  lined-one o h k =
+      on (eqb (o .number) 0)
+      (λ t. let z = eqb-true (o .number) 0 t in (h .fine z .0 ∙ sym (k .fine z .0), h .fine z .1 ∙ sym (k .fine z .1)))
+      (λ t. let z = eqb-false (o .number) 0 t in emptied-one o (h .not z) (k .not z))
+
+  planned-one : Planned text name store tree out store₁ tree₁ out₁ r₁ → Planned text name store tree out store₂ tree₂ out₂ r₂ → Same
+  planned-one h k =
+      let s = parsed-decides (planning name 0 []) text store tree store₁ tree₁ store₂ tree₂ (h .outcome) (k .outcome) (h .parsed) (k .parsed) in
+      let e = go s (rooms.judged text (length store) (length tree)) refl in
+      (e .0, s .1, s .2, e .1)
+    where
+      go : (h .outcome ≡ k .outcome) × (store₁ ≡ store₂) × (tree₁ ≡ tree₂) → (m : Answer Doc) → rooms.judged text (length store) (length tree) ≡ m → (r₁ ≡ r₂) × (out₁ ≡ out₂)
+      go s (refused f section line) e =
+          emptied-one (h .outcome) (h .unread f section line e) (subst (λ (o : Outcome). Emptied out out₂ o r₂) (sym (s .0)) (k .unread f section line e))
+      go s (accepted d) e =
+          lined-one (h .outcome) (h .lined d e)
+          (subst (λ (o : Outcome). Lined name store₁ tree₁ out out₂ o r₂) (sym (s .0))
+          (subst (λ (t : Seq ℕ). Lined name store₁ t out out₂ (k .outcome) r₂) (sym (s .2))
+          (subst (λ (t : Seq ℕ). Lined name t tree₂ out out₂ (k .outcome) r₂) (sym (s .1)) (k .lined d e))))
+
+  short-one : Short store tree out store₁ tree₁ out₁ r₁ → Short store tree out store₂ tree₂ out₂ r₂ → Same
+  short-one h k = (h .says ∙ sym (k .says), h .store-is ∙ sym (k .store-is), h .tree-is ∙ sym (k .tree-is), h .out-is ∙ sym (k .out-is))
+
+  pub lists-decides : Lists text name store tree out store₁ tree₁ out₁ r₁ → Lists text name store tree out store₂ tree₂ out₂ r₂ → Same
+  lists-decides h k = go (short (length out) name) (h .by) (k .by)
+    where
+      go : (b : Bool) → ListsBy b text name store tree out store₁ tree₁ out₁ r₁ → ListsBy b text name store tree out store₂ tree₂ out₂ r₂ → Same
+      go true g l = short-one g l
+      go false g l = planned-one g l

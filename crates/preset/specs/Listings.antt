@@ -3,7 +3,7 @@ use Prim.Native.Nat.{ℕ, _≤_}
 use mathlib.Core.Bool.{Bool, true, false}
 use mathlib.Core.List.{List, []}
 use mathlib.Core.Path.{_≡_}
-use lib.ListN.{length}
+use lib.ListN.{length, take}
 use Rattle.meaning.specs.Base.{zeros}
 use Rattle.meaning.specs.Refusal.{Fault, accepted, refused}
 use Rattle.meaning.specs.Listing.{short}
@@ -33,12 +33,16 @@ pub record Listing (tree : List ℕ) (o : Outcome) : Type 0 where
   pub rooms : o .number ≡ 0 → Rooms tree (o .made)
   pub low : o .place ≤ 70000
 
--- the lines of a plan's rooms, where they fit, and the output after them as it was; a refusal leaves none
+-- the lines of a plan's rooms, as many of their bytes as the output takes
+abbrev pub linesIn : List ℕ → List ℕ → List ℕ → List ℕ → ℕ → List ℕ
+linesIn out name store tree made = take (length out) (lines tree store made name)
+
+-- these lines, and the output after them as it was; a refusal leaves none
 pub record Lined (name store' tree' out out' : List ℕ) (o : Outcome) (r : Listed) : Type 0 where
   pub not : (o .number ≡ 0 → ⊥) → Emptied out out' o r
   pub low : r .place ≤ 70000
-  pub fine : o .number ≡ 0 → length (lines tree' store' (o .made) name) ≤ length out
-      → (r ≡ record { number = 0; section = 0; place = 0; written = length (lines tree' store' (o .made) name) }) × (out' ≡ over (lines tree' store' (o .made) name) out)
+  pub fine : o .number ≡ 0
+      → (r ≡ record { number = 0; section = 0; place = 0; written = length (linesIn out name store' tree' (o .made)) }) × (out' ≡ over (linesIn out name store' tree' (o .made)) out)
 
 -- what a judge says of a tree's rooms, what that leaves, and the lines
 pub record TreeListed (name store tree : List ℕ) (made : ℕ) (out store' tree' out' : List ℕ) (r : Listed) : Type 0 where

@@ -39,7 +39,7 @@ use Rattle.report.specs.declared.Placed.{Placed}
 use Rattle.report.specs.declared.brief.ComponentBrief.{ComponentBrief}
 use Rattle.report.specs.declared.brief.ApplicationBrief.{ApplicationBrief}
 use Rattle.report.specs.Shown as shown
-use Rattle.page.proofs.Pages.{wrote-nil, wrote-then}
+use Rattle.page.proofs.Pages.{wrote-nil, wrote-long, wrote-then}
 
 -- the lines of some entries stand on the page, and with those of the entries that are left they are the lines of all
 pub record Left {X : Type 0} (f : X → Seq ℕ) (all left : Seq X) (out : Seq ℕ) (at : ℕ) (out′ : Seq ℕ) (at′ : ℕ) : Type 0 where
@@ -53,7 +53,7 @@ module _ {X : Type 0} (f : X → Seq ℕ) (all : Seq X) (out : Seq ℕ) (at : �
 
   module _ (left : Seq X) (out′ : Seq ℕ) (at′ : ℕ) (k : Left f all left out at out′ at′) where
     pub left-long : length out′ ≡ length out
-    left-long = k .wrote .long
+    left-long = wrote-long (k .wrote)
 
     left-end : left ≡ [] → Wrote (each f all) out at out′ at′
     left-end e = subst (λ (s : Seq ℕ). Wrote s out at out′ at′) (sym (append-nil (k .done)) ∙ rw e at (k .lines)) (k .wrote)

@@ -57,7 +57,7 @@ fn outcome(out: &mut [u8], at: usize, tree: &[u8], store: &[u8], made: usize, na
     line::stem(out, a, store, name, t)
 }
 
-// All lines of the listing, from a place of the output on; where they do not fit nothing is promised of it.
+// All lines of the listing, from a place of the output on, as many of their bytes as it takes.
 pub fn lines(
     out: &mut [u8],
     at: usize,

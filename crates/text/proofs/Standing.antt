@@ -1,49 +1,77 @@
 -- A text without comments and CRs, whose last line has its LF, is laid as it stands.
 use Prim.Native.Nat.{ℕ, zero, suc, _+_, _-_, _≤_, _<_}
 use mathlib.Core.Bool.{Bool, true, false}
-use mathlib.Core.List.{List, [], _∷_}
-use mathlib.Core.Path.{_≡_, refl, ap, _∙_}
+use mathlib.Core.List.{List, [], _∷_, _++_}
+use mathlib.Core.Path.{_≡_, refl, sym, ap, _∙_}
 use native.Mathlib.Omega.{arith}
 use native.Mathlib.Numerals.{add-one}
 use borrow.Author.Tests.{lt-ltb, ltb-true, ltb-false, eqb-true, eq-eqb, ne-eqb}
-use lib.Bits.{bitOr}
+use lib.Bits.{bitOr, or-zero-r}
 use lib.Dec.{eqb, ltb}
 use lib.ListN.{length, getD, take, drop, length-drop, take-append-drop}
-use lib.Seq.{length-take-le, take-all, getD-take, getD-drop, drop-cons}
-use Rattle.meaning.specs.Base.{pick, before}
+use lib.Seq.{length-take-le, take-all, take-suc, getD-take, getD-drop, drop-cons}
+use Rattle.meaning.specs.Base.{pick, nil?, final, before}
 use Rattle.meaning.specs.declared.StringState.{StringState}
 use Rattle.meaning.specs.declared.StringState.the-variants.{Outside, Inside, Escaped}
 use Rattle.meaning.specs.Quote.{stateAfter, equalsOutside, upTo}
 use Rattle.meaning.specs.Lines.{dropCr, kept, physical}
-use Rattle.laws.specs.Cases.{on}
-use Rattle.chars.specs.Under.{or-left, or-right}
-use Rattle.text.specs.Laid.{laid, firstLine, Bare, Bares}
+use Rattle.laws.specs.Cases.{on, never}
+use Rattle.chars.specs.Under.{or-right}
+use Rattle.text.specs.Laid.{laid, firstLine, bare, changed, allBare, clean, Bare, Bares}
 use Rattle.text.proofs.Cuts.{laid-there}
 
--- ---- the pass over all bytes: while m is 0, those before i are bare
+-- ---- the pass over all bytes: m is 0 as long as those before i are bare
 pub record Marking (s : List ℕ) (i m : ℕ) : Type 0 where
   pub high : i ≤ length s
-  pub all : m ≡ 0 → Bares s i
+  pub zero? : eqb m 0 ≡ allBare (take i s)
 
 pub mark-none : (s : List ℕ) → Marking s 0 0
-mark-none s = record { high = omega arith; all = λ z. record { fits = omega arith; all = λ k l. absurd (omega arith) } }
+mark-none s = record { high = omega arith; zero? = refl }
+
+-- one byte more
+bare-more : (s : List ℕ) (b : ℕ) → allBare (s ++ (b ∷ [])) ≡ pick (allBare s) (bare b) false
+bare-more [] b = on (bare b) (λ e. rw e) (λ e. rw e)
+bare-more (a ∷ s) b = on (bare a) (λ e. rw e (bare-more s b)) (λ e. rw e)
+
+one-bare : (m b : ℕ) → eqb (bitOr m (changed b)) 0 ≡ pick (eqb m 0) (bare b) false
+one-bare m b =
+    on (bare b)
+    (λ e. rw (e, or-zero-r m) (on (eqb m 0) (λ z. rw z) (λ z. rw z)))
+    (λ e. rw e (ne-eqb (bitOr m 1) 0 (λ z. omega (arith, or-right m 1)) ∙ on (eqb m 0) (λ z. rw z) (λ z. rw z)))
 
 module _ (s : List ℕ) (i m : ℕ) (a : Marking s i m) where
-  pub mark-on : (x : ℕ) → i < length s → (x ≡ 0 → Bare (getD s i 0)) → Marking s (i + 1) (bitOr m x)
-  mark-on x h b = record { high = omega arith; all = λ z. record { fits = omega arith; all = go z } }
-    where
-      go : bitOr m x ≡ 0 → (k : ℕ) → k < i + 1 → Bare (getD s k 0)
-      go z k l =
-          on (ltb k i)
-          (λ t. a .all (omega (arith, or-left m x)) .all k (ltb-true k i t))
-          (λ t.
-          let e : k ≡ i = omega (arith, ltb-false k i t) in
-          rw e (b (omega (arith, or-right m x))))
+  pub mark-on : (x : ℕ) → i < length s → x ≡ changed (getD s i 0) → Marking s (i + 1) (bitOr m x)
+  mark-on x h e =
+      let t : take (i + 1) s ≡ take i s ++ (getD s i 0 ∷ []) = rw (add-one i) (take-suc s i 0 h) in
+      record { high = omega arith; zero? = rw (e, t) (one-bare m (getD s i 0) ∙ rw (a .zero?) (sym (bare-more (take i s) (getD s i 0)))) }
 
-  pub mark-all : length s ≤ i → eqb m 0 ≡ true → Bares s (length s)
-  mark-all h e =
-      let n : i ≡ length s = omega (arith, a .high) in
-      rw n at (a .all (eqb-true m 0 e))
+  pub mark-all : length s ≤ i → eqb m 0 ≡ allBare s
+  mark-all h = a .zero? ∙ ap allBare (take-all i s h)
+
+-- such bytes one by one
+bare-so : (b : ℕ) → bare b ≡ true → Bare b
+bare-so b e =
+    record {
+      comment = λ z. never {b = bare b} e (rw z);
+      cr = λ z. never {b = bare b} e (rw z);
+    }
+
+bares-so : (s : List ℕ) → allBare s ≡ true → Bares s (length s)
+bares-so s e = record { fits = omega arith; all = go s e }
+  where
+    go : (s : List ℕ) → allBare s ≡ true → (k : ℕ) → k < length s → Bare (getD s k 0)
+    go [] e k l = absurd (omega arith)
+    go (b ∷ s) e zero l = on (bare b) (λ t. bare-so b t) (λ t. never {b = false} (rw t at e) refl)
+    go (b ∷ s) e (suc k) l = on (bare b) (λ t. go s (rw t at e) k (omega arith)) (λ t. never {b = false} (rw t at e) refl)
+
+pub byte-hash : (b : ℕ) → b ≡ 35 → 1 ≡ changed b
+byte-hash b e = rw e
+
+pub byte-cr : (b : ℕ) → b ≡ 13 → 1 ≡ changed b
+byte-cr b e = rw e
+
+pub byte-bare : (b : ℕ) → (b ≡ 35 → ⊥) → (b ≡ 13 → ⊥) → 0 ≡ changed b
+byte-bare b e f = rw (ne-eqb b 35 e, ne-eqb b 13 f)
 
 -- ---- a bare line is kept whole
 no-comment : (st : StringState) (b : ℕ) → Bare b → equalsOutside 35 st b ≡ false
@@ -114,9 +142,33 @@ stands (suc k) s h b e = go s h b e (stands k)
         ∙ rw (first-of s n l, bare-line (take n s) f, ih r (omega arith) g y) (rw v at (take-append-drop n s))
 
 -- ---- the answers
-module _ (s : List ℕ) where
-  pub clean-none : length s ≡ 0 → true ≡ true → laid s ≡ s
-  clean-none z t = stands 0 s (omega arith) (record { fits = omega arith; all = λ k l. absurd (omega arith) }) (λ l. absurd (omega arith))
+not-nil : (s : List ℕ) → (length s ≡ 0 → ⊥) → nil? s ≡ false
+not-nil [] h = absurd (h refl)
+not-nil (b ∷ s) h = refl
 
-  pub clean-so : (r : Bool) → getD s (length s - 1) 0 ≡ 10 → (r ≡ true → Bares s (length s)) → r ≡ true → laid s ≡ s
-  clean-so r e b t = stands (length s) s (omega arith) (b t) (λ l. e)
+module _ (s : List ℕ) where
+  pub clean-none : length s ≡ 0 → true ≡ clean s
+  unfolding clean
+  clean-none z = go s z
+    where
+      go : (s : List ℕ) → length s ≡ 0 → true ≡ pick (nil? s) true (pick (eqb (final s) 10) (allBare s) false)
+      go [] z = refl
+      go (b ∷ s) z = absurd (omega (arith, z))
+
+  module _ (n : length s ≡ 0 → ⊥) where
+    pub clean-so : (r : Bool) → getD s (length s - 1) 0 ≡ 10 → r ≡ allBare s → r ≡ clean s
+    unfolding clean
+    clean-so r e b = rw (not-nil s n, eq-eqb (final s) 10 e) b
+
+    pub clean-not : (getD s (length s - 1) 0 ≡ 10 → ⊥) → false ≡ clean s
+    unfolding clean
+    clean-not e = rw (not-nil s n, ne-eqb (final s) 10 e)
+
+-- and what is said to be clean stands as it is
+pub clean-stands : (s : List ℕ) → clean s ≡ true → laid s ≡ s
+unfolding clean
+clean-stands [] e = stands 0 [] (omega arith) (record { fits = omega arith; all = λ k l. absurd (omega arith) }) (λ l. absurd (omega arith))
+clean-stands (b ∷ s) e =
+    on (eqb (final (b ∷ s)) 10)
+    (λ t. stands (length (b ∷ s)) (b ∷ s) (omega arith) (bares-so (b ∷ s) (rw t at e)) (λ l. eqb-true (final (b ∷ s)) 10 t))
+    (λ t. never {b = false} (rw t at e) refl)

@@ -1,11 +1,11 @@
 -- Kept lines one after the other: a joined line is a part of this text, and a line number is a count of LFs.
 use Prim.Native.Nat.{ℕ, _+_, _-_, _≤_, _<_}
-use mathlib.Core.Bool.{Bool}
+use mathlib.Core.Bool.{Bool, true, false}
 use mathlib.Core.List.{List, [], _∷_, _++_}
 use mathlib.Core.Path.{_≡_}
-use lib.Dec.{ltb}
+use lib.Dec.{eqb, ltb}
 use lib.ListN.{length, getD, take, drop}
-use Rattle.meaning.specs.Base.{pick, before, cut}
+use Rattle.meaning.specs.Base.{pick, nil?, final, before, cut}
 pub use Rattle.meaning.specs.Rooms.{over}
 use Rattle.meaning.specs.Lines.{dropCr, physical, kept, keptLines}
 use Rattle.text.specs.declared.Piece.{Piece}
@@ -64,6 +64,22 @@ pub record Lays (s room room' : List ℕ) (r : ℕ) : Type 0 where
   pub most : r ≤ length s + 1
   pub used : r ≡ length (laid s)
   pub left : room' ≡ over (laid s) room
+
+-- neither `#`, which may begin a comment, nor CR, which may belong to a line end
+abbrev pub bare : ℕ → Bool
+bare b = pick (eqb b 35) false (pick (eqb b 13) false true)
+
+-- 0 for such a byte
+abbrev pub changed : ℕ → ℕ
+changed b = pick (bare b) 0 1
+
+abbrev pub allBare : List ℕ → Bool
+allBare [] = true
+allBare (b ∷ s) = pick (bare b) (allBare s) false
+
+-- an empty text, or one of such bytes that ends in LF: it is laid as it stands (`text/proofs/Standing.clean-stands`)
+unfoldable pub clean : List ℕ → Bool
+clean s = pick (nil? s) true (pick (eqb (final s) 10) (allBare s) false)
 
 -- a byte that neither begins a comment nor may belong to a line end
 pub record Bare (b : ℕ) : Type 0 where

@@ -10,7 +10,8 @@ ghost use Prim.Native.Nat.{_+_, _≤_, _<_};
 ghost use lib.ListN.{length};
 ghost use Rattle.meaning.specs.Quote as quotes;
 ghost use Rattle.meaning.specs.Lines as meant;
-ghost use Rattle.text.specs.Laid.{Begins, Fitting, Lays1, Lays, Bare, Bares, laid, ended, over};
+ghost use Rattle.text.specs.Laid as lines;
+ghost use Rattle.text.specs.Laid.{Begins, Fitting, Lays1, Lays, changed, allBare, ended, over};
 ghost use Rattle.text.specs.Walk as walk;
 ghost use Rattle.text.specs.Answers.{Between, Checks, Roomy, Reads};
 ghost use Rattle.text.specs.Runs as runs;
@@ -323,9 +324,9 @@ pub fn lay(text: &[u8], scratch: &mut [u8]) -> usize
     j
 }
 
-// 0 only for a byte that stays as it is where lines are laid.
+// 0 for a byte that stays as it is where lines are laid.
 fn changed_when_laid(b: u8) -> u8
-    ensures { λ r. ⌜ (r ≡ 0 → Bare b) ⌝ }
+    ensures { λ r. ⌜ r ≡ changed b ⌝ }
 {
     if b == b'#' {
         return 1;
@@ -338,7 +339,7 @@ fn changed_when_laid(b: u8) -> u8
 
 // Whether there is no `#` and no CR: of all bytes together, since that takes many at once.
 fn no_hash_no_cr(s: &[u8]) -> bool
-    ensures { λ r. ⌜ (r ≡ true → Bares (now (s .entry)) (length (now (s .entry)))) ⌝ }
+    ensures { λ r. ⌜ r ≡ allBare (now (s .entry)) ⌝ }
 {
     let mut i = 0;
     let mut m: u8 = 0;
@@ -349,9 +350,9 @@ fn no_hash_no_cr(s: &[u8]) -> bool
     m == 0
 }
 
-// Whether a text is surely laid as it stands.
+// Whether a text is empty, or ends in LF and has no `#` and no CR: then it is laid as it stands.
 pub fn clean(s: &[u8]) -> bool
-    ensures { λ r. ⌜ (r ≡ true → laid (now (s .entry)) ≡ now (s .entry)) ⌝ }
+    ensures { λ r. ⌜ r ≡ lines.clean (now (s .entry)) ⌝ }
 {
     let n = s.len();
     if n == 0 {

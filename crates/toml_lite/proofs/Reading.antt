@@ -19,7 +19,8 @@ use Rattle.text.specs.declared.Place.{Place}
 use Rattle.text.specs.declared.Checked.{Checked}
 use Rattle.text.specs.declared.Checked.the-variants as checks
 use Rattle.text.specs.Answers.{checkedOf, counted, Checks}
-use Rattle.text.specs.Laid.{linesOf, laid, Lays}
+use Rattle.text.specs.Laid.{linesOf, laid, clean, Lays}
+use Rattle.text.proofs.Standing.{clean-stands}
 use Rattle.text.proofs.Whole.{checked-joined}
 use Rattle.values.specs.Doc.{Doc, linesS, empty, documentS}
 use Rattle.values.proofs.Carrying.{carries-none, carries-grows}
@@ -166,8 +167,8 @@ module _ (n m : ℕ) (store tree : List ℕ) (es : store ≡ zeros n) (et : tree
 
 -- ---- no scratch
 module _ (s : List ℕ) (l : length s ≤ 32768) where
-  pub stands-so : (r v : Bool) → (r ≡ true → laid s ≡ s) → r ≡ true → v ≡ valid s → v ≡ true → Standing s
-  stands-so r v e t w u = record { fits = l; well = sym u ∙ w; is = e t }
+  pub stands-so : (r v : Bool) → r ≡ clean s → r ≡ true → v ≡ valid s → v ≡ true → Standing s
+  stands-so r v e t w u = record { fits = l; well = sym u ∙ w; is = clean-stands s (sym e ∙ t) }
 
 module _ (limits : Limits) (el : limits ≡ of01) (s store tree : List ℕ) (h : Roomy store tree) (k : Standing s) where
   pub standing-begun : Begun limits s store tree

@@ -6,16 +6,16 @@ use mathlib.Core.Path.{_≡_, refl, sym, ap, _∙_}
 use native.Mathlib.Omega.{arith}
 use borrow.Author.Tests.{eq-eqb, ne-eqb, eqb-true, lt-ltb, le-ltb, ltb-true, ltb-false}
 use lib.Dec.{eqb, ltb}
-use lib.ListN.{length, take, replicate}
-use lib.Seq.{take-append-seam}
+use lib.ListN.{length, take, replicate, length-map}
+use lib.Seq.{take-all, take-append-seam}
 use Rattle.meaning.specs.Limits.{of01}
-use Rattle.meaning.specs.Refusal.{accepted}
+use Rattle.meaning.specs.Refusal.{accepted, inApplication}
 use Rattle.meaning.specs.Fields.{each, listed}
 use Rattle.meaning.specs.Layout as meant
 use Rattle.laws.specs.Cases.{on}
 use Rattle.tree.specs.declared.Fields.{Fields}
 use Rattle.tree.specs.Room.{Counts}
-use Rattle.tree.specs.Doors.{Rooms, fieldsOf}
+use Rattle.tree.specs.Doors.{Rooms, fieldsOf, items}
 use Rattle.tree.specs.Spans.{items-count}
 use Rattle.schema.specs.declared.Chip.{Chip}
 use Rattle.schema.specs.declared.Text.{Text}
@@ -27,7 +27,7 @@ use Rattle.parse.specs.declared.entry.Partitions.{Partitions}
 use Rattle.parse.specs.declared.front.Front.{Front}
 use Rattle.parse.specs.Refusals.{inSection, earlier}
 use Rattle.parse.specs.Entries as entries
-use Rattle.parse.specs.Entries.{refusalAt, refusalOf, blank, Partitioned, partitions, partitionAt}
+use Rattle.parse.specs.Entries.{refusalAt, refusalOf, applicationR, blank, Partitioned, partitions, partitionAt}
 use Rattle.parse.specs.Answers.{earlier-two, earlier-clear}
 use Rattle.parse.specs.Whole as whole
 use Rattle.parse.specs.Whole.{reader, listed-few, listed-clear}
@@ -48,6 +48,8 @@ use Rattle.validate.specs.declared.gather.Gathered.{Gathered}
 use Rattle.validate.specs.declared.gather.Applied.{Applied}
 use Rattle.validate.specs.Fronts as fronts
 use Rattle.validate.specs.FrontSaid.{front-plain}
+use Rattle.validate.specs.Gathered as gathered
+use Rattle.validate.specs.Entries.{componentAt}
 use Rattle.validate.specs.Gathered.{components, applications, Few, Counted, Gathers, Components, Followed, Follows, Applications}
 use Rattle.validate.specs.Faults as faults
 use Rattle.validate.specs.Faults.{
@@ -148,7 +150,11 @@ module _ (room store : Seq ℕ) (made : ℕ) (l : List) (el : l ≡ applicationL
       rules-refused rules y = rw (← applications-are, eq-eqb (b .number) 0 z, ne-eqb (rules .number) 0 y)
 
       follows : Follows room store made parts (applications room store made) (take (c .count) (c .pairs)) a
-      follows = rw el at (g .gathers (earlier-clear s (a .fault) (rw (← eb) z) .1))
+      follows =
+          let y : a .fault .number ≡ 0 = earlier-clear s (a .fault) (rw (← eb) z) .1 in
+          let w : refusalOf (listed (applicationR room store made 32) inApplication 64 (applications room store made)) .number ≡ 0 = rw (g .fault, el) at y in
+          let n = listed-few (λ n. entries.applicationAt room store made n 32 .fault) (λ n. entries.applicationAt room store made n 32 .application) 5 (applications room store made) 64 w in
+          rw (el, take-all 64 (applications room store made) n) at (g .gathers)
 
       pub applications-few : a .count ≤ 64
       applications-few = omega (arith, follows .listed .is, follows .listed .few)
@@ -210,7 +216,15 @@ module _ (room store : Seq ℕ) (made : ℕ) (l : List) (el : l ≡ componentLis
 
       module _ (y : c .fault .number ≡ 0) where
         gathers : Gathers room store made parts (components room store made) c
-        gathers = rw el at (g .gathers y)
+        gathers =
+            let ns = items room (l .end) (l .place) 0 in
+            rw el at (rw (eq-eqb (c .fault .number) 0 y, take-all (length ns) ns (omega arith)) at (g .gathers))
+
+        pairs-are : take (c .count) (c .pairs) ≡ map (λ n. componentAt room store made parts n .pair) (components room store made)
+        pairs-are =
+            let ps = map (λ n. componentAt room store made parts n .pair) (components room store made) in
+            let e : c .count ≡ length ps = gathers .listed .is ∙ sym (length-map (components room store made) (λ n. componentAt room store made parts n .pair)) in
+            rw (e, gathers .pairs) (take-append-seam ps (replicate (128 - length (components room store made)) gathered.blank))
 
         pub components-few : Few c
         components-few = record { few = omega (arith, gathers .listed .is, gathers .listed .few) }
@@ -221,7 +235,7 @@ module _ (room store : Seq ℕ) (made : ℕ) (l : List) (el : l ≡ componentLis
         components-passed rules own f r ef eo er =
             let rest = restFault room store made parts (c .count) (take (c .count) (c .pairs)) (c .first) in
             let e : earlier own rest ≡ earlier rules (earlier f rest) = rw eo (sym (earlier-two rules f rest)) in
-            let d : earlier f rest ≡ listsFault room store made parts = rw (ef, gathers .listed .own, gathers .listed .is, counted-is, gathers .pairs, gathers .first) in
+            let d : earlier f rest ≡ listsFault room store made parts = rw (ef, pairs-are, gathers .listed .own, gathers .listed .is, counted-is, gathers .first) in
             rw (← components-are, eq-eqb (c .fault .number) 0 y) (rw (e, d) at er)
 
 -- ---- the partitions

@@ -1,10 +1,10 @@
 -- Level 2 of all entries: what gathering them leaves.
-use Prim.Native.Nat.{ℕ, _≤_}
+use Prim.Native.Nat.{ℕ, _-_, _≤_}
 use mathlib.Core.Bool.{Bool, true}
 use mathlib.Core.List.{List as Seq, [], map, _++_}
 use mathlib.Core.Path.{_≡_}
 use lib.Dec.{eqb}
-use lib.ListN.{length, take}
+use lib.ListN.{length, take, replicate}
 use Rattle.meaning.specs.Base.{pick}
 use Rattle.meaning.specs.Refusal.{inApplication}
 use Rattle.meaning.specs.Fields.{listed}
@@ -33,6 +33,10 @@ either a b = pick a true b
 abbrev pub faultAt : ℕ → ℕ → ℕ → Refusal
 faultAt section number place = pick (eqb number 0) (refusalAt 0 0 0) (refusalAt section number place)
 
+-- how many of n entries were met: all of them, or those before the first that has a fault
+abbrev pub met : Refusal → ℕ → ℕ
+met fault n = pick (eqb (fault .number) 0) n (fault .place)
+
 -- ---- entries that numbers stand for
 
 -- how many, and the first fault of their marks, where a name met twice has this number
@@ -51,13 +55,13 @@ module _ (room store : Seq ℕ) (made : ℕ) where
   -- as many, their own rules, their packages, and whether one lies in the first partition
   pub record Gathers (parts : Seq (Seq ℕ)) (ns : Seq ℕ) (r : Gathered) : Type 0 where
     pub listed : Listed store 51 (componentAt room store made parts) ns (r .count) (r .own)
-    pub pairs : take (length ns) (r .pairs) ≡ map (λ n. componentAt room store made parts n .pair) ns
+    pub pairs : r .pairs ≡ map (λ n. componentAt room store made parts n .pair) ns ++ replicate (128 - length ns) blank
     pub first : r .first ≡ anyOf (λ n. componentAt room store made parts n .first) ns
 
-  -- the first fault of their records, and what is gathered where there is none
+  -- the first fault of their records, and what is gathered of those before it
   pub record Components (place end : ℕ) (parts : Seq (Seq ℕ)) (r : Gathered) : Type 0 where
     pub fault : r .fault ≡ eachComponent room store made place end 32
-    pub gathers : r .fault .number ≡ 0 → Gathers parts (items room end place 0) r
+    pub gathers : Gathers parts (take (met (r .fault) (length (items room end place 0))) (items room end place 0)) r
 
 -- the components that were gathered leave room for the applications' packages
 pub record Few (c : Gathered) : Type 0 where
@@ -76,10 +80,10 @@ module _ (room store : Seq ℕ) (made : ℕ) where
     pub listed : Listed store 65 (applicationAt room store made parts) ns (r .count) (r .own)
     pub clashes : r .clash ≡ firstHit (clash room store made) [] (front ++ map (λ n. applicationAt room store made parts n .pair) ns)
 
-  -- the list's length is told before its entries
+  -- the list's length is told before its entries; what is gathered is of the first 64, with a fault or without
   pub record Applications (place end : ℕ) (parts : Seq (Seq ℕ)) (front : Seq Pair) (r : Applied) : Type 0 where
     pub fault : r .fault ≡ refusalOf (listed (applicationR room store made 32) inApplication 64 (walk room store end place 65 Nothing))
-    pub gathers : r .fault .number ≡ 0 → Follows parts (walk room store end place 65 Nothing) front r
+    pub gathers : Follows parts (take 64 (walk room store end place 65 Nothing)) front r
 
   -- ---- of a preset
 

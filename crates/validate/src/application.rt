@@ -82,7 +82,7 @@ fn entry_of(
     let name = a.name;
     let partition = a.partition;
     let address = a.load_address;
-    // "compared exactly"
+    // "validation compares an application's exactly"
     let at = layout::find_named(store, items, count, partition, false);
     Entry {
         fault,

@@ -169,7 +169,7 @@ pub fn first_clash(
     found
 }
 
-// "Where a component's `pbp_package` is its `package`, only `pbp_features` count."
+// "where a component's `pbp_package` is its `package`, only `pbp_features` count"
 pub fn pair_of_component(store: &[u8], c: Component) -> Pair
     ensures { λ r. ⌜ r ≡ clashes.pairOfComponent (now (store .entry)) c ⌝ }
 {

@@ -1,9 +1,5 @@
--- An empty text is laid as itself, and so is one that ends in LF without `#` or CR; of false nothing is claimed.
 use borrow.Author.Needs.{needs}
-use mathlib.Core.Bool.{false}
-use mathlib.Core.Path.{refl}
-use Rattle.laws.specs.Cases.{never}
-use Rattle.text.proofs.Standing.{clean-none, clean-so}
+use Rattle.text.proofs.Standing.{clean-none, clean-so, clean-not}
 use Rattle.text.proofs.clean.Statement.{statement}
 use Rattle.text.proofs.clean.Tie as tie
 
@@ -23,7 +19,7 @@ returns-2 : tie.Need-returns-2
 returns-2 c = search (needs, clean-so)
 
 returns-3 : tie.Need-returns-3
-returns-3 c = λ e. never {b = false} e refl
+returns-3 c = search (needs, clean-not)
 
 pub clean-spec : {M : Type 1} → statement M
 clean-spec =
