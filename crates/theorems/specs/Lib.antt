@@ -7,4 +7,6 @@ pub mod AcceptedComponents
 pub mod Listing
 pub mod Demand3
 pub mod Demand3Needs
+pub mod Decoding
+pub mod Views
 pub mod Proved
