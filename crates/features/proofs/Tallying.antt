@@ -42,7 +42,7 @@ pieces-count : (room store ns : List ℕ) → length (piecesAt room store ns) �
 pieces-count room store [] = refl
 pieces-count room store (n ∷ ns) = ap suc (pieces-count room store ns)
 
-pieces-most : (room store : List ℕ) (made : ℕ) (f : Features) (at : ℕ) → length (piecesFrom room store made f at) ≤ bound room store made f
+pub pieces-most : (room store : List ℕ) (made : ℕ) (f : Features) (at : ℕ) → length (piecesFrom room store made f at) ≤ bound room store made f
 unfolding piecesFrom items
 pieces-most room store made lists.Absent at = omega arith
 pieces-most room store made (lists.Words from len) at =
@@ -57,7 +57,7 @@ placed-most x (y ∷ ys) =
     (λ e. rw e (omega (arith, placed-most x ys)))
     (λ e. on (same y x) (λ d. rw (e, d) (omega arith)) (λ d. rw (e, d) (omega arith)))
 
-ordered-most : (xs : List (List ℕ)) → length (ordered xs) ≤ length xs
+pub ordered-most : (xs : List (List ℕ)) → length (ordered xs) ≤ length xs
 ordered-most [] = omega arith
 ordered-most (x ∷ xs) = omega (arith, placed-most x (ordered xs), ordered-most xs)
 

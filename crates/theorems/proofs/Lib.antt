@@ -8,4 +8,8 @@ pub mod Listing
 pub mod Refusals
 pub mod Demand3
 pub mod Demand3Needs
+pub mod Decoding
+pub mod FixedWords
+pub mod Places
+pub mod Views
 pub mod Proved

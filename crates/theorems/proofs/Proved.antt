@@ -1,6 +1,8 @@
 -- Each statement of the table, with its proof.
 use Rattle.theorems.specs.Proved.{Proved}
 use Rattle.theorems.proofs.Answers as answers
+use Rattle.theorems.proofs.FixedWords as words
+use Rattle.theorems.proofs.Views as views
 use Rattle.theorems.proofs.Lines as lines
 use Rattle.theorems.proofs.NeverMet.{never-met}
 use Rattle.theorems.proofs.AcceptedLayout as layouts
@@ -22,6 +24,13 @@ proved =
             listing-says = answers.listing-says;
             one-answer = answers.one-answer;
             one-listing = answers.one-listing;
+          };
+      viewing =
+          record {
+            preset-shown = views.accepted-is-shown;
+            plan-shown = views.plan-is-shown-by-views;
+            word-written = words.word-is-written;
+            words-short = words.words-are-short;
           };
       accepting =
           record {

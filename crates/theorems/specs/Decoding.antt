@@ -39,7 +39,7 @@ some x >>= f = f x
 
 -- ---- numbers
 
--- HOST.md, "Views": the fixed words in the order of their numbers, from 1
+-- HOST.md, the table of fixed words, in the order of their numbers from 1
 abbrev pub fixedWords : List (List ℕ)
 fixedWords =
     ascii "board"
@@ -65,36 +65,36 @@ abbrev pub wordByNumber : ℕ → Option (List ℕ)
 wordByNumber zero = none
 wordByNumber (suc n) = entryAt fixedWords n
 
--- "chip: 1 d13x, 2 d21x"
+-- chip: 1 d13x, 2 d21x
 unfoldable pub chipBy : ℕ → Option Chip
 chipBy n = pick (eqb n 1) (some d13x) (pick (eqb n 2) (some d21x) none)
 
--- "media: 1 spi-nor, 2 spi-nand"
+-- media: 1 spi-nor, 2 spi-nand
 unfoldable pub mediaBy : ℕ → Option Media
 mediaBy n = pick (eqb n 1) (some spiNor) (pick (eqb n 2) (some spiNand) none)
 
--- "kind of a component: 1 app, 2 pbp, 3 raw"
+-- kind of a component: 1 app, 2 pbp, 3 raw
 unfoldable pub kindBy : ℕ → Option Kind
 kindBy n = pick (eqb n 1) (some kindApp) (pick (eqb n 2) (some kindPbp) (pick (eqb n 3) (some kindRaw) none))
 
--- "a flag: 0 false, 1 true"
+-- a flag: 0 false, 1 true
 unfoldable pub flagBy : ℕ → Option Bool
 flagBy n = pick (eqb n 0) (some false) (pick (eqb n 1) (some true) none)
 
--- "an amount: kind 0 absent, 1 a number"
+-- an amount: kind 0 absent, 1 a number
 unfoldable pub amountBy : Amount → Option (Option ℕ)
 amountBy a = pick (eqb (a .kind) 0) (some none) (pick (eqb (a .kind) 1) (some (some (a .number))) none)
 
--- "found: 0 there is no such thing, 1 there is"
+-- found: 0 there is no such thing, 1 there is
 abbrev pub foundBy : {X : Type 0} → ℕ → Option X → Option (Option X)
 foundBy found x = pick (eqb found 0) (some none) (pick (eqb found 1) (x >>= (λ y. some (some y))) none)
 
 -- ---- texts
 
--- `clip from len store`: "len bytes of the store from from on, and no byte where they would run past its end"
+-- `clip from len store`: len bytes of the store from from on, and no byte where they would run past its end
 
 module _ (store name : List ℕ) where
-  -- "0 absent, 1 in the store, 2 the lent name, 3 a fixed word, 4 in the store with `.aic` after them"
+  -- 0 absent, 1 in the store, 2 the lent name, 3 a fixed word, 4 in the store with `.aic` after them
   unfoldable pub optionalBy : Bytes → Option (Option (List ℕ))
   optionalBy b =
       pick (eqb (b .kind) 0) (some none)
@@ -103,7 +103,7 @@ module _ (store name : List ℕ) where
       (pick (eqb (b .kind) 3) (wordByNumber (b .word) >>= (λ w. some (some w)))
       (pick (eqb (b .kind) 4) (some (some (clip (b .from) (b .len) store ++ ascii ".aic"))) none))))
 
-  -- "absent is empty where a record always has the text"
+  -- absent is empty where a record always has the text
   abbrev pub orEmpty : Option (List ℕ) → List ℕ
   orEmpty none = []
   orEmpty (some s) = s
@@ -120,7 +120,7 @@ module _ (tree store : List ℕ) (made : ℕ) where
       pick (eqb (v .found) 0) (some [])
       (pick (eqb (v .found) 1) (others (v .from) (v .len) >>= (λ fs. some (clip (v .from) (v .len) store ∷ fs))) none)
 
-  -- "called with begun 0, then with begun 1 and the item before, until found is 0"; none where it has not ended after
+  -- called with begun 0, then with begun 1 and the item before, until found is 0; none where it has not ended after
   -- so many calls
   abbrev pub walked : ℕ → FeatureList → ℕ → ℕ → ℕ → Option (List (List ℕ))
   walked zero l begun last size = none
@@ -243,11 +243,12 @@ module _ (tree store : List ℕ) (made : ℕ) where
       features ← listBy fs
       some (record { pack = pack; bin = bin; features = features })
 
-    -- "kind of a source: 0 none, 1 a package, 2 a file"
+    -- kind of a source: 0 none, 1 a package, 2 a file
     abbrev pub sourceBy : SourceView → Option (Option Source)
     sourceBy v =
         pick (eqb (v .kind) 0) (some none)
-        (pick (eqb (v .kind) 1) (buildFields (v .«package») (v .bin) (v .features) >>= (λ b. some (some (fromPackage b))))
+        (pick (eqb (v .kind) 1)
+        (buildFields (v .«package») (v .bin) (v .features) >>= (λ b. some (some (fromPackage b))))
         (pick (eqb (v .kind) 2) (textBy store name (v .file) >>= (λ s. some (some (fromFile s)))) none))
 
     abbrev pub buildBy : BuildView → Option (Option Build)

@@ -1,6 +1,7 @@
 -- The table of what is proved: one line of plain words for each statement. `proofs/Proved.proved` has a proof of each.
 use Rattle.theorems.specs.Answers.{ReadSays, ValidateSays, PlanSays, PlanIsShown, ListingSays}
 use Rattle.theorems.specs.Answers.{OneAnswer, OneListing}
+use Rattle.theorems.specs.Views.{AcceptedIsShown, PlanIsShownByViews, WordIsWritten, WordsAreShort}
 use Rattle.theorems.specs.Lines.{NoLineIsBlank, SegmentsAreNames, NoKeyTwice}
 use Rattle.theorems.specs.NeverMet.{NeverMet}
 use Rattle.theorems.specs.AcceptedLayout.{AcceptedLayoutIsSound, PresetLayoutIsSound}
@@ -27,6 +28,17 @@ pub record Answering : Type 0 where
   pub one-answer : OneAnswer
   -- and two that meet that of the listing, with the output
   pub one-listing : OneListing
+
+-- what the views show
+pub record Viewing : Type 0 where
+  -- after an accepted call every view of a preset, decoded by the words of HOST.md, is the field of 01's preset
+  pub preset-shown : AcceptedIsShown
+  -- and every view of a plan the field of 01's plan
+  pub plan-shown : PlanIsShownByViews
+  -- preset_word writes the word that HOST.md's table has under the number
+  pub word-written : WordIsWritten
+  -- no word is longer than 32 bytes
+  pub words-short : WordsAreShort
 
 -- what a text and an accepted preset have
 pub record Accepting : Type 0 where
@@ -78,5 +90,6 @@ pub record Planning : Type 0 where
 
 pub record Proved : Type 0 where
   pub answering : Answering
+  pub viewing : Viewing
   pub accepting : Accepting
   pub planning : Planning

@@ -1,7 +1,7 @@
--- What the views show of the rooms that an accepted call leaves: decoded by the words of docs/HOST.md (`Decoding`), every
--- struct is the field of 01's record, for every field. A view's promise is an equation with a definition of
--- host/specs/Records or host/specs/Plans, and a clause here is about any v that meets it: whatever a view answers, given
--- the rooms, the count `made` of the call's answer, and the same lent name and selection.
+-- What the views show of the rooms that an accepted call leaves: decoded by the words of docs/HOST.md (`Decoding`),
+-- every struct is the field of 01's record, for every field. A view's promise is an equation with a definition of
+-- host/specs/Records or host/specs/Plans, and a clause here is about any v that meets it: whatever a view answers,
+-- given the rooms, the count `made` of the call's answer, and the same lent name and selection.
 use Prim.Native.Nat.{ℕ, _-_, _≤_, _<_}
 use mathlib.Core.List.{List, _++_}
 use mathlib.Core.Option.{Option, none, some}

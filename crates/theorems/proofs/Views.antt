@@ -1,0 +1,360 @@
+-- All views of the rooms that an accepted call leaves, as they are exported: decoded, they are 01's records.
+use Prim.Native.Nat.{ℕ, zero, suc, _+_, _-_, _≤_, _<_}
+use mathlib.Core.Bool.{true, false}
+use mathlib.Core.List.{List, [], _∷_, _++_}
+use mathlib.Core.Option.{Option, none, some}
+use mathlib.Core.Path.{_≡_, refl, sym, ap, subst, _∙_}
+use native.Mathlib.Omega.{arith}
+use borrow.Author.Tests.{ltb-true, ltb-false, lt-ltb, le-ltb}
+use lib.Dec.{eqb, ltb}
+use lib.ListN.{length, drop}
+use Rattle.meaning.specs.Base.{pick, zeros}
+use Rattle.meaning.specs.Limits.{of01}
+use Rattle.meaning.specs.Refusal.{Answer, accepted, refused}
+use Rattle.meaning.specs.Schema as schemas
+use Rattle.meaning.specs.Preset.{Read}
+use Rattle.meaning.specs.Plan as meant
+use Rattle.laws.specs.Cases.{on}
+use Rattle.tree.specs.declared.Fields.{Fields}
+use Rattle.tree.specs.Doors.{fieldsOf, items, nthOf}
+use Rattle.schema.specs.declared.Text.{Text}
+use Rattle.schema.specs.declared.Board.{Board}
+use Rattle.schema.specs.declared.Image.{Image}
+use Rattle.parse.specs.declared.view.PartitionFound.{PartitionFound}
+use Rattle.parse.specs.declared.view.PartitionFound.the-variants as partitions
+use Rattle.parse.specs.declared.view.ComponentFound.{ComponentFound}
+use Rattle.parse.specs.declared.view.ComponentFound.the-variants as components
+use Rattle.parse.specs.declared.view.ApplicationFound.{ApplicationFound}
+use Rattle.parse.specs.declared.view.ApplicationFound.the-variants as applications
+use Rattle.parse.specs.Front.{frontOf, boardRead, frontRead}
+use Rattle.parse.specs.Refused.{lentText}
+use Rattle.parse.specs.Views as views
+use Rattle.parse.specs.Views.{holdsValues, countsAt}
+use Rattle.parse.specs.Entries.{nthKey}
+use Rattle.parse.specs.Meant.{boardMeant, imageMeant}
+use Rattle.parse.specs.Given as given
+use Rattle.parse.specs.Given.{entryAt}
+use Rattle.parse.specs.Numbered.{partitionSeen, componentSeen, applicationSeen}
+use Rattle.plan.specs.declared.component.Source.{Source}
+use Rattle.plan.specs.declared.component.Source.the-variants as sources
+use Rattle.plan.specs.declared.component.Planned.{Planned}
+use Rattle.plan.specs.declared.component.PlannedFound.{PlannedFound}
+use Rattle.plan.specs.declared.component.PlannedFound.the-variants as founds
+use Rattle.plan.specs.declared.builds.BuildFound.{BuildFound}
+use Rattle.plan.specs.declared.builds.BuildFound.the-variants as builds
+use Rattle.plan.specs.Builds as needed
+use Rattle.plan.specs.Stems as stems
+use Rattle.plan.specs.TargetSaid.{targetMeant}
+use Rattle.plan.specs.PlannedSaid.{sourceMeant, plannedMeant, foundMeant}
+use Rattle.host.specs.declared.documents.Outcome.{Outcome}
+use Rattle.host.specs.declared.records.Counts.{Counts}
+use Rattle.host.specs.declared.records.BoardView.{BoardView}
+use Rattle.host.specs.declared.records.ImageView.{ImageView}
+use Rattle.host.specs.declared.records.PartitionView.{PartitionView}
+use Rattle.host.specs.declared.records.HeadView.{HeadView}
+use Rattle.host.specs.declared.records.RoleView.{RoleView}
+use Rattle.host.specs.declared.records.BootView.{BootView}
+use Rattle.host.specs.declared.records.LoadView.{LoadView}
+use Rattle.host.specs.declared.records.ApplicationView.{ApplicationView}
+use Rattle.host.specs.declared.records.Bytes.{Bytes}
+use Rattle.host.specs.declared.plans.SourceView.{SourceView}
+use Rattle.host.specs.declared.plans.BuildView.{BuildView}
+use Rattle.host.specs.declared.plans.PlanCounts.{PlanCounts}
+use Rattle.host.specs.Records as records
+use Rattle.host.specs.Plans as plans
+use Rattle.host.specs.Presets.{Records, Recorded, Answered, outcomeBy}
+use Rattle.host.specs.Planned as shown
+use Rattle.host.specs.Planned.{Composed, builtMeant}
+use Rattle.host.proofs.Shown.{partition-shown, component-shown, application-shown, partitions-shown, components-shown, applications-shown}
+use Rattle.theorems.specs.Answers.{readOf}
+use Rattle.theorems.specs.Decoding as decoding
+use Rattle.theorems.specs.Decoding.{boardBy, imageBy, partitionBy, headBy, roleBy, bootBy, loadBy, applicationBy, sourceBy, buildBy, textBy, buildFields}
+use Rattle.theorems.specs.Views.{partOf, partIn, PresetShown, PlanShown, AcceptedIsShown, PlanIsShownByViews}
+use Rattle.theorems.proofs.Decoding.{chip-by, media-by, kind-by, flag-by, amount-by, optional-by, text-by, list-by}
+use Rattle.theorems.proofs.Places.{LowComponent, LowApplication, LowSource, LowBuild, component-found, application-found, Whole, WholeFound, planned-found, build-found}
+use Rattle.theorems.proofs.Answers.{plan-is-shown}
+
+-- ---- structs
+
+module _ (room store : List ℕ) (made : ℕ) (name : List ℕ) where
+  board-by : (b : Board) → boardBy room store made name (records.boardOf b) ≡ some (some (boardMeant room store made name b))
+  board-by b = rw (chip-by (b .chip), text-by store name (b .name), text-by store name (b .target), text-by store name (b .profile))
+
+  image-by : (i : Image) → imageBy room store made name (records.imageOf i) ≡ some (some (imageMeant room store made name i))
+  image-by i =
+      rw (
+        media-by (i .media),
+        text-by store name (i .platform),
+        text-by store name (i .product),
+        text-by store name (i .version),
+        text-by store name (i .«media_id»),
+        text-by store name (i .app),
+      )
+
+  partition-by : (f : PartitionFound) → partitionBy room store made name (records.partitionOf f) ≡ some (partitionSeen room store made name f)
+  partition-by partitions.Nothing = refl
+  partition-by (partitions.At p) = refl
+
+  head-by : (f : ComponentFound) → headBy room store made name (records.headOf f) ≡ some (partOf (λ (c : schemas.Component). c .head) (componentSeen room store made name f))
+  head-by components.Nothing = refl
+  head-by (components.At c) =
+      rw (
+        kind-by (c .head .kind),
+        text-by store name (c .head .name),
+        optional-by store name (c .head .«package»),
+        optional-by store name (c .head .bin),
+        optional-by store name (c .head .file),
+        text-by store name (c .head .filename),
+      )
+
+  boot-by : (f : ComponentFound) → bootBy room store made name (records.bootOf f) ≡ some (partOf (λ (c : schemas.Component). c .boot) (componentSeen room store made name f))
+  boot-by components.Nothing = refl
+  boot-by (components.At c) =
+      rw (
+        flag-by (c .boot .updater),
+        amount-by (c .boot .ram),
+        optional-by store name (c .boot .pbp),
+        optional-by store name (c .boot .«pbp_package»),
+        optional-by store name (c .boot .private),
+      )
+
+  load-by : (f : ComponentFound) → loadBy room store made name (records.loadOf f) ≡ some (partOf (λ (c : schemas.Component). c .load) (componentSeen room store made name f))
+  load-by components.Nothing = refl
+  load-by (components.At c) =
+      rw (
+        amount-by (c .load .«load_address»),
+        amount-by (c .load .«entry_point»),
+        amount-by (c .load .«entry_offset»),
+        amount-by (c .load .«header_version»),
+        flag-by (c .load .«with_ext»),
+      )
+
+  module _ (held : holdsValues room made ≡ true) where
+    role-by : (f : ComponentFound) → LowComponent f
+        → roleBy room store made name (records.roleOf f) ≡ some (partOf (λ (c : schemas.Component). c .role) (componentSeen room store made name f))
+    role-by components.Nothing h = refl
+    role-by (components.At c) h =
+        rw (
+          list-by room store made held (c .role .features) (h .0),
+          list-by room store made held (c .role .«pbp_features») (h .1),
+          text-by store name (c .role .partition),
+          text-by store name (c .role .attr),
+          optional-by store name (c .role .«target_attr»),
+          optional-by store name (c .role .«target_filename»),
+        )
+
+    application-by : (f : ApplicationFound) → LowApplication f
+        → applicationBy room store made name (records.applicationOf f) ≡ some (applicationSeen room store made name f)
+    application-by applications.Nothing h = refl
+    application-by (applications.At a) h =
+        rw (
+          text-by store name (a .«package»),
+          text-by store name (a .name),
+          text-by store name (a .partition),
+          text-by store name (a .filename),
+          text-by store name (a .attr),
+          list-by room store made held (a .features) h,
+          amount-by (a .«load_address»),
+          amount-by (a .«entry_offset»),
+        )
+
+    source-by : (s : Source) → LowSource s → sourceBy room store made name (plans.sourceOf s) ≡ some (sourceMeant room store made name s)
+    source-by sources.Nothing h = refl
+    source-by (sources.Package b) h = rw (text-by store name (b .«package»), text-by store name (b .bin), list-by room store made held (b .features) h)
+    source-by (sources.File t) h = rw (text-by store name t)
+
+    build-by : (f : BuildFound) → LowBuild f → buildBy room store made name (plans.buildOf f) ≡ some (builtMeant room store made name f)
+    build-by builds.Nothing h = refl
+    build-by (builds.At b) h = rw (text-by store name (b .«package»), text-by store name (b .bin), list-by room store made held (b .features) h)
+
+    -- ---- of a planned component
+
+    planned-head : (f : PlannedFound)
+        → headBy room store made name (records.headOf (plans.specOf f)) ≡ some (partOf (λ (c : meant.PlannedComponent). c .spec .head) (foundMeant room store made name f))
+    planned-head founds.Nothing = refl
+    planned-head (founds.At p) = head-by (components.At (p .spec))
+
+    planned-role : (f : PlannedFound) → WholeFound room store made held name f
+        → roleBy room store made name (records.roleOf (plans.specOf f)) ≡ some (partOf (λ (c : meant.PlannedComponent). c .spec .role) (foundMeant room store made name f))
+    planned-role founds.Nothing h = refl
+    planned-role (founds.At p) h = role-by (components.At (p .spec)) (h .spec)
+
+    planned-boot : (f : PlannedFound)
+        → bootBy room store made name (records.bootOf (plans.specOf f)) ≡ some (partOf (λ (c : meant.PlannedComponent). c .spec .boot) (foundMeant room store made name f))
+    planned-boot founds.Nothing = refl
+    planned-boot (founds.At p) = boot-by (components.At (p .spec))
+
+    planned-load : (f : PlannedFound)
+        → loadBy room store made name (records.loadOf (plans.specOf f)) ≡ some (partOf (λ (c : meant.PlannedComponent). c .spec .load) (foundMeant room store made name f))
+    planned-load founds.Nothing = refl
+    planned-load (founds.At p) = load-by (components.At (p .spec))
+
+    planned-source : (f : PlannedFound) → WholeFound room store made held name f
+        → sourceBy room store made name (plans.payload f) ≡ some (partOf (λ (c : meant.PlannedComponent). c .source) (foundMeant room store made name f))
+    planned-source founds.Nothing h = refl
+    planned-source (founds.At p) h = source-by (p .source) (h .source) ∙ ap some (h .sourced)
+
+    planned-pbp : (f : PlannedFound) → WholeFound room store made held name f
+        → sourceBy room store made name (plans.pbp f) ≡ some (partIn (λ (c : meant.PlannedComponent). c .pbpSource) (foundMeant room store made name f))
+    planned-pbp founds.Nothing h = refl
+    planned-pbp (founds.At p) h = source-by (p .«pbp_source») (h .pbp)
+
+  -- the partition of a planned component, where it is the one that 01 finds
+  planned-target : (ps : List schemas.Partition) (f : PlannedFound)
+      → ((p : Planned) → f ≡ founds.At p
+      → targetMeant room store made name (plans.targetOf room store made f) ≡ meant.partitionFor ps (plannedMeant room store made name p .spec .role .partition))
+      → partitionBy room store made name (records.partitionOf (plans.targetOf room store made f))
+      ≡ some (partIn (λ (c : meant.PlannedComponent). meant.partitionFor ps (c .spec .role .partition)) (foundMeant room store made name f))
+  planned-target ps founds.Nothing h = refl
+  planned-target ps (founds.At p) h = partition-by (plans.targetOf room store made (founds.At p)) ∙ ap some (h p refl)
+
+-- ---- no lent name changes the image, or whether there is one
+
+module _ (room store : List ℕ) (made : ℕ) (root : Fields) (lent other : Text) where
+  fault-same : frontRead room store made root lent .fault ≡ frontRead room store made root other .fault
+  unfolding frontOf boardRead
+  fault-same = refl
+
+  image-same : frontRead room store made root lent .image ≡ frontRead room store made root other .image
+  unfolding frontOf
+  image-same = refl
+
+-- ---- a preset
+
+module _ (name store tree : List ℕ) (p : Read) (h : Recorded name store tree p) where
+  abbrev made : ℕ
+  made = p .parsed .made
+
+  clear : frontRead tree store made (fieldsOf tree made 1) (lentText name) .fault .number ≡ 0
+  clear = given.front-clear tree store made (fieldsOf tree made 1) of01 (lentText name) (h .clear)
+
+  clear-unlent : frontRead tree store made (fieldsOf tree made 1) (lentText []) .fault .number ≡ 0
+  clear-unlent = ap (λ f. f .number) (fault-same tree store made (fieldsOf tree made 1) (lentText []) (lentText name)) ∙ clear
+
+  board-is : boardBy tree store made name (records.boardShown tree store made name) ≡ some (some (p .preset .board))
+  unfolding records.boardView
+  board-is =
+      rw (h .stands, clear)
+      (board-by tree store made name (frontRead tree store made (fieldsOf tree made 1) (lentText name) .board)
+      ∙ ap (λ (r : schemas.Preset). some (some (r .board))) (h .records))
+
+  image-is : imageBy tree store made name (records.imageShown tree store made) ≡ some (some (p .preset .image))
+  unfolding records.imageView
+  image-is =
+      rw (h .stands, clear-unlent)
+      (image-by tree store made name (frontRead tree store made (fieldsOf tree made 1) (lentText []) .image)
+      ∙ ap (λ (i : Image). some (some (imageMeant tree store made name i))) (image-same tree store made (fieldsOf tree made 1) (lentText []) (lentText name))
+      ∙ ap (λ (r : schemas.Preset). some (some (r .image))) (h .records))
+
+  partition-is : (i : ℕ) → partitionBy tree store made name (records.partitionShown tree store made i) ≡ some (entryAt (p .preset .partitions) i)
+  partition-is i = rw (h .stands) (partition-by tree store made name (views.partition tree store made i) ∙ ap some (partition-shown name store tree p h i))
+
+  component-low : (i : ℕ) → LowComponent (views.component tree store made i 32)
+  component-low i = component-found tree store made (h .stands) 32 (nthOf (items tree (views.componentList tree store made .end) (views.componentList tree store made .place) 0) i)
+
+  application-low : (i : ℕ) → LowApplication (views.application tree store made i 32)
+  application-low i = application-found tree store made (h .stands) 32 (nthKey tree store (views.applicationList tree store made) i)
+
+  head-is : (i : ℕ) → headBy tree store made name (records.headOf (records.component tree store made i)) ≡ some (partOf (λ c. c .head) (entryAt (p .preset .components) i))
+  head-is i =
+      rw (h .stands)
+      (head-by tree store made name (views.component tree store made i 32)
+      ∙ ap (λ (c : Option schemas.Component). some (partOf (λ c. c .head) c)) (component-shown name store tree p h i))
+
+  role-is : (i : ℕ) → roleBy tree store made name (records.roleOf (records.component tree store made i)) ≡ some (partOf (λ c. c .role) (entryAt (p .preset .components) i))
+  role-is i =
+      rw (h .stands)
+      (role-by tree store made name (h .stands) (views.component tree store made i 32) (component-low i)
+      ∙ ap (λ (c : Option schemas.Component). some (partOf (λ c. c .role) c)) (component-shown name store tree p h i))
+
+  boot-is : (i : ℕ) → bootBy tree store made name (records.bootOf (records.component tree store made i)) ≡ some (partOf (λ c. c .boot) (entryAt (p .preset .components) i))
+  boot-is i =
+      rw (h .stands)
+      (boot-by tree store made name (views.component tree store made i 32)
+      ∙ ap (λ (c : Option schemas.Component). some (partOf (λ c. c .boot) c)) (component-shown name store tree p h i))
+
+  load-is : (i : ℕ) → loadBy tree store made name (records.loadOf (records.component tree store made i)) ≡ some (partOf (λ c. c .load) (entryAt (p .preset .components) i))
+  load-is i =
+      rw (h .stands)
+      (load-by tree store made name (views.component tree store made i 32)
+      ∙ ap (λ (c : Option schemas.Component). some (partOf (λ c. c .load) c)) (component-shown name store tree p h i))
+
+  application-is : (i : ℕ) → applicationBy tree store made name (records.applicationShown tree store made i) ≡ some (entryAt (p .preset .applications) i)
+  application-is i =
+      rw (h .stands)
+      (application-by tree store made name (h .stands) (views.application tree store made i 32) (application-low i)
+      ∙ ap some (application-shown name store tree p h i))
+
+  counts-are : (records.countsOf (countsAt tree store made) .partitions ≡ length (p .preset .partitions))
+      × (records.countsOf (countsAt tree store made) .components ≡ length (p .preset .components))
+      × (records.countsOf (countsAt tree store made) .applications ≡ length (p .preset .applications))
+  counts-are = rw (h .stands) (partitions-shown name store tree p h, components-shown name store tree p h, applications-shown name store tree p h)
+
+  preset-shown : PresetShown name store tree made (p .preset)
+  preset-shown =
+      record {
+        counts = λ v e. rw e counts-are;
+        board = λ v e. rw e board-is;
+        image = λ v e. rw e image-is;
+        partition = λ i v e. rw e (partition-is i);
+        head = λ i v e. rw e (head-is i);
+        role = λ i v e. rw e (role-is i);
+        boot = λ i v e. rw e (boot-is i);
+        load = λ i v e. rw e (load-is i);
+        application = λ i v e. rw e (application-is i);
+      }
+
+-- ---- a plan
+
+module _ (name store tree : List ℕ) (made app : ℕ) (key : List ℕ) (q : meant.Plan) (held : holdsValues tree made ≡ true) (g : Composed name store tree app key made q) where
+  whole : (i : ℕ) → WholeFound tree store made held name (plans.component tree store made app key i)
+  whole i = rw held (planned-found tree store made held name (plans.chosen tree store made app key) i)
+
+  plan-shown : PlanShown name store tree made app key q
+  plan-shown =
+      record {
+        counts = λ v e. (ap (λ (c : PlanCounts). c .components) (e ∙ g .counts), ap (λ (c : PlanCounts). c .builds) (e ∙ g .counts));
+        head = λ i v e. rw e
+            (planned-head tree store made name held (plans.component tree store made app key i)
+            ∙ ap (λ (c : Option meant.PlannedComponent). some (partOf (λ c. c .spec .head) c)) (g .components i));
+        role = λ i v e. rw e
+            (planned-role tree store made name held (plans.component tree store made app key i) (whole i)
+            ∙ ap (λ (c : Option meant.PlannedComponent). some (partOf (λ c. c .spec .role) c)) (g .components i));
+        boot = λ i v e. rw e
+            (planned-boot tree store made name held (plans.component tree store made app key i)
+            ∙ ap (λ (c : Option meant.PlannedComponent). some (partOf (λ c. c .spec .boot) c)) (g .components i));
+        load = λ i v e. rw e
+            (planned-load tree store made name held (plans.component tree store made app key i)
+            ∙ ap (λ (c : Option meant.PlannedComponent). some (partOf (λ c. c .spec .load) c)) (g .components i));
+        source = λ i v e. rw e
+            (planned-source tree store made name held (plans.component tree store made app key i) (whole i)
+            ∙ ap (λ (c : Option meant.PlannedComponent). some (partOf (λ c. c .source) c)) (g .components i));
+        pbp = λ i v e. rw e
+            (planned-pbp tree store made name held (plans.component tree store made app key i) (whole i)
+            ∙ ap (λ (c : Option meant.PlannedComponent). some (partIn (λ c. c .pbpSource) c)) (g .components i));
+        partition = λ i v e. rw (e, g .targeted i)
+            (planned-target tree store made name (q .partitions) (plans.component tree store made app key i) (g .target i)
+            ∙ ap (λ (c : Option meant.PlannedComponent). some (partIn (λ c. meant.partitionFor (q .partitions) (c .spec .role .partition)) c)) (g .components i));
+        build = λ i v e. rw (e, g .built i)
+            (build-by tree store made name held (needed.build tree store made (plans.chosen tree store made app key) i)
+            (build-found tree store made held (plans.chosen tree store made app key) i) ∙ ap some (g .builds i));
+        stem = λ v e. rw (e, g .stemmed)
+            (text-by store name (stems.stem tree store made name (plans.chosen tree store made app key)) ∙ ap some (g .stem));
+      }
+
+-- ---- all of it
+
+accepted-made : (a : Answer Read) (r : Outcome) (x : Read) → r ≡ outcomeBy a → a ≡ accepted x → r .made ≡ x .parsed .made
+accepted-made a r x d e = rw (d, e)
+
+pub accepted-is-shown : AcceptedIsShown
+accepted-is-shown a text name store tree store' tree' r x g e =
+    let h : Recorded name store' tree' x = subst (Records name store' tree') e (g .shows) in
+    rw (accepted-made a r x (g .says) e) (preset-shown name store' tree' x h)
+
+pub plan-is-shown-by-views : PlanIsShownByViews
+plan-is-shown-by-views text name app key store tree store' tree' r x g e =
+    let d = shown.planned-read text name app key store tree ∙ ap readOf e in
+    let h : Recorded name store' tree' (x .read) = subst (Records name store' tree') d (g .shows) in
+    rw (accepted-made (plans.planned text name app key store tree) r (x .read) (g .says) d)
+    (plan-shown name store' tree' (x .read .parsed .made) app key (x .plan) (h .stands) (plan-is-shown text name app key store tree store' tree' r x g e))
