@@ -2,15 +2,14 @@
 use Prim.Native.Nat.{ℕ, zero, suc, _+_, _-_, _≤_, _<_}
 use mathlib.Core.Bool.{Bool, true, false}
 use mathlib.Core.List.{List, [], _∷_}
-use mathlib.Core.Option.{Option, none, some}
-use mathlib.Core.Path.{_≡_, refl, ap, _∙_}
+use mathlib.Core.Option.{some}
+use mathlib.Core.Path.{_≡_, refl}
 use native.Mathlib.Omega.{arith}
 use borrow.Author.Tests.{lt-ltb}
-use lib.Dec.{leb, ltb}
+use lib.Dec.{leb}
 use lib.ListN.{length, drop, length-take, length-drop}
-use Rattle.meaning.specs.Base.{pick, part}
 use Rattle.meaning.specs.Features.{ordered}
-use Rattle.laws.specs.Cases.{on}
+use Rattle.laws.specs.Cases.{on, never}
 use Rattle.schema.specs.declared.Word.{Word}
 use Rattle.schema.specs.declared.Word.the-variants as words
 use Rattle.schema.specs.declared.Text.{Text}
@@ -26,7 +25,7 @@ use Rattle.schema.specs.declared.Media.the-variants as medias
 use Rattle.schema.specs.declared.Kind.{Kind}
 use Rattle.schema.specs.declared.Kind.the-variants as kinds
 use Rattle.schema.specs.Words.{word, chipMeant, mediaMeant, kindMeant}
-use Rattle.schema.specs.Texts.{clip, spelled, optional, amount}
+use Rattle.schema.specs.Texts.{clip, spelled, optional, isGiven, amount}
 use Rattle.features.specs.declared.Piece.{Piece}
 use Rattle.features.specs.declared.Feature.{Feature}
 use Rattle.features.specs.declared.Feature.the-variants as items
@@ -90,6 +89,10 @@ amount-by (numbers.Of n) = refl
 
 -- ---- texts
 
+-- it is not absent
+abbrev pub Given : Text → Type 0
+Given t = isGiven t ≡ true
+
 module _ (store name : List ℕ) where
   pub optional-by : (t : Text) → optionalBy store name (bytesOf t) ≡ some (optional store name t)
   unfolding optionalBy
@@ -99,13 +102,13 @@ module _ (store name : List ℕ) where
   optional-by (texts.Fixed w) = rw (word-by w)
   optional-by (texts.WithAic from len) = refl
 
-  pub text-by : (t : Text) → textBy store name (bytesOf t) ≡ some (spelled store name t)
+  pub text-by : (t : Text) → Given t → textBy store name (bytesOf t) ≡ some (spelled store name t)
   unfolding textBy
-  text-by texts.Absent = rw (optional-by texts.Absent)
-  text-by (texts.Stored from len) = rw (optional-by (texts.Stored from len))
-  text-by texts.Lent = rw (optional-by texts.Lent)
-  text-by (texts.Fixed w) = rw (optional-by (texts.Fixed w))
-  text-by (texts.WithAic from len) = rw (optional-by (texts.WithAic from len))
+  text-by texts.Absent h = never {b = false} h refl
+  text-by (texts.Stored from len) h = rw (optional-by (texts.Stored from len))
+  text-by texts.Lent h = rw (optional-by texts.Lent)
+  text-by (texts.Fixed w) h = rw (optional-by (texts.Fixed w))
+  text-by (texts.WithAic from len) h = rw (optional-by (texts.WithAic from len))
 
 -- ---- feature lists
 

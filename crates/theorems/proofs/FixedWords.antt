@@ -3,10 +3,10 @@ use Prim.Native.Nat.{ℕ, zero, suc, _+_, _-_, _≤_, _<_}
 use mathlib.Core.Bool.{Bool, true, false}
 use mathlib.Core.List.{List, [], _∷_, _++_, map}
 use mathlib.Core.Option.{Option, none, some}
-use mathlib.Core.Path.{_≡_, refl, sym, ap, subst, _∙_}
+use mathlib.Core.Path.{_≡_, refl, sym, ap, _∙_}
 use native.Mathlib.Omega.{arith}
 use borrow.Author.Tests.{leb-true, ltb-true, ltb-false, lt-ltb, le-ltb}
-use lib.Dec.{eqb, ltb, leb, eqb·suc-zero}
+use lib.Dec.{ltb, leb, eqb·suc-zero}
 use lib.ListN.{length, drop}
 use Rattle.meaning.specs.Base.{pick, zeros}
 use Rattle.laws.specs.Cases.{on, never}

@@ -11,5 +11,6 @@ pub mod Demand3Needs
 pub mod Decoding
 pub mod FixedWords
 pub mod Places
+pub mod Presentable
 pub mod Views
 pub mod Proved

@@ -1,20 +1,17 @@
 -- All views of the rooms that an accepted call leaves, as they are exported: decoded, they are 01's records.
-use Prim.Native.Nat.{ℕ, zero, suc, _+_, _-_, _≤_, _<_}
-use mathlib.Core.Bool.{true, false}
-use mathlib.Core.List.{List, [], _∷_, _++_}
-use mathlib.Core.Option.{Option, none, some}
+use Prim.Native.Nat.{ℕ, _-_}
+use mathlib.Core.Bool.{true}
+use mathlib.Core.List.{List, []}
+use mathlib.Core.Option.{Option, some}
 use mathlib.Core.Path.{_≡_, refl, sym, ap, subst, _∙_}
 use native.Mathlib.Omega.{arith}
-use borrow.Author.Tests.{ltb-true, ltb-false, lt-ltb, le-ltb}
-use lib.Dec.{eqb, ltb}
-use lib.ListN.{length, drop}
-use Rattle.meaning.specs.Base.{pick, zeros}
+use lib.ListN.{length}
 use Rattle.meaning.specs.Limits.{of01}
-use Rattle.meaning.specs.Refusal.{Answer, accepted, refused}
+use Rattle.meaning.specs.Refusal.{Answer, accepted}
 use Rattle.meaning.specs.Schema as schemas
 use Rattle.meaning.specs.Preset.{Read}
 use Rattle.meaning.specs.Plan as meant
-use Rattle.laws.specs.Cases.{on}
+use Rattle.laws.specs.Answers.{accepted-one}
 use Rattle.tree.specs.declared.Fields.{Fields}
 use Rattle.tree.specs.Doors.{fieldsOf, items, nthOf}
 use Rattle.schema.specs.declared.Text.{Text}
@@ -32,9 +29,12 @@ use Rattle.parse.specs.Views as views
 use Rattle.parse.specs.Views.{holdsValues, countsAt}
 use Rattle.parse.specs.Entries.{nthKey}
 use Rattle.parse.specs.Meant.{boardMeant, imageMeant}
+use Rattle.parse.specs.Answers.{accepted-says}
+use Rattle.parse.specs.Whole.{presetMeant}
 use Rattle.parse.specs.Given as given
 use Rattle.parse.specs.Given.{entryAt}
 use Rattle.parse.specs.Numbered.{partitionSeen, componentSeen, applicationSeen}
+use Rattle.plan.specs.declared.choice.Choice.the-variants as choices
 use Rattle.plan.specs.declared.component.Source.{Source}
 use Rattle.plan.specs.declared.component.Source.the-variants as sources
 use Rattle.plan.specs.declared.component.Planned.{Planned}
@@ -42,69 +42,59 @@ use Rattle.plan.specs.declared.component.PlannedFound.{PlannedFound}
 use Rattle.plan.specs.declared.component.PlannedFound.the-variants as founds
 use Rattle.plan.specs.declared.builds.BuildFound.{BuildFound}
 use Rattle.plan.specs.declared.builds.BuildFound.the-variants as builds
+use Rattle.plan.specs.Choices.{fault}
+use Rattle.plan.specs.ChoiceSaid.{selection, selected, plan-says}
 use Rattle.plan.specs.Builds as needed
 use Rattle.plan.specs.Stems as stems
 use Rattle.plan.specs.TargetSaid.{targetMeant}
 use Rattle.plan.specs.PlannedSaid.{sourceMeant, plannedMeant, foundMeant}
 use Rattle.host.specs.declared.documents.Outcome.{Outcome}
-use Rattle.host.specs.declared.records.Counts.{Counts}
-use Rattle.host.specs.declared.records.BoardView.{BoardView}
-use Rattle.host.specs.declared.records.ImageView.{ImageView}
-use Rattle.host.specs.declared.records.PartitionView.{PartitionView}
-use Rattle.host.specs.declared.records.HeadView.{HeadView}
-use Rattle.host.specs.declared.records.RoleView.{RoleView}
-use Rattle.host.specs.declared.records.BootView.{BootView}
-use Rattle.host.specs.declared.records.LoadView.{LoadView}
-use Rattle.host.specs.declared.records.ApplicationView.{ApplicationView}
-use Rattle.host.specs.declared.records.Bytes.{Bytes}
-use Rattle.host.specs.declared.plans.SourceView.{SourceView}
-use Rattle.host.specs.declared.plans.BuildView.{BuildView}
 use Rattle.host.specs.declared.plans.PlanCounts.{PlanCounts}
 use Rattle.host.specs.Records as records
 use Rattle.host.specs.Plans as plans
-use Rattle.host.specs.Presets.{Records, Recorded, Answered, outcomeBy}
+use Rattle.host.specs.Presets.{Records, Recorded, outcomeBy}
 use Rattle.host.specs.Planned as shown
 use Rattle.host.specs.Planned.{Composed, builtMeant}
 use Rattle.host.proofs.Shown.{partition-shown, component-shown, application-shown, partitions-shown, components-shown, applications-shown}
 use Rattle.theorems.specs.Answers.{readOf}
-use Rattle.theorems.specs.Decoding as decoding
-use Rattle.theorems.specs.Decoding.{boardBy, imageBy, partitionBy, headBy, roleBy, bootBy, loadBy, applicationBy, sourceBy, buildBy, textBy, buildFields}
+use Rattle.theorems.specs.Decoding.{boardBy, imageBy, partitionBy, headBy, roleBy, bootBy, loadBy, applicationBy, sourceBy, buildBy}
 use Rattle.theorems.specs.Views.{partOf, partIn, PresetShown, PlanShown, AcceptedIsShown, PlanIsShownByViews}
 use Rattle.theorems.proofs.Decoding.{chip-by, media-by, kind-by, flag-by, amount-by, optional-by, text-by, list-by}
-use Rattle.theorems.proofs.Places.{LowComponent, LowApplication, LowSource, LowBuild, component-found, application-found, Whole, WholeFound, planned-found, build-found}
-use Rattle.theorems.proofs.Answers.{plan-is-shown}
+use Rattle.theorems.proofs.Presentable.{BoardFit, ImageFit, board-fit, image-fit, lent-given, FitComponent, FitApplication, component-found, application-found}
+use Rattle.theorems.proofs.Presentable.{FitSource, FitBuild, FitPlanned, planned-found, build-found, stem-given}
 
 -- ---- structs
 
 module _ (room store : List ℕ) (made : ℕ) (name : List ℕ) where
-  board-by : (b : Board) → boardBy room store made name (records.boardOf b) ≡ some (some (boardMeant room store made name b))
-  board-by b = rw (chip-by (b .chip), text-by store name (b .name), text-by store name (b .target), text-by store name (b .profile))
+  board-by : (b : Board) → BoardFit b → boardBy room store made name (records.boardOf b) ≡ some (some (boardMeant room store made name b))
+  board-by b h =
+      rw (chip-by (b .chip), text-by store name (b .name) (h .name), text-by store name (b .target) (h .target), text-by store name (b .profile) (h .profile))
 
-  image-by : (i : Image) → imageBy room store made name (records.imageOf i) ≡ some (some (imageMeant room store made name i))
-  image-by i =
+  image-by : (i : Image) → ImageFit i → imageBy room store made name (records.imageOf i) ≡ some (some (imageMeant room store made name i))
+  image-by i h =
       rw (
         media-by (i .media),
-        text-by store name (i .platform),
-        text-by store name (i .product),
-        text-by store name (i .version),
-        text-by store name (i .«media_id»),
-        text-by store name (i .app),
+        text-by store name (i .platform) (h .platform),
+        text-by store name (i .product) (h .product),
+        text-by store name (i .version) (h .version),
+        text-by store name (i .«media_id») (h .media-id),
+        text-by store name (i .app) (h .app),
       )
 
   partition-by : (f : PartitionFound) → partitionBy room store made name (records.partitionOf f) ≡ some (partitionSeen room store made name f)
   partition-by partitions.Nothing = refl
   partition-by (partitions.At p) = refl
 
-  head-by : (f : ComponentFound) → headBy room store made name (records.headOf f) ≡ some (partOf (λ (c : schemas.Component). c .head) (componentSeen room store made name f))
-  head-by components.Nothing = refl
-  head-by (components.At c) =
+  head-by : (f : ComponentFound) → FitComponent f → headBy room store made name (records.headOf f) ≡ some (partOf (λ (c : schemas.Component). c .head) (componentSeen room store made name f))
+  head-by components.Nothing h = refl
+  head-by (components.At c) h =
       rw (
         kind-by (c .head .kind),
-        text-by store name (c .head .name),
+        text-by store name (c .head .name) (h .name),
         optional-by store name (c .head .«package»),
         optional-by store name (c .head .bin),
         optional-by store name (c .head .file),
-        text-by store name (c .head .filename),
+        text-by store name (c .head .filename) (h .filename),
       )
 
   boot-by : (f : ComponentFound) → bootBy room store made name (records.bootOf f) ≡ some (partOf (λ (c : schemas.Component). c .boot) (componentSeen room store made name f))
@@ -130,51 +120,51 @@ module _ (room store : List ℕ) (made : ℕ) (name : List ℕ) where
       )
 
   module _ (held : holdsValues room made ≡ true) where
-    role-by : (f : ComponentFound) → LowComponent f
+    role-by : (f : ComponentFound) → FitComponent f
         → roleBy room store made name (records.roleOf f) ≡ some (partOf (λ (c : schemas.Component). c .role) (componentSeen room store made name f))
     role-by components.Nothing h = refl
     role-by (components.At c) h =
         rw (
-          list-by room store made held (c .role .features) (h .0),
-          list-by room store made held (c .role .«pbp_features») (h .1),
-          text-by store name (c .role .partition),
-          text-by store name (c .role .attr),
+          list-by room store made held (c .role .features) (h .lists .0),
+          list-by room store made held (c .role .«pbp_features») (h .lists .1),
+          text-by store name (c .role .partition) (h .partition),
+          text-by store name (c .role .attr) (h .attr),
           optional-by store name (c .role .«target_attr»),
           optional-by store name (c .role .«target_filename»),
         )
 
-    application-by : (f : ApplicationFound) → LowApplication f
+    application-by : (f : ApplicationFound) → FitApplication f
         → applicationBy room store made name (records.applicationOf f) ≡ some (applicationSeen room store made name f)
     application-by applications.Nothing h = refl
     application-by (applications.At a) h =
         rw (
-          text-by store name (a .«package»),
-          text-by store name (a .name),
-          text-by store name (a .partition),
-          text-by store name (a .filename),
-          text-by store name (a .attr),
-          list-by room store made held (a .features) h,
+          text-by store name (a .«package») (h .pack),
+          text-by store name (a .name) (h .name),
+          text-by store name (a .partition) (h .partition),
+          text-by store name (a .filename) (h .filename),
+          text-by store name (a .attr) (h .attr),
+          list-by room store made held (a .features) (h .list),
           amount-by (a .«load_address»),
           amount-by (a .«entry_offset»),
         )
 
-    source-by : (s : Source) → LowSource s → sourceBy room store made name (plans.sourceOf s) ≡ some (sourceMeant room store made name s)
+    source-by : (s : Source) → FitSource s → sourceBy room store made name (plans.sourceOf s) ≡ some (sourceMeant room store made name s)
     source-by sources.Nothing h = refl
-    source-by (sources.Package b) h = rw (text-by store name (b .«package»), text-by store name (b .bin), list-by room store made held (b .features) h)
-    source-by (sources.File t) h = rw (text-by store name t)
+    source-by (sources.Package b) h = rw (text-by store name (b .«package») (h .pack), text-by store name (b .bin) (h .bin), list-by room store made held (b .features) (h .list))
+    source-by (sources.File t) h = rw (text-by store name t h)
 
-    build-by : (f : BuildFound) → LowBuild f → buildBy room store made name (plans.buildOf f) ≡ some (builtMeant room store made name f)
+    build-by : (f : BuildFound) → FitBuild f → buildBy room store made name (plans.buildOf f) ≡ some (builtMeant room store made name f)
     build-by builds.Nothing h = refl
-    build-by (builds.At b) h = rw (text-by store name (b .«package»), text-by store name (b .bin), list-by room store made held (b .features) h)
+    build-by (builds.At b) h = rw (text-by store name (b .«package») (h .pack), text-by store name (b .bin) (h .bin), list-by room store made held (b .features) (h .list))
 
     -- ---- of a planned component
 
-    planned-head : (f : PlannedFound)
+    planned-head : (f : PlannedFound) → FitPlanned room store made held name f
         → headBy room store made name (records.headOf (plans.specOf f)) ≡ some (partOf (λ (c : meant.PlannedComponent). c .spec .head) (foundMeant room store made name f))
-    planned-head founds.Nothing = refl
-    planned-head (founds.At p) = head-by (components.At (p .spec))
+    planned-head founds.Nothing h = refl
+    planned-head (founds.At p) h = head-by (components.At (p .spec)) (h .spec)
 
-    planned-role : (f : PlannedFound) → WholeFound room store made held name f
+    planned-role : (f : PlannedFound) → FitPlanned room store made held name f
         → roleBy room store made name (records.roleOf (plans.specOf f)) ≡ some (partOf (λ (c : meant.PlannedComponent). c .spec .role) (foundMeant room store made name f))
     planned-role founds.Nothing h = refl
     planned-role (founds.At p) h = role-by (components.At (p .spec)) (h .spec)
@@ -189,12 +179,12 @@ module _ (room store : List ℕ) (made : ℕ) (name : List ℕ) where
     planned-load founds.Nothing = refl
     planned-load (founds.At p) = load-by (components.At (p .spec))
 
-    planned-source : (f : PlannedFound) → WholeFound room store made held name f
+    planned-source : (f : PlannedFound) → FitPlanned room store made held name f
         → sourceBy room store made name (plans.payload f) ≡ some (partOf (λ (c : meant.PlannedComponent). c .source) (foundMeant room store made name f))
     planned-source founds.Nothing h = refl
     planned-source (founds.At p) h = source-by (p .source) (h .source) ∙ ap some (h .sourced)
 
-    planned-pbp : (f : PlannedFound) → WholeFound room store made held name f
+    planned-pbp : (f : PlannedFound) → FitPlanned room store made held name f
         → sourceBy room store made name (plans.pbp f) ≡ some (partIn (λ (c : meant.PlannedComponent). c .pbpSource) (foundMeant room store made name f))
     planned-pbp founds.Nothing h = refl
     planned-pbp (founds.At p) h = source-by (p .«pbp_source») (h .pbp)
@@ -236,6 +226,7 @@ module _ (name store tree : List ℕ) (p : Read) (h : Recorded name store tree p
   board-is =
       rw (h .stands, clear)
       (board-by tree store made name (frontRead tree store made (fieldsOf tree made 1) (lentText name) .board)
+      (board-fit tree store made (fieldsOf tree made 1) (lentText name) (lent-given name))
       ∙ ap (λ (r : schemas.Preset). some (some (r .board))) (h .records))
 
   image-is : imageBy tree store made name (records.imageShown tree store made) ≡ some (some (p .preset .image))
@@ -243,28 +234,29 @@ module _ (name store tree : List ℕ) (p : Read) (h : Recorded name store tree p
   image-is =
       rw (h .stands, clear-unlent)
       (image-by tree store made name (frontRead tree store made (fieldsOf tree made 1) (lentText []) .image)
+      (image-fit tree store made (fieldsOf tree made 1) (lentText []))
       ∙ ap (λ (i : Image). some (some (imageMeant tree store made name i))) (image-same tree store made (fieldsOf tree made 1) (lentText []) (lentText name))
       ∙ ap (λ (r : schemas.Preset). some (some (r .image))) (h .records))
 
   partition-is : (i : ℕ) → partitionBy tree store made name (records.partitionShown tree store made i) ≡ some (entryAt (p .preset .partitions) i)
   partition-is i = rw (h .stands) (partition-by tree store made name (views.partition tree store made i) ∙ ap some (partition-shown name store tree p h i))
 
-  component-low : (i : ℕ) → LowComponent (views.component tree store made i 32)
-  component-low i = component-found tree store made (h .stands) 32 (nthOf (items tree (views.componentList tree store made .end) (views.componentList tree store made .place) 0) i)
+  component-fit : (i : ℕ) → FitComponent (views.component tree store made i 32)
+  component-fit i = component-found tree store made (h .stands) 32 (nthOf (items tree (views.componentList tree store made .end) (views.componentList tree store made .place) 0) i)
 
-  application-low : (i : ℕ) → LowApplication (views.application tree store made i 32)
-  application-low i = application-found tree store made (h .stands) 32 (nthKey tree store (views.applicationList tree store made) i)
+  application-fit : (i : ℕ) → FitApplication (views.application tree store made i 32)
+  application-fit i = application-found tree store made (h .stands) 32 (nthKey tree store (views.applicationList tree store made) i)
 
   head-is : (i : ℕ) → headBy tree store made name (records.headOf (records.component tree store made i)) ≡ some (partOf (λ c. c .head) (entryAt (p .preset .components) i))
   head-is i =
       rw (h .stands)
-      (head-by tree store made name (views.component tree store made i 32)
+      (head-by tree store made name (views.component tree store made i 32) (component-fit i)
       ∙ ap (λ (c : Option schemas.Component). some (partOf (λ c. c .head) c)) (component-shown name store tree p h i))
 
   role-is : (i : ℕ) → roleBy tree store made name (records.roleOf (records.component tree store made i)) ≡ some (partOf (λ c. c .role) (entryAt (p .preset .components) i))
   role-is i =
       rw (h .stands)
-      (role-by tree store made name (h .stands) (views.component tree store made i 32) (component-low i)
+      (role-by tree store made name (h .stands) (views.component tree store made i 32) (component-fit i)
       ∙ ap (λ (c : Option schemas.Component). some (partOf (λ c. c .role) c)) (component-shown name store tree p h i))
 
   boot-is : (i : ℕ) → bootBy tree store made name (records.bootOf (records.component tree store made i)) ≡ some (partOf (λ c. c .boot) (entryAt (p .preset .components) i))
@@ -282,7 +274,7 @@ module _ (name store tree : List ℕ) (p : Read) (h : Recorded name store tree p
   application-is : (i : ℕ) → applicationBy tree store made name (records.applicationShown tree store made i) ≡ some (entryAt (p .preset .applications) i)
   application-is i =
       rw (h .stands)
-      (application-by tree store made name (h .stands) (views.application tree store made i 32) (application-low i)
+      (application-by tree store made name (h .stands) (views.application tree store made i 32) (application-fit i)
       ∙ ap some (application-shown name store tree p h i))
 
   counts-are : (records.countsOf (countsAt tree store made) .partitions ≡ length (p .preset .partitions))
@@ -306,19 +298,20 @@ module _ (name store tree : List ℕ) (p : Read) (h : Recorded name store tree p
 
 -- ---- a plan
 
-module _ (name store tree : List ℕ) (made app : ℕ) (key : List ℕ) (q : meant.Plan) (held : holdsValues tree made ≡ true) (g : Composed name store tree app key made q) where
-  whole : (i : ℕ) → WholeFound tree store made held name (plans.component tree store made app key i)
-  whole i = rw held (planned-found tree store made held name (plans.chosen tree store made app key) i)
+module _ (name store tree : List ℕ) (made app : ℕ) (key : List ℕ) (q : meant.Plan) (held : holdsValues tree made ≡ true)
+    (declared : plans.chosen tree store made app key ≡ choices.Undeclared → ⊥) (g : Composed name store tree app key made q) where
+  fit : (i : ℕ) → FitPlanned tree store made held name (plans.component tree store made app key i)
+  fit i = rw held (planned-found tree store made held name (plans.chosen tree store made app key) i)
 
   plan-shown : PlanShown name store tree made app key q
   plan-shown =
       record {
         counts = λ v e. (ap (λ (c : PlanCounts). c .components) (e ∙ g .counts), ap (λ (c : PlanCounts). c .builds) (e ∙ g .counts));
         head = λ i v e. rw e
-            (planned-head tree store made name held (plans.component tree store made app key i)
+            (planned-head tree store made name held (plans.component tree store made app key i) (fit i)
             ∙ ap (λ (c : Option meant.PlannedComponent). some (partOf (λ c. c .spec .head) c)) (g .components i));
         role = λ i v e. rw e
-            (planned-role tree store made name held (plans.component tree store made app key i) (whole i)
+            (planned-role tree store made name held (plans.component tree store made app key i) (fit i)
             ∙ ap (λ (c : Option meant.PlannedComponent). some (partOf (λ c. c .spec .role) c)) (g .components i));
         boot = λ i v e. rw e
             (planned-boot tree store made name held (plans.component tree store made app key i)
@@ -327,19 +320,20 @@ module _ (name store tree : List ℕ) (made app : ℕ) (key : List ℕ) (q : mea
             (planned-load tree store made name held (plans.component tree store made app key i)
             ∙ ap (λ (c : Option meant.PlannedComponent). some (partOf (λ c. c .spec .load) c)) (g .components i));
         source = λ i v e. rw e
-            (planned-source tree store made name held (plans.component tree store made app key i) (whole i)
+            (planned-source tree store made name held (plans.component tree store made app key i) (fit i)
             ∙ ap (λ (c : Option meant.PlannedComponent). some (partOf (λ c. c .source) c)) (g .components i));
         pbp = λ i v e. rw e
-            (planned-pbp tree store made name held (plans.component tree store made app key i) (whole i)
+            (planned-pbp tree store made name held (plans.component tree store made app key i) (fit i)
             ∙ ap (λ (c : Option meant.PlannedComponent). some (partIn (λ c. c .pbpSource) c)) (g .components i));
         partition = λ i v e. rw (e, g .targeted i)
             (planned-target tree store made name (q .partitions) (plans.component tree store made app key i) (g .target i)
             ∙ ap (λ (c : Option meant.PlannedComponent). some (partIn (λ c. meant.partitionFor (q .partitions) (c .spec .role .partition)) c)) (g .components i));
         build = λ i v e. rw (e, g .built i)
             (build-by tree store made name held (needed.build tree store made (plans.chosen tree store made app key) i)
-            (build-found tree store made held (plans.chosen tree store made app key) i) ∙ ap some (g .builds i));
+            (build-found tree store made held name (plans.chosen tree store made app key) i) ∙ ap some (g .builds i));
         stem = λ v e. rw (e, g .stemmed)
-            (text-by store name (stems.stem tree store made name (plans.chosen tree store made app key)) ∙ ap some (g .stem));
+            (text-by store name (stems.stem tree store made name (plans.chosen tree store made app key))
+            (stem-given tree store made held name (plans.chosen tree store made app key) declared) ∙ ap some (g .stem));
       }
 
 -- ---- all of it
@@ -352,9 +346,24 @@ accepted-is-shown a text name store tree store' tree' r x g e =
     let h : Recorded name store' tree' x = subst (Records name store' tree') e (g .shows) in
     rw (accepted-made a r x (g .says) e) (preset-shown name store' tree' x h)
 
+-- a key that is planned is declared
+planned-declared : (name store tree : List ℕ) (app : ℕ) (key : List ℕ) (x : Read) (h : Recorded name store tree x) (q : meant.Plan)
+    → meant.planOf (x .preset) (selection app key) ≡ accepted q → plans.chosen tree store (x .parsed .made) app key ≡ choices.Undeclared → ⊥
+planned-declared name store tree app key x h q e u =
+    let made : ℕ = x .parsed .made in
+    let c = plans.chosen tree store made app key in
+    let r = presetMeant tree store made name (fieldsOf tree made 1) of01 (lentText name) in
+    let z : fault tree store made c .number ≡ 0 =
+    accepted-says (meant.planOf r (selection app key)) (fault tree store made c) q (meant.composed r (selection app key) (selected tree store made name c))
+    (plan-says tree store made name app key) (rw (h .records) e) .0 in
+    let y : _≡_ {A = ℕ} 80 0 = rw u at z in
+    omega (arith, y)
+
 pub plan-is-shown-by-views : PlanIsShownByViews
 plan-is-shown-by-views text name app key store tree store' tree' r x g e =
     let d = shown.planned-read text name app key store tree ∙ ap readOf e in
     let h : Recorded name store' tree' (x .read) = subst (Records name store' tree') d (g .shows) in
-    rw (accepted-made (plans.planned text name app key store tree) r (x .read) (g .says) d)
-    (plan-shown name store' tree' (x .read .parsed .made) app key (x .plan) (h .stands) (plan-is-shown text name app key store tree store' tree' r x g e))
+    let s = shown.planned-shown text name app key store tree store' tree' r (x .read) g d in
+    let same : s .0 ≡ x .plan = ap (λ (y : meant.Planned). y .plan) (accepted-one (record { read = x .read; plan = s .0 }) x (sym (s .1) ∙ e)) in
+    rw (accepted-made (plans.planned text name app key store tree) r (x .read) (g .says) d, ← same)
+    (plan-shown name store' tree' (x .read .parsed .made) app key (s .0) (h .stands) (planned-declared name store' tree' app key (x .read) h (s .0) (s .2)) (s .3))

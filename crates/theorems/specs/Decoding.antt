@@ -103,13 +103,9 @@ module _ (store name : List ℕ) where
       (pick (eqb (b .kind) 3) (wordByNumber (b .word) >>= (λ w. some (some w)))
       (pick (eqb (b .kind) 4) (some (some (clip (b .from) (b .len) store ++ ascii ".aic"))) none))))
 
-  -- absent is empty where a record always has the text
-  abbrev pub orEmpty : Option (List ℕ) → List ℕ
-  orEmpty none = []
-  orEmpty (some s) = s
-
+  -- of a text that its record always has, absent has no meaning
   unfoldable pub textBy : Bytes → Option (List ℕ)
-  textBy b = optionalBy b >>= (λ s. some (orEmpty s))
+  textBy b = optionalBy b >>= (λ s. s)
 
 -- ---- structs, by the rooms, the count of values made and the lent name
 

@@ -9,10 +9,10 @@ use mathlib.Core.Path.{_≡_}
 use lib.ListN.{length}
 use Rattle.meaning.specs.Base.{zeros}
 use Rattle.meaning.specs.Refusal.{Answer, accepted}
-use Rattle.meaning.specs.Schema.{Partition, Component, Preset}
+use Rattle.meaning.specs.Schema.{Component, Preset}
 use Rattle.meaning.specs.Preset.{Read}
 use Rattle.meaning.specs.Plan as meant
-use Rattle.meaning.specs.Plan.{Source, PlannedComponent, Plan, partitionFor}
+use Rattle.meaning.specs.Plan.{PlannedComponent, Plan, partitionFor}
 use Rattle.parse.specs.Views.{countsAt}
 use Rattle.parse.specs.Given.{entryAt}
 use Rattle.host.specs.declared.documents.Outcome.{Outcome}
