@@ -21,6 +21,8 @@ pub mod Uses
 pub mod Builds
 pub mod Chosen
 pub mod Plans
+pub mod Rooms
+pub mod Numbers
 pub mod Weights
 pub mod RecordWeights
 pub mod PresetWeights

@@ -3,30 +3,30 @@ use Prim.Native.Nat.{ℕ, zero, suc, _+_, _*_, _/_, _%_, _≤_, _<_}
 use mathlib.Core.Bool.{Bool, true, false}
 use mathlib.Core.List.{List, [], _∷_, _++_}
 use mathlib.Core.Option.{Option, none, some}
-use mathlib.Core.Path.{_≡_, refl, _∙_, subst}
+use mathlib.Core.Path.{_≡_, refl, subst}
 use native.Mathlib.Omega.{arith}
 use borrow.Author.Tests.{ltb-false}
 use lib.Dec.{ltb}
 use lib.ListN.{length, length-append}
 use Rattle.meaning.specs.Base.{pick, ascii, nil?, orDefault}
 use Rattle.meaning.specs.declared.Limits.{Limits}
-use Rattle.meaning.specs.Limits.{of01, valueBytes}
-use Rattle.meaning.specs.Refusal.{accepted, acceptedThen}
+use Rattle.meaning.specs.Limits.{of01}
+use Rattle.meaning.specs.Refusal.{accepted}
 use Rattle.meaning.specs.Tree.{Table}
 use Rattle.meaning.specs.Utf8.{valid}
 use Rattle.meaning.specs.Schema.{Chip, Media, Kind, d13x, d21x, spiNor, spiNand, kindApp, kindPbp, kindRaw, chipWord, mediaWord, kindWord, Partition, Component, Application, Preset}
 use Rattle.meaning.specs.Verdict.{fine, among, long, withLast}
 use Rattle.meaning.specs.Rules.{applicationFault, applicationRules, partitionNames, rules}
-use Rattle.meaning.specs.Document.{Parsed, document, inRooms}
-use Rattle.meaning.specs.Records.{lentName, presetOf}
-use Rattle.meaning.specs.Preset.{Read, read, validate}
+use Rattle.meaning.specs.Document.{Parsed, document}
+use Rattle.meaning.specs.Records.{lentName}
 use Rattle.meaning.specs.Plan.{bootChain, Build, Plan, Planned, built?, wanted, wantedBy, firstUses, inOrder, buildsOf, firstApp, app?, ownStem, stemFor, chosen, composed, planOf, plan}
 use Rattle.meaning.specs.Listing.{digits, decimal, spaced, line, okLine, partLine, dashed, compLine, appLine, buildLine, stemLine, each, linesOf, outSize, listed}
 use Rattle.laws.specs.Cases.{on}
-use Rattle.laws.specs.Answers.{accepted-one, refused-never, after-accepted}
+use Rattle.laws.specs.Answers.{accepted-one, refused-never}
 use Rattle.laws.specs.Accepted.{All, Sound, Groups, rules-groups, layout-sound, passes-all, fine-passes}
 use Rattle.laws.specs.Fits.{Within, stored, fits}
 use Rattle.laws.specs.Plans.{valid-rules, text-planned}
+use Rattle.laws.specs.Rooms.{valid-read, read-parts}
 use Rattle.laws.specs.Weights.{weightIn, size, Weighed, document-weighs}
 use Rattle.laws.specs.RecordWeights.{sum, stemSize}
 use Rattle.laws.specs.PresetWeights.{partCost, compCost, appCost, Tells, Costs, preset-costs, root-holds}
@@ -214,27 +214,6 @@ module _ (lim : Limits) where
   text-weighs : (s : List ℕ) (x : Parsed) → document lim s ≡ accepted x → weightIn (x .root) ≤ lim .text
   text-weighs s x e = omega (arith, subst (Weighed 0) e (document-weighs lim s), subst (Within stored (length s)) e (fits lim s), text-short s x e)
 
-  module _ (store tree : ℕ) (name text : List ℕ) (x : Read) where
-    valid-read : validate lim store tree name text ≡ accepted x → read lim store tree name text ≡ accepted x
-    unfolding validate
-    valid-read e =
-        let y = after-accepted (λ (r : Read). acceptedThen (rules (r .preset)) (λ u. accepted r)) (read lim store tree name text) x e in
-        let u = after-accepted (λ u. accepted (y .0)) (rules (y .0 .preset)) x (y .2) in
-        y .1 ∙ u .2
-
-    rooms-document : (p : Parsed) → inRooms lim store tree text ≡ accepted p → document lim text ≡ accepted p
-    unfolding inRooms
-    rooms-document p e =
-        on (ltb store (lim .text)) (λ t. refused-never _ _ _ p (rw t at e))
-        (λ t. on (ltb tree (valueBytes * lim .values)) (λ u. refused-never _ _ _ p (rw (t, u) at e)) (λ u. rw (t, u) at e))
-
-    read-parts : read lim store tree name text ≡ accepted x → (document lim text ≡ accepted (x .parsed)) × (presetOf lim name (x .parsed .root) ≡ accepted (x .preset))
-    unfolding read
-    read-parts e =
-        let y = after-accepted (λ (p : Parsed). acceptedThen (presetOf lim name (p .root)) (λ r. accepted (record { parsed = p; preset = r }))) (inRooms lim store tree text) x e in
-        let z = after-accepted (λ r. accepted (record { parsed = y .0; preset = r })) (presetOf lim name (y .0 .root)) x (y .2) in
-        subst (λ (q : Read). (document lim text ≡ accepted (q .parsed)) × (presetOf lim name (q .parsed .root) ≡ accepted (q .preset))) (accepted-one (record { parsed = y .0; preset = z .0 }) x (z .2)) (rooms-document (y .0) (y .1), z .1)
-
 -- ---- all lines
 
 -- 101 for `ok`; 28 for each of 32 partitions; 68 for each of 64 components, 12 and two builds of 28; 43 for each of 64 applications, 40 and the default `app`; 11 for the
@@ -259,7 +238,7 @@ plan-is r p e = accepted-one (composed r bootChain none) p e
 pub planned-fits : (store tree : ℕ) (name text : List ℕ) (x : Planned) → plan of01 store tree name bootChain text ≡ accepted x → length (listed x .lines) ≤ outSize name
 planned-fits store tree name text x e =
     let h = text-planned of01 store tree name text bootChain x e in
-    let q = read-parts of01 store tree name text (x .read) (valid-read of01 store tree name text (x .read) (h .0)) in
+    let q = read-parts of01 store tree text name (x .read) (valid-read of01 store tree text name (x .read) (h .0)) in
     let root = x .read .parsed .root in
     subst (λ (p : Plan). length (linesOf (x .read .parsed .made) (x .read .preset) p) ≤ outSize name) (plan-is (x .read .preset) (x .plan) (h .1))
     (lines-fit (x .read .parsed .made) name root (x .read .preset) (valid-rules of01 store tree name text (x .read) (h .0))

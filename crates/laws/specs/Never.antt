@@ -1,39 +1,46 @@
 -- "The Rust's other parser errors (unknown table, empty path, array without elements) are met by no text; this is shown."
-use Prim.Native.Nat.{ℕ, zero, suc, _+_, _-_}
+-- So each refusal of a text has a number of 01's table, from 1 on.
+use Prim.Native.Nat.{ℕ, zero, suc, _+_, _*_, _-_, _≤_}
 use mathlib.Core.List.{List, [], _∷_, _++_}
-use mathlib.Core.Bool.{true}
+use mathlib.Core.Bool.{Bool, true, false}
 use mathlib.Core.Option.{Option, none, some}
 use mathlib.Core.Path.{_≡_, refl}
+use native.Mathlib.Omega.{arith}
 use borrow.Author.Tests.{eq-eqb}
 use lib.Dec.{eqb, ltb, leb}
 use lib.ListN.{length, getD, take, drop}
 use Rattle.meaning.specs.declared.Limits.{Limits}
 use Rattle.meaning.specs.declared.Fate.{Fate}
 use Rattle.meaning.specs.declared.Fate.the-variants.{Over, Unended, Whole}
-use Rattle.meaning.specs.Base.{same, cut, onFirst, nil?, final, concat}
+use Rattle.meaning.specs.Base.{ascii, same, cut, onFirst, nil?, final, concat}
 use Rattle.meaning.specs.Refusal.{R, ok, bad, okThen, Answer, accepted, refused, acceptedThen, Fault, numbered, unmet}
 use Rattle.meaning.specs.Reading.{Grown, grown, stuck, Got, got, failed, growThen, growMap, storing, adding, gotThen, gotMap, okThenGot, growThenGot, make}
 use Rattle.meaning.specs.Tree.{Value, Items, Table, str, int, boolean, array, table, none′, item, empty, entry, Grow, lookup, insert, snoc, withTable, alongPath, toLastSegment, mustExist, inLastItem, atLastItem, tableOrNew, openTables, pushTo, push, assign, asTable}
-use Rattle.meaning.specs.Keys.{keys, segments, segment}
+use Rattle.meaning.specs.declared.StringByte.the-variants.{Plain}
+use Rattle.meaning.specs.Strings as strings
+use Rattle.meaning.specs.Strings.{Ending, decode, ifEnded}
+use Rattle.meaning.specs.Integers as integers
+use Rattle.meaning.specs.Integers.{digit, most, within, magnitude, sign, body, clean, signed, integer}
+use Rattle.meaning.specs.Keys.{keys, segments, segment, nonempty, quoted}
 use Rattle.meaning.specs.Space.{trim, blank}
 use Rattle.meaning.specs.Values.{Reader, each, aString, aPlain, one, anArray, brackets, value, stringOf, plain, itemsOf}
 use Rattle.meaning.specs.Lines.{Line, Pending, closed, open′, settle, fate, joinOne, join, joined, keptLines, physical, atClose}
 use Rattle.meaning.specs.Quote.{fresh, scan}
 use Rattle.meaning.specs.Utf8.{valid}
 use Rattle.meaning.specs.Document.{Doc, Under, tables, arrays, Form, pushes, heads, sets, neither, form, underHeader, assignment, readForm, readLines, document, Parsed, lineThen}
-use Rattle.laws.specs.Cases.{on}
+use Rattle.laws.specs.Cases.{on, picked}
 
 abbrev pub Any : {X : Type 0} → X → Type 0
 Any x = Unit {0}
 
--- a fault with a number of 01's table
+-- a fault with a number of 01's table, which begins with 1
 abbrev pub Numbered : Fault → Type 0
-Numbered (numbered n) = Unit {0}
+Numbered (numbered n) = 1 ≤ n
 Numbered (unmet e) = ⊥
 
 abbrev pub Reads : {X : Type 0} → (X → Type 0) → R X → Type 0
 Reads P (ok x) = P x
-Reads P (bad n) = Unit {0}
+Reads P (bad n) = 1 ≤ n
 
 abbrev pub Grows : {X : Type 0} → (X → Type 0) → Grown X → Type 0
 Grows P (grown x m) = P x
@@ -68,7 +75,7 @@ module _ {X Y : Type 0} (P : X → Type 0) (Q : Y → Type 0) where
 
   having-ok : (a : R X) (f : X → Got Y) → Reads P a → ((x : X) → P x → Gets Q (f x)) → Gets Q (okThenGot a f)
   having-ok (ok x) f h k = k x h
-  having-ok (bad n) f h k = tt
+  having-ok (bad n) f h k = h
 
   onward-ok : (a : Got X) (f : X → ℕ → Got Y) → Gets P a → ((x : X) (m : ℕ) → P x → Gets Q (f x m)) → Gets Q (gotThen a f)
   onward-ok (got x bs m) f h k = added (f x m) (k x m h)
@@ -93,11 +100,17 @@ module _ {X : Type 0} (P : X → Type 0) where
 
   make-ok : (limit m : ℕ) (x : X) → P x → Grows P (make limit x m)
   unfolding make
-  make-ok limit m x h = on (leb limit m) (λ e. rw e tt) (λ e. rw e h)
+  make-ok limit m x h = on (leb limit m) (λ e. rw e (omega arith)) (λ e. rw e h)
 
-any-read : {X : Type 0} (a : R X) → Reads Any a
-any-read (ok x) = tt
-any-read (bad n) = tt
+-- one reader after the other
+pub then-read : {X Y : Type 0} (P : X → Type 0) (Q : Y → Type 0) (a : R X) (f : X → R Y) → Reads P a → ((x : X) → P x → Reads Q (f x)) → Reads Q (okThen a f)
+then-read P Q (ok x) f h k = k x h
+then-read P Q (bad n) f h k = h
+
+pub ended-read : {X : Type 0} (P : X → Type 0) (e : Ending) (r : R X) → Reads P r → Reads P (ifEnded e r)
+ended-read P strings.closed r h = h
+ended-read P strings.escape r h = omega arith
+ended-read P strings.unended r h = omega arith
 
 -- ---- the tree
 
@@ -153,11 +166,11 @@ pushTo-ok : (limit m : ℕ) (o : Option Value) → Grows HasLast (pushTo limit o
 unfolding pushTo
 pushTo-ok limit m none =
     then-ok Any HasLast (make limit none′ m) _ (make-ok Any limit m none′ tt) (λ a n _. make-ok HasLast limit n (snoc a (table empty)) (snoc-last a))
-pushTo-ok limit m (some (str s)) = tt
-pushTo-ok limit m (some (int i)) = tt
-pushTo-ok limit m (some (boolean b)) = tt
+pushTo-ok limit m (some (str s)) = omega arith
+pushTo-ok limit m (some (int i)) = omega arith
+pushTo-ok limit m (some (boolean b)) = omega arith
 pushTo-ok limit m (some (array a)) = make-ok HasLast limit m (snoc a (table empty)) (snoc-last a)
-pushTo-ok limit m (some (table u)) = tt
+pushTo-ok limit m (some (table u)) = omega arith
 
 push-ok : (limit m : ℕ) (k : List ℕ) (ks : List (List ℕ)) (t : Table) → Grows (Last (k ∷ ks)) (push limit (k ∷ ks) t m)
 push-ok limit m k [] t =
@@ -221,22 +234,73 @@ cut-some c (b ∷ s) = on (eqb b c) (λ e. rw e tt) (λ e. rw e (first (cut c s)
     first [] = tt
     first (l ∷ ls) = tt
 
+nonempty-read : (s : List ℕ) → Reads Any (nonempty s)
+unfolding nonempty
+nonempty-read s = on (nil? s) (λ e. rw e (omega arith)) (λ e. rw e tt)
+
+segment-read : (s : List ℕ) → Reads Any (segment s)
+unfolding segment quoted
+segment-read s =
+    picked (Reads Any) (eqb (getD s 0 0) 34)
+    (λ _. ended-read Any (decode Plain (drop 1 s) .how) _
+    (picked (Reads Any) (eqb (final (drop 1 s)) 34) (λ _. nonempty-read (decode Plain (drop 1 s) .bytes)) (λ _. omega arith)))
+    (λ _. nonempty-read s)
+
+segments-read : (n : ℕ) (ps : List (List ℕ)) → Reads Any (segments n ps)
+segments-read n [] = tt
+segments-read zero (p ∷ ps) = omega arith
+segments-read (suc n) (p ∷ ps) =
+    then-read Any Any (segment (trim p)) _ (segment-read (trim p)) (λ k _. then-read Any Any (segments n ps) _ (segments-read n ps) (λ ks _. tt))
+
 segments-ok : (n : ℕ) (ps : List (List ℕ)) → NonEmpty ps → Reads NonEmpty (segments n ps)
 segments-ok n [] h = absurd h
-segments-ok zero (p ∷ ps) h = tt
-segments-ok (suc n) (p ∷ ps) h = put-first (segment (trim p)) (segments n ps)
-  where
-    put-second : (k : List ℕ) (r : R (List (List ℕ))) → Reads NonEmpty (okThen r (λ ks. ok (k ∷ ks)))
-    put-second k (ok ks) = tt
-    put-second k (bad e) = tt
-
-    put-first : (q : R (List ℕ)) (r : R (List (List ℕ))) → Reads NonEmpty (okThen q (λ k. okThen r (λ ks. ok (k ∷ ks))))
-    put-first (ok k) r = put-second k r
-    put-first (bad e) r = tt
+segments-ok zero (p ∷ ps) h = omega arith
+segments-ok (suc n) (p ∷ ps) h =
+    then-read Any NonEmpty (segment (trim p)) _ (segment-read (trim p))
+    (λ k _. then-read Any NonEmpty (segments n ps) _ (segments-read n ps) (λ ks _. tt))
 
 pub keys-ok : (n : ℕ) (s : List ℕ) → Reads NonEmpty (keys n s)
 unfolding keys
 keys-ok n s = segments-ok n (cut 46 s) (cut-some 46 s)
+
+string-read : (s : List ℕ) → Reads Any (stringOf s)
+unfolding stringOf
+string-read s =
+    ended-read Any (decode Plain s .how) _ (picked (Reads Any) (blank (drop (decode Plain s .span) s)) (λ _. tt) (λ _. omega arith))
+
+digits-read : (base acc : ℕ) (s : List ℕ) → Reads Any (integers.value base acc s)
+digits-read base acc [] = tt
+digits-read base acc (b ∷ s) =
+    picked (Reads Any) (leb base (digit b)) (λ _. omega arith) (λ _. digits-read base (acc * base + digit b) s)
+
+magnitude-read : (neg : Bool) (base : ℕ) (s : List ℕ) → Reads Any (magnitude neg base s)
+unfolding magnitude within
+magnitude-read neg base s =
+    picked (Reads Any) (nil? s) (λ _. omega arith)
+    (λ _. then-read Any Any (within (most neg) (integers.value base 0 s)) _
+    (then-read Any Any (integers.value base 0 s) _ (digits-read base 0 s) (λ n _. picked (Reads Any) (ltb (most neg) n) (λ _. omega arith) (λ _. tt)))
+    (λ n _. tt))
+
+sign-read : (base : ℕ) (s : List ℕ) → Reads Any (sign base s)
+unfolding sign
+sign-read base s =
+    picked (Reads Any) (eqb (getD s 0 0) 45) (λ _. magnitude-read true base (drop 1 s))
+    (λ _. picked (Reads Any) (eqb (getD s 0 0) 43) (λ _. magnitude-read false base (drop 1 s)) (λ _. magnitude-read false base s))
+
+body-read : (s : List ℕ) → Reads Any (body s)
+unfolding body
+body-read s =
+    picked (Reads Any) (eqb (getD s 0 0) 48)
+    (λ _. picked (Reads Any) (eqb (getD s 1 0) 120) (λ _. sign-read 16 (drop 2 s))
+    (λ _. picked (Reads Any) (eqb (getD s 1 0) 88) (λ _. sign-read 16 (drop 2 s)) (λ _. sign-read 10 s)))
+    (λ _. sign-read 10 s)
+
+plain-read : (s : List ℕ) → Reads Any (plain s)
+unfolding plain integer signed
+plain-read s =
+    picked (Reads Any) (same s (ascii "true")) (λ _. tt)
+    (λ _. picked (Reads Any) (same s (ascii "false")) (λ _. tt)
+    (λ _. then-read Any Any (integer s) _ (then-read Any Any (body (clean s)) _ (body-read (clean s)) (λ x _. tt)) (λ i _. tt)))
 
 each-ok : (f : List ℕ → Reader Value) → ((l : List ℕ) (m : ℕ) → Gets Any (f l m)) → (ls : List (List ℕ)) (m : ℕ) → Gets Any (each f ls m)
 each-ok f h [] m = tt
@@ -246,11 +310,11 @@ each-ok f h (l ∷ ls) m =
 module _ (limit : ℕ) where
   string-ok : (s : List ℕ) (m : ℕ) → Gets Any (aString limit s m)
   unfolding aString
-  string-ok s m = having-ok Any Any (stringOf s) _ (any-read (stringOf s)) (λ d _. storing-ok Any d (make limit (str d) m) (make-ok Any limit m (str d) tt))
+  string-ok s m = having-ok Any Any (stringOf s) _ (string-read s) (λ d _. storing-ok Any d (make limit (str d) m) (make-ok Any limit m (str d) tt))
 
   plain-ok : (s : List ℕ) (m : ℕ) → Gets Any (aPlain limit s m)
   unfolding aPlain
-  plain-ok s m = having-ok Any Any (plain s) _ (any-read (plain s)) (λ v _. storing-ok Any [] (make limit v m) (make-ok Any limit m v tt))
+  plain-ok s m = having-ok Any Any (plain s) _ (plain-read s) (λ v _. storing-ok Any [] (make limit v m) (make-ok Any limit m v tt))
 
   one-ok : (b : List ℕ → Reader Value) → ((s : List ℕ) (m : ℕ) → Gets Any (b s m)) → (s : List ℕ) (m : ℕ) → Gets Any (one limit b s m)
   unfolding one
@@ -264,10 +328,10 @@ module _ (limit : ℕ) where
       on (eqb (final s) 93)
       (λ e. rw e (grows-ok Any Any (make limit none′ m) _ (make-ok Any limit m none′ tt)
       (λ _ n _. change-ok Any Any array (each v (itemsOf (take (length s - 1) s)) n) (each-ok v h (itemsOf (take (length s - 1) s)) n) (λ vs _. tt))))
-      (λ e. rw e tt)
+      (λ e. rw e (omega arith))
 
   brackets-ok : (d : ℕ) (s : List ℕ) (m : ℕ) → Gets Any (brackets limit d s m)
-  brackets-ok zero s m = tt
+  brackets-ok zero s m = omega arith
   brackets-ok (suc d) s m =
       array-ok (λ l. one limit (brackets limit d) (trim l)) (λ l n. one-ok (brackets limit d) (λ t k. brackets-ok d t k) (trim l) n) s m
 
@@ -302,7 +366,7 @@ module _ (lim : Limits) where
   setting-ok : (k v : List ℕ) (d : Doc) (m : ℕ) → Sound d → Gets Sound (assignment lim k v d m)
   unfolding assignment
   setting-ok k v d m h =
-      on (nil? k) (λ e. rw e tt)
+      on (nil? k) (λ e. rw e (omega arith))
       (λ e. rw e (onward-ok Any Sound (value (lim .values) (lim .arrays) v m) _ (value-ok (lim .values) (lim .arrays) v m)
       (λ x n _. having-ok NonEmpty Sound (keys (lim .segments) k) _ (keys-ok (lim .segments) k)
       (λ p q. kept-ok (Stands (d .under)) Sound (λ t. record { root = t; under = d .under }) (concat p)
@@ -320,7 +384,7 @@ module _ (lim : Limits) where
       (λ p q. kept-ok (Down p) Sound (λ t. record { root = t; under = tables p }) (concat p) (openTables (lim .values) p (d .root) m)
       (ensure-ok (lim .values) m p (d .root)) (λ t g. g))
   act-ok (sets k v) d m h = setting-ok (trim k) v d m h
-  act-ok neither d m h = tt
+  act-ok neither d m h = omega arith
 
   reading-ok : (at : ℕ) (g : Got Doc) (k : Doc → ℕ → Answer Parsed) → Gets Sound g → ((e : Doc) (n : ℕ) → Sound e → Answers (k e n)) → Answers (lineThen at g k)
   reading-ok at (got e bs n) k s h = after-ok Any Any (k e n) _ (h e n s) (λ r. tt)
@@ -332,7 +396,7 @@ module _ (lim : Limits) where
       reading-ok (l .at) (readForm lim (form (trim (l .text))) d m) _ (act-ok (form (trim (l .text))) d m h) (λ e n s. lines-ok e ls n s)
 
 settle-ok : (at : ℕ) (t : List ℕ) (f : Fate) → Answers (settle at t f)
-settle-ok at t Over = tt
+settle-ok at t Over = omega arith
 settle-ok at t Unended = tt
 settle-ok at t Whole = tt
 
@@ -343,7 +407,7 @@ joinOne-ok (open′ at t) n l = settle-ok at (t ++ (10 ∷ l)) (fate (scan fresh
 
 close-ok : (p : Pending) → Answers (atClose p)
 close-ok closed = tt
-close-ok (open′ at t) = tt
+close-ok (open′ at t) = omega arith
 
 join-ok : (p : Pending) (n : ℕ) (ls : List (List ℕ)) → Answers (join p n ls)
 join-ok p n [] = close-ok p
@@ -351,11 +415,11 @@ join-ok p n (l ∷ ls) =
     after-ok Any Any (joinOne p n l) _ (joinOne-ok p n l)
     (λ s. after-ok Any Any (join (s .pending) (n + 1) ls) _ (join-ok (s .pending) (n + 1) ls) (λ r. tt))
 
--- no text is refused by an error without a number
+-- no text is refused by an error without a number, or by number 0
 pub never : (lim : Limits) (s : List ℕ) → Answers (document lim s)
 unfolding document joined
 never lim s =
-    on (ltb (lim .text) (length s)) (λ e. rw e tt)
+    on (ltb (lim .text) (length s)) (λ e. rw e (omega arith))
     (λ e. rw e (on (valid s)
     (λ v. rw v (after-ok Any Any (join closed 1 (keptLines (physical s))) _ (join-ok closed 1 (keptLines (physical s))) (λ ls. lines-ok lim (record { root = empty; under = tables [] }) ls 0 tt)))
-    (λ v. rw v tt)))
+    (λ v. rw v (omega arith))))

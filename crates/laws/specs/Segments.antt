@@ -3,19 +3,19 @@ use Prim.Native.Nat.{ℕ, zero, suc, _-_}
 use mathlib.Core.Bool.{false}
 use mathlib.Core.List.{List, [], _∷_}
 use mathlib.Core.Path.{_≡_, refl}
+use native.Mathlib.Omega.{arith}
 use lib.Dec.{eqb}
 use lib.ListN.{length, getD, take, drop}
 use Rattle.meaning.specs.declared.Act.{Act}
 use Rattle.meaning.specs.declared.Act.the-variants.{End, Hold, Put, Fault}
 use Rattle.meaning.specs.Base.{nil?, cut, onFirst, final}
-use Rattle.meaning.specs.Refusal.{R, ok, bad, okThen}
 use Rattle.meaning.specs.Space.{trim}
 use Rattle.meaning.specs.declared.StringByte.{StringByte}
 use Rattle.meaning.specs.declared.StringByte.the-variants.{Plain, AfterBackslash}
-use Rattle.meaning.specs.Strings.{Ending, closed, escape, unended, Said, actOf, byAct, decode, ifEnded}
+use Rattle.meaning.specs.Strings.{Said, actOf, byAct, decode}
 use Rattle.meaning.specs.Keys.{nonempty, quoted, segment, segments, keys}
 use Rattle.laws.specs.Cases.{on, picked}
-use Rattle.laws.specs.Never.{Reads}
+use Rattle.laws.specs.Never.{Reads, then-read, ended-read}
 use Rattle.laws.specs.Trim.{whiteAt, whiteEnd, forwards, backwards, on-bytes}
 
 -- c is no byte of s
@@ -101,34 +101,23 @@ decode-without st (b ∷ s) h = step (actOf st b) (λ t. decode t s) (act-dotles
 
 nonempty-named : (s : List ℕ) → Without 46 s → Reads Named (nonempty s)
 unfolding nonempty
-nonempty-named s h = on (nil? s) (λ e. rw e tt) (λ e. rw e (e, h))
-
-ending-named : (e : Ending) (r : R (List ℕ)) → Reads Named r → Reads Named (ifEnded e r)
-ending-named closed r h = h
-ending-named escape r h = tt
-ending-named unended r h = tt
+nonempty-named s h = on (nil? s) (λ e. rw e (omega arith)) (λ e. rw e (e, h))
 
 segment-named : (s : List ℕ) → Without 46 s → Reads Named (segment s)
 unfolding segment quoted
 segment-named s h =
     picked (Reads Named) (eqb (getD s 0 0) 34)
-    (λ _. ending-named (decode Plain (drop 1 s) .how) _
+    (λ _. ended-read Named (decode Plain (drop 1 s) .how) _
     (picked (Reads Named) (eqb (final (drop 1 s)) 34)
-    (λ _. nonempty-named (decode Plain (drop 1 s) .bytes) (decode-without Plain (drop 1 s) (drop-without 46 1 s h))) (λ _. tt)))
+    (λ _. nonempty-named (decode Plain (drop 1 s) .bytes) (decode-without Plain (drop 1 s) (drop-without 46 1 s h))) (λ _. omega arith)))
     (λ _. nonempty-named s h)
 
 segments-named : (n : ℕ) (ps : List (List ℕ)) → AllWithout 46 ps → Reads AllNamed (segments n ps)
 segments-named n [] h = tt
-segments-named zero (p ∷ ps) h = tt
-segments-named (suc n) (p ∷ ps) h = one (segment (trim p)) (segments n ps) (segment-named (trim p) (trim-without 46 p (h .0))) (segments-named n ps (h .1))
-  where
-    others : (k : List ℕ) (r : R (List (List ℕ))) → Named k → Reads AllNamed r → Reads AllNamed (okThen r (λ ks. ok (k ∷ ks)))
-    others k (ok ks) a b = (a, b)
-    others k (bad e) a b = tt
-
-    one : (q : R (List ℕ)) (r : R (List (List ℕ))) → Reads Named q → Reads AllNamed r → Reads AllNamed (okThen q (λ k. okThen r (λ ks. ok (k ∷ ks))))
-    one (ok k) r a b = others k r a b
-    one (bad e) r a b = tt
+segments-named zero (p ∷ ps) h = omega arith
+segments-named (suc n) (p ∷ ps) h =
+    then-read Named AllNamed (segment (trim p)) _ (segment-named (trim p) (trim-without 46 p (h .0)))
+    (λ k a. then-read AllNamed AllNamed (segments n ps) _ (segments-named n ps (h .1)) (λ ks b. (a, b)))
 
 -- no segment of a key or header is empty or holds a dot
 pub keys-named : (n : ℕ) (s : List ℕ) → Reads AllNamed (keys n s)
