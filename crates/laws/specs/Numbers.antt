@@ -13,14 +13,14 @@ use Rattle.meaning.specs.declared.Limits.{Limits}
 use Rattle.meaning.specs.Refusal.{R, ok, bad, okThen, Answer, accepted, refused, acceptedThen, told, inBoard, inImage, inPartition, inComponent}
 use Rattle.meaning.specs.Tree.{Value, Items, Table, str, int, boolean, array, table, none′, item, empty, count, lookup, asString, asInt, asBool, asArray, asTable}
 use Rattle.meaning.specs.Schema.{Chip, Board, Image, Partition, Application, Component, Preset, eraseFor, named, chipWord, mediaWord, kindWord, chips, medias, kinds, chipOf, mediaOf, kindOf}
-use Rattle.meaning.specs.Fields.{need, aText, aFlag, aNumber, aWord, anArray, aTable, inRange, present, field, defaulted, required, tableAt, orThen, listAt, Row, rows, tabled, each, listed, outside}
+use Rattle.meaning.specs.Fields.{need, aText, aFlag, aNumber, aWord, anArray, aTable, inRange, present, field, defaulted, required, tableAt, orThen, listAt, Row, rows, tabled, each, listed}
 use Rattle.meaning.specs.Order.{sorted}
 use Rattle.meaning.specs.Features.{words, texts, counted, aFeatures}
-use Rattle.meaning.specs.Records.{chosen, chipFrom, boardFrom, imageFrom, frontOf, partitionFrom, partitionsOf, headFrom, roleFrom, bootFrom, loadFrom, componentFrom, componentsOf, applicationFrom, applicationAt, applicationsOf, lentName, presetOf}
+use Rattle.meaning.specs.Records.{chosen, chipFrom, boardFrom, imageFrom, frontOf, partitionFrom, partitionsOf, headFrom, roleFrom, bootFrom, loadFrom, componentFrom, componentsOf, applicationFrom, applicationsOf, lentName, presetOf}
 use Rattle.meaning.specs.Verdict.{judged, long, among, inTurn, withLast}
 use Rattle.meaning.specs.Layout.{nothingBefore, passed, partitionFault, startFault, layout}
 use Rattle.meaning.specs.Rules.{chipFor, widthFault, deviceFault, frontRules, partitionNames, componentFault, componentRules, featureRules, applicationRules, targets, bootRule, rules}
-use Rattle.meaning.specs.Document.{Parsed, document, inRooms}
+use Rattle.meaning.specs.Document.{Parsed, inRooms}
 use Rattle.meaning.specs.Preset.{Read, read, validate}
 use Rattle.meaning.specs.Plan as plans
 use Rattle.meaning.specs.Plan.{Selection, bootChain, app, Entry, admitted, componentNames, planOf, plan}
