@@ -4,7 +4,8 @@ use mathlib.Core.List.{List}
 use mathlib.Core.Path.{_≡_, sym, subst, _∙_}
 use borrow.Author.Tests.{ltb-false, le-ltb}
 use lib.Dec.{ltb}
-use Rattle.meaning.specs.Limits.{Limits, valueBytes}
+use Rattle.meaning.specs.declared.Limits.{Limits}
+use Rattle.meaning.specs.Limits.{valueBytes}
 use Rattle.meaning.specs.Refusal.{accepted, acceptedThen}
 use Rattle.meaning.specs.Document.{Parsed, document, inRooms}
 use Rattle.meaning.specs.Records.{presetOf}

@@ -1,17 +1,20 @@
 -- What an accepted layout has, by places.
 use Prim.Native.Nat.{ℕ, _≤_, _<_}
 use mathlib.Core.List.{List, []}
-use mathlib.Core.Path.{_≡_, sym, ap, _∙_, subst}
+use mathlib.Core.Bool.{Bool, true, false}
+use mathlib.Core.Path.{_≡_, refl, sym, ap, _∙_, subst}
 use native.Mathlib.Omega.{arith}
 use lib.ListN.{length, getD}
-use Rattle.meaning.specs.Schema.{Chip, Partition, Preset, eraseFor}
+use Rattle.meaning.specs.Schema.{Chip, Media, spiNor, spiNand, Board, Image, Partition, Preset, mediaFor, erase, eraseFor}
 use Rattle.meaning.specs.Verdict.{fine}
 use Rattle.meaning.specs.Layout.{endOf, layout}
+use Rattle.meaning.specs.Rules.{sameMedia, deviceFault}
+use Rattle.laws.specs.Cases.{on, never}
 use Rattle.laws.specs.Order.{eq-same}
 use Rattle.laws.specs.Accepted.{Sound, rules-groups, layout-some, layout-start, layout-at, layout-names, layout-ends, layout-share}
 use Rattle.laws.specs.Places.{at-inside, at-getD}
 use Rattle.theorems.specs.Words.{At, Holds}
-use Rattle.theorems.specs.AcceptedLayout.{SoundPartition, SoundLayout, AcceptedLayoutIsSound, PresetLayoutIsSound}
+use Rattle.theorems.specs.AcceptedLayout.{SoundPartition, SoundLayout, AcceptedLayoutIsSound, PresetLayoutIsSound, EraseBlockIsTheMedias}
 use Rattle.theorems.proofs.Standing.{lemma-at}
 
 abbrev nowhere : Partition
@@ -56,3 +59,18 @@ accepted-layout = sound-layout
 
 pub preset-layout : PresetLayoutIsSound
 preset-layout r e = sound-layout (r .board .chip) (r .partitions) (rules-groups r e .laid)
+
+-- ---- the erase block
+
+media-one : (m n : Media) → sameMedia m n ≡ true → m ≡ n
+media-one spiNor spiNor e = refl
+media-one spiNor spiNand e = never {b = false} e refl
+media-one spiNand spiNor e = never {b = false} e refl
+media-one spiNand spiNand e = refl
+
+pub erase-block : EraseBlockIsTheMedias
+unfolding eraseFor deviceFault
+erase-block b i h =
+    on (sameMedia (mediaFor (b .chip)) (i .media))
+    (λ e. ap erase (media-one (mediaFor (b .chip)) (i .media) e))
+    (λ e. absurd (h (rw e)))

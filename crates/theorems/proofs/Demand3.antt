@@ -1,4 +1,4 @@
--- The plan of an accepted preset meets the demand, whatever was selected.
+-- The plan of an accepted preset has all clauses of `PassedPreset`, whatever was selected.
 use Prim.Native.Nat.{ℕ, zero, suc, _+_, _*_, _≤_}
 use mathlib.Core.Bool.{true, false}
 use mathlib.Core.List.{List, [], _∷_, map}
@@ -6,26 +6,31 @@ use mathlib.Core.Logic.{_⊎_, inl, inr}
 use mathlib.Core.Option.{Option, none, some}
 use mathlib.Core.Path.{_≡_, refl, sym, ap, _∙_, subst}
 use native.Mathlib.Omega.{arith}
+use borrow.Author.Tests.{eqb-true}
+use lib.Dec.{eqb}
 use lib.ListN.{length, take, getD, length-map}
-use Rattle.meaning.specs.Base.{pick, nil?, same}
-use Rattle.meaning.specs.Refusal.{accepted}
+use Rattle.meaning.specs.Base.{pick, nil?, same, before}
+use Rattle.meaning.specs.Refusal.{numbered, accepted, inApplication}
 use Rattle.meaning.specs.Schema.{Partition, Component, Application, Preset}
 use Rattle.meaning.specs.Verdict.{fine, among}
 use Rattle.meaning.specs.Rules.{given, nameOf, partitionNames, allUses, usesOf, rules}
-use Rattle.meaning.specs.Plan.{Selection, Build, built?, Source, fromPackage, fromFile, PlannedComponent, Plan, payload, pbpPayload, planned, componentOf, chosen, composition, wanted, wantedBy, firstUses, inOrder, buildsOf, firstNamed, partitionFor, composed, planOf}
+use Rattle.meaning.specs.Plan.{Selection, bootChain, app, Entry, declared, componentNames, admitted, Build, built?, Source, fromPackage, fromFile, PlannedComponent, Plan, payload, pbpPayload, planned, componentOf, chosen, composition, wanted, wantedBy, firstUses, inOrder, buildsOf, firstNamed, partitionFor, composed, planOf}
 use Rattle.laws.specs.Cases.{on, never}
 use Rattle.laws.specs.Order.{same-eq, eq-same}
 use Rattle.laws.specs.Accepted.{Kept, Meant, Groups, rules-groups, components-kept, layout-at, layout-meant, layout-disjoint}
 use Rattle.laws.specs.Places.{At, In, at-inside, at-getD, getD-at, all-of, at-map, map-at, in-left, in-right, in-split, none-some, some-one}
-use Rattle.laws.specs.Answers.{accepted-one}
+use Rattle.laws.specs.Answers.{accepted-one, refused-never}
 use Rattle.laws.specs.Uses.{AllAlike, uses-alike, application-uses, uses-append}
 use Rattle.laws.specs.Builds.{First, firsts-first, firsts-has, firsts-one, asked, Agrees, wanted-use, wanted-by, by-wanted, Among, composition-in, in-composition, composition-length, order-in, in-order, builds-length}
-use Rattle.laws.specs.Chosen.{plan-made, chosen-in, application-known}
+use Rattle.laws.specs.Chosen.{some-declared, declared-some, plan-made, chosen-in, application-known}
 use Rattle.laws.specs.Plans.{valid-rules, text-planned}
+use Rattle.laws.specs.Rooms.{valid-anywhere}
 use Rattle.theorems.specs.Words as words
 use Rattle.theorems.specs.Words.{Holds}
-use Rattle.theorems.specs.Demand3.{Origin, own, selected, Payload, package-only, file-only, Lies, Finds, Uses, as-payload, as-pbp, BuiltOnce, PlainName, OneFeatureSet, Demand, PlanMeetsDemand, PlanIsSmall, PlainNameIsFound, TextMeetsDemand}
+use Rattle.theorems.specs.PassedPreset.{NoSemicolon, Selected, by-key, Origin, own, selected, Payload, package-only, file-only, Lies, Finds, Uses, as-payload, as-pbp, BuiltOnce, Premise1, Premise2}
+use Rattle.theorems.specs.Demand3.{PlanMeetsDemand, PlanIsSmall, PlainNameIsFound, TextMeetsDemand, AcceptedInAllLargeRooms}
 use Rattle.theorems.proofs.Standing.{lemma-at, at-lemma}
+use Rattle.theorems.proofs.Refusals.{declared-lemma, lemma-declared}
 
 -- ---- payloads
 
@@ -135,6 +140,46 @@ module _ (c : Component) (b : Build) where
       go (inl k) = as-payload (first (c .head .pack) (k .0) (k .1))
       go (inr k) = as-pbp (second (c .boot .pbp) (c .boot .pbpPack) (k .0) h (k .1))
 
+-- ---- a name that is found as it is written
+
+no-cut : (name : List ℕ) → NoSemicolon name → before 59 name ≡ length name
+no-cut [] h = refl
+no-cut (b ∷ name) h = on (eqb b 59) (λ t. absurd (h 0 (eqb-true b 59 t))) (λ t. rw t (ap suc (no-cut name (λ i g. h (suc i) g))))
+
+take-all : (s : List ℕ) → take (length s) s ≡ s
+take-all [] = refl
+take-all (b ∷ s) = ap (λ (l : List ℕ). b ∷ l) (take-all s)
+
+pub plain-name : PlainNameIsFound
+unfolding nameOf
+plain-name name h t = rw (no-cut name h, take-all name, t)
+
+-- ---- the application that is selected
+
+module _ (r : Preset) where
+  chosen-selected : (s : Selection) (a : Application) → chosen r s ≡ accepted (some a) → Selected r s a
+  unfolding chosen admitted
+  chosen-selected bootChain a e = none-some a (accepted-one none (some a) e)
+  chosen-selected (app key) a e = go (declared 0 key (r .applications)) refl e
+    where
+      go : (o : Option Entry) → declared 0 key (r .applications) ≡ o → admitted (r .components) o ≡ accepted (some a) → Selected r (app key) a
+      go none h f = refused-never (numbered 80) inApplication 0 (some a) f
+      go (some x) h f =
+          let d = some-declared key 0 (r .applications) x h in
+          on (among (x .application .name) (componentNames (r .components)))
+          (λ t. refused-never (numbered 81) inApplication (x .place) (some a) (rw t at f))
+          (λ t. subst (λ (b : Application). Selected r (app key) b) (some-one (x .application) a (accepted-one (some (x .application)) (some a) (rw t at f)))
+          (by-key key (d .0) (x .application) (declared-lemma (r .applications) key (d .0) (x .application) (d .2))))
+
+  -- it is the one that was chosen
+  selected-chosen : (s : Selection) (o : Option Application) → chosen r s ≡ accepted o → (a : Application) → Selected r s a → chosen r s ≡ accepted (some a)
+  unfolding chosen admitted
+  selected-chosen s o e a (by-key key i b h) =
+      let d = declared-some key 0 (r .applications) i i b (omega arith) (lemma-declared (r .applications) key i b h) in
+      on (among (b .name) (componentNames (r .components)))
+      (λ t. refused-never (numbered 81) inApplication i o (rw (d, t) at e))
+      (λ t. rw (d, t))
+
 -- ---- the plan of an accepted preset
 
 module _ (r : Preset) (s : Selection) (p : Plan) (obeys : rules r ≡ fine) (made : planOf r s ≡ accepted p) where
@@ -146,11 +191,14 @@ module _ (r : Preset) (s : Selection) (p : Plan) (obeys : rules r ≡ fine) (mad
 
   origin-of : (c : Component) → Among chosenOne (r .components) c → Origin r s c
   origin-of c (inl h) = own (h .0) (at-lemma (r .components) (h .0) c (h .1))
-  origin-of c (inr h) = selected (h .0) (plan-made r s p made .1 ∙ ap accepted (h .1)) (h .2)
+  origin-of c (inr h) = selected (h .0) (chosen-selected r s (h .0) (plan-made r s p made .1 ∙ ap accepted (h .1))) (h .2)
+
+  the-chosen : (a : Application) → Selected r s a → chosen r s ≡ accepted (some a)
+  the-chosen = selected-chosen r s chosenOne (plan-made r s p made .1)
 
   of-origin : (c : Component) → Origin r s c → Among chosenOne (r .components) c
   of-origin c (own j h) = inl (j, lemma-at (r .components) j c h)
-  of-origin c (selected a e h) = inr (a, accepted-one chosenOne (some a) (sym (plan-made r s p made .1) ∙ e), h)
+  of-origin c (selected a e h) = inr (a, accepted-one chosenOne (some a) (sym (plan-made r s p made .1) ∙ the-chosen a e), h)
 
   kept : (j : ℕ) (c : Component) → At (r .components) j c → Kept (partitionNames (r .partitions)) c
   kept j c h = all-of (Kept (partitionNames (r .partitions))) (r .components) j c (components-kept (partitionNames (r .partitions)) (r .components) (groups .made)) h
@@ -187,15 +235,16 @@ module _ (r : Preset) (s : Selection) (p : Plan) (obeys : rules r ≡ fine) (mad
   component-finds : (j : ℕ) (c : Component) → At (r .components) j c → nil? (c .role .partition) ≡ false → Finds (p .partitions) (c .role .partition)
   component-finds j c h n = lies-finds (p .partitions) (c .role .partition) (known-lies (nameOf (c .role .partition)) (kept j c h .known n))
 
-  application-lies : (a : Application) → chosen r s ≡ accepted (some a) → Lies (p .partitions) (a .partition)
-  application-lies a e = known-lies (a .partition) (application-known (partitionNames (r .partitions)) (r .applications) a (groups .applied) (chosen-in r s a e))
+  application-lies : (a : Application) → Selected r s a → Lies (p .partitions) (a .partition)
+  application-lies a e = known-lies (a .partition) (application-known (partitionNames (r .partitions)) (r .applications) a (groups .applied) (chosen-in r s a (the-chosen a e)))
 
-  finds-of : PlainName r s → (c : Component) → Origin r s c → nil? (c .role .partition) ≡ false → Finds (p .partitions) (c .role .partition)
+  finds-of : Premise1 r s → (c : Component) → Origin r s c → nil? (c .role .partition) ≡ false → Finds (p .partitions) (c .role .partition)
   unfolding componentOf
   finds-of plain c (own j h) n = component-finds j c (lemma-at (r .components) j c h) n
   finds-of plain c (selected a e h) n =
       subst (λ (d : Component). Finds (p .partitions) (d .role .partition)) (sym h)
-      (lies-finds (p .partitions) (a .partition) (subst (Lies (p .partitions)) (sym (plain a e)) (application-lies a e)))
+      (lies-finds (p .partitions) (a .partition)
+      (subst (Lies (p .partitions)) (sym (plain-name (a .partition) (plain .no-semicolon a e) (plain .no-white-ends a e))) (application-lies a e)))
 
   abbrev wants : List Build
   wants = wantedBy (inOrder chosenOne (r .components))
@@ -233,7 +282,7 @@ module _ (r : Preset) (s : Selection) (p : Plan) (obeys : rules r ≡ fine) (mad
       let k = is-planned (w .0) o in
       (k .0, planned (w .0), k .1, wanted-uses (w .0) d (one-pbp (w .0) o) (w .2))
 
-  agrees-of : OneFeatureSet r → (c : Component) → Origin r s c → Agrees c
+  agrees-of : Premise2 r → (c : Component) → Origin r s c → Agrees c
   unfolding componentOf
   agrees-of agrees c (own j h) = agrees j c h
   agrees-of agrees c (selected a e h) = subst Agrees (sym h) (λ n k l. none-some n l)
@@ -245,7 +294,7 @@ module _ (r : Preset) (s : Selection) (p : Plan) (obeys : rules r ≡ fine) (mad
       let k = chosen-in r s x e in
       subst AllAlike (sym (uses-append (r .components) (componentOf x ∷ []))) (application-uses (r .components) (r .applications) (groups .built) (k .0) x (k .1))
 
-  same-features : OneFeatureSet r → (b d : Build) → In b wants → In d wants → d .pack ≡ b .pack → d .features ≡ b .features
+  same-features : Premise2 r → (b d : Build) → In b wants → In d wants → d .pack ≡ b .pack → d .features ≡ b .features
   same-features agrees b d h g =
       let cs = inOrder chosenOne (r .components) in
       let each : (j : ℕ) (c : Component) → At cs j c → Agrees c = λ j c k. agrees-of agrees c (origin-of c (order-in chosenOne (r .components) c (j, k))) in
@@ -260,6 +309,7 @@ demand r s p obeys made =
       sources = λ i q h. let o = origin r s p obeys made i q (planned-at i q h) in
           (o .0, o .1, o .2, subst (λ (z : PlannedComponent). Payload (o .0) (z .source)) (sym (o .2)) (payload-of r s p obeys made (o .0) (o .1)));
       complete = λ c h. let k = is-planned r s p obeys made c h in (k .0, at-lemma (p .components) (k .0) (planned c) (k .1));
+      same-partitions = sym (partitions-are r s p obeys made);
       references = λ plain i q h. let o = origin r s p obeys made i q (planned-at i q h) in
           subst (λ (z : PlannedComponent). nil? (z .spec .role .partition) ≡ false → Finds (p .partitions) (z .spec .role .partition)) (sym (o .2)) (finds-of r s p obeys made plain (o .0) (o .1));
       own-references = λ j c h. component-finds r s p obeys made j c (lemma-at (r .components) j c h);
@@ -286,10 +336,6 @@ plan-size r s p e =
     subst (λ (q : Plan). (length (q .components) ≤ suc (length (r .components))) × (length (q .builds) ≤ 2 * length (r .components) + 1)) (m .2)
     (rw (length-map (composition (m .0) (r .components)) planned) (composition-length (m .0) (r .components)), builds-length (m .0) (r .components))
 
-pub plain-name : PlainNameIsFound
-unfolding nameOf
-plain-name name e t = rw (e, take-all name, t)
-  where
-    take-all : (s : List ℕ) → take (length s) s ≡ s
-    take-all [] = refl
-    take-all (b ∷ s) = ap (λ (l : List ℕ). b ∷ l) (take-all s)
+pub accepted-anywhere : AcceptedInAllLargeRooms
+accepted-anywhere lim store tree store₂ tree₂ name text x e h k =
+    valid-anywhere lim store tree store₂ tree₂ name text x e (record { store-takes = h; tree-takes = k })

@@ -5,12 +5,13 @@ pub mod NeverMet
 pub mod AcceptedLayout
 pub mod AcceptedComponents
 pub mod Listing
-pub mod Refusals
-pub mod Demand3
-pub mod Demand3Needs
 pub mod Decoding
 pub mod FixedWords
 pub mod Places
 pub mod Presentable
 pub mod Views
+pub mod Refusals
+pub mod Demand3
+pub mod PassedPreset
+pub mod Premises
 pub mod Proved

@@ -4,13 +4,14 @@ use Rattle.theorems.proofs.Answers as answers
 use Rattle.theorems.proofs.FixedWords as words
 use Rattle.theorems.proofs.Views as views
 use Rattle.theorems.proofs.Lines as lines
-use Rattle.theorems.proofs.NeverMet.{never-met}
+use Rattle.theorems.proofs.NeverMet.{never-met, each-numbered}
 use Rattle.theorems.proofs.AcceptedLayout as layouts
 use Rattle.theorems.proofs.AcceptedComponents.{accepted-components}
 use Rattle.theorems.proofs.Listing.{listing-fits}
 use Rattle.theorems.proofs.Refusals as refusals
 use Rattle.theorems.proofs.Demand3 as demands
-use Rattle.theorems.proofs.Demand3Needs as needs
+use Rattle.theorems.proofs.PassedPreset.{passed}
+use Rattle.theorems.proofs.Premises as needs
 
 pub proved : Proved
 proved =
@@ -38,13 +39,20 @@ proved =
             segments-are-names = lines.segments-are-names;
             no-key-twice = lines.no-key-twice;
             never-met = never-met;
+            each-numbered = each-numbered;
             accepted-layout = layouts.accepted-layout;
             preset-layout = layouts.preset-layout;
+            erase-block = layouts.erase-block;
             accepted-components = accepted-components;
             listing-fits = listing-fits;
           };
       planning =
           record {
+            passed = passed;
+            needs-no-semicolon = needs.needs-no-semicolon;
+            needs-no-white-head = needs.needs-no-white-head;
+            needs-no-white-end = needs.needs-no-white-end;
+            needs-one-set = needs.needs-one-set;
             refused-why = refusals.refused-why;
             why-refused = refusals.why-refused;
             else-planned = refusals.else-planned;
@@ -55,8 +63,6 @@ proved =
             text-refused = refusals.text-refused;
             refused-first = refusals.refused-first;
             refused-then = refusals.refused-then;
-            needs-no-semicolon = needs.needs-no-semicolon;
-            needs-trimmed = needs.needs-trimmed;
-            needs-one-set = needs.needs-one-set;
+            accepted-anywhere = demands.accepted-anywhere;
           };
     }

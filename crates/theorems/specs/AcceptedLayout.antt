@@ -6,10 +6,10 @@ use mathlib.Core.List.{List}
 use mathlib.Core.Path.{_≡_}
 use lib.ListN.{length}
 use Rattle.meaning.specs.Base.{nil?}
-use Rattle.meaning.specs.Schema.{Chip, Partition, Preset, eraseFor}
+use Rattle.meaning.specs.Schema.{Chip, Board, Image, Partition, Preset, erase, eraseFor}
 use Rattle.meaning.specs.Verdict.{fine}
 use Rattle.meaning.specs.Layout.{endOf, layout}
-use Rattle.meaning.specs.Rules.{rules}
+use Rattle.meaning.specs.Rules.{deviceFault, rules}
 use Rattle.theorems.specs.Words.{At, Holds}
 
 -- one partition, on a chip whose erase block has so many bytes
@@ -44,3 +44,7 @@ AcceptedLayoutIsSound = (chip : Chip) (ps : List Partition) → layout chip ps �
 -- and the layout of a preset that obeys the rules
 abbrev pub PresetLayoutIsSound : Type 0
 PresetLayoutIsSound = (r : Preset) → rules r ≡ fine → SoundLayout (r .board .chip) (r .partitions)
+
+-- the original takes the erase block from the media: where 30 does not refuse, that is the chip's
+abbrev pub EraseBlockIsTheMedias : Type 0
+EraseBlockIsTheMedias = (b : Board) (i : Image) → (deviceFault b i ≡ 30 → ⊥) → eraseFor (b .chip) ≡ erase (i .media)

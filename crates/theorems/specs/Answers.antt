@@ -2,21 +2,20 @@
 -- Each is proved to keep the contract that stands above its body (crates/host/src: presets.rt, plans.rt, listings.rt).
 -- A contract leaves no choice, and it comes to this: the result has the numbers of 01's answer; after a refusal every
 -- room is all zero; otherwise the rooms show 01's tree and preset, and the output begins with 01's listing.
-use Prim.Native.Nat.{ℕ}
+use Prim.Native.Nat.{ℕ, _*_}
 use mathlib.Core.List.{List}
 use mathlib.Core.Path.{_≡_}
 use lib.ListN.{length}
-use Rattle.meaning.specs.Base.{zeros}
-use Rattle.meaning.specs.Limits.{of01}
+use Rattle.meaning.specs.Limits.{of01, valueBytes}
 use Rattle.meaning.specs.Refusal.{Answer, accepted, refused, acceptedThen, numberOf}
+use Rattle.meaning.specs.Rooms.{roomAfter, outputAfter}
 use Rattle.meaning.specs.Preset.{Read, read, validate}
 use Rattle.meaning.specs.Plan as meant
 use Rattle.meaning.specs.Listing as meant-listing
-use Rattle.scalar.specs.Stores.{over}
 use Rattle.plan.specs.ChoiceSaid.{selection}
 use Rattle.host.specs.declared.documents.Outcome.{Outcome}
 use Rattle.host.specs.declared.listings.Listed.{Listed}
-use Rattle.host.specs.Presets.{Answered, Recorded, recorded, validated}
+use Rattle.host.specs.Presets.{Answered, Records, recorded, validated}
 use Rattle.host.specs.Plans.{planned}
 use Rattle.host.specs.Planned.{Composed}
 use Rattle.host.specs.Listings.{Reported, ReportedBy}
@@ -28,17 +27,25 @@ abbrev pub Numbers : Answer Read → Outcome → Type 0
 Numbers (accepted x) r = r ≡ record { number = 0; section = 0; place = 0; made = x .parsed .made }
 Numbers (refused f section place) r = r ≡ record { number = numberOf f; section = section; place = place; made = 0 }
 
--- the rooms show 01's tree, and what is read from them is 01's preset (host/specs/Presets.Recorded); or all are zero
-abbrev pub RoomsAfter : Answer Read → List ℕ → List ℕ → List ℕ → List ℕ → List ℕ → Type 0
-RoomsAfter (accepted x) name store tree store' tree' = Recorded name store' tree' x
-RoomsAfter (refused f section place) name store tree store' tree' =
-    (store' ≡ zeros (length store)) × (tree' ≡ zeros (length tree))
+-- as many bytes as the values that were made take in the tree room
+abbrev pub Sized : Answer Read → List ℕ → Type 0
+Sized (accepted x) values = length values ≡ valueBytes * x .parsed .made
+Sized (refused f section place) values = Unit
+
+-- what the rooms hold at the end (meaning/specs/Rooms). Accepted: the store 01's bytes and then zeros, the tree room the
+-- values made and then zeros, and these show 01's tree, and what is read from them is 01's preset
+-- (host/specs/Presets.Recorded). Refused: both are all zero
+pub record RoomsAfter (a : Answer Read) (name store tree store' tree' : List ℕ) : Type 0 where
+  pub values : List ℕ
+  pub sized : Sized a values
+  pub store-is : store' ≡ roomAfter (λ x. x .parsed .bytes) (length store) a
+  pub tree-is : tree' ≡ roomAfter (λ x. values) (length tree) a
+  pub shows : Records name store' tree' a
 
 pub record Says (a : Answer Read) (name store tree store' tree' : List ℕ) (r : Outcome) : Type 0 where
   pub numbers : Numbers a r
   pub rooms : RoomsAfter a name store tree store' tree'
 
--- a value takes 32 bytes of the tree room
 abbrev pub ReadSays : Type 0
 ReadSays = (text name store tree store' tree' : List ℕ) (r : Outcome)
     → Answered (recorded text name store tree) text name store tree store' tree' r
@@ -76,9 +83,11 @@ PlanIsShown = (text name : List ℕ) (app : ℕ) (key store tree store' tree' : 
 -- number 0 and the bytes written, with the lines at the head of the output and the rest of it as it was; or the refusal
 abbrev pub Lists : Answer meant-listing.Listed → List ℕ → List ℕ → Listed → Type 0
 Lists (accepted l) out out' r =
-    (r ≡ record { number = 0; section = 0; place = 0; written = length (l .lines) }) × (out' ≡ over (l .lines) out)
+    (r ≡ record { number = 0; section = 0; place = 0; written = length (l .lines) })
+    × (out' ≡ outputAfter (λ l. l .lines) out (accepted l))
 Lists (refused f section place) out out' r =
-    (r ≡ record { number = numberOf f; section = section; place = place; written = 0 }) × (out' ≡ zeros (length out))
+    (r ≡ record { number = numberOf f; section = section; place = place; written = 0 })
+    × (out' ≡ outputAfter (λ l. l .lines) out (refused f section place))
 
 -- what was read for a listing
 abbrev pub readFor : Answer meant-listing.Listed → Answer Read

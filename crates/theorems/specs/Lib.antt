@@ -5,8 +5,8 @@ pub mod NeverMet
 pub mod AcceptedLayout
 pub mod AcceptedComponents
 pub mod Listing
-pub mod Demand3
-pub mod Demand3Needs
 pub mod Decoding
 pub mod Views
+pub mod PassedPreset
+pub mod Demand3
 pub mod Proved

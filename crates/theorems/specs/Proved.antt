@@ -3,13 +3,15 @@ use Rattle.theorems.specs.Answers.{ReadSays, ValidateSays, PlanSays, Pla
 use Rattle.theorems.specs.Answers.{OneAnswer, OneListing}
 use Rattle.theorems.specs.Views.{AcceptedIsShown, PlanIsShownByViews, WordIsWritten, WordsAreShort}
 use Rattle.theorems.specs.Lines.{NoLineIsBlank, SegmentsAreNames, NoKeyTwice}
-use Rattle.theorems.specs.NeverMet.{NeverMet}
-use Rattle.theorems.specs.AcceptedLayout.{AcceptedLayoutIsSound, PresetLayoutIsSound}
+use Rattle.theorems.specs.NeverMet.{NeverMet, EachRefusalHasANumber}
+use Rattle.theorems.specs.AcceptedLayout.{AcceptedLayoutIsSound, PresetLayoutIsSound, EraseBlockIsTheMedias}
 use Rattle.theorems.specs.AcceptedComponents.{AcceptedComponentsAreSound}
+use Rattle.theorems.specs.PassedPreset.{APassedPresetDoesNotFailLater}
+use Rattle.theorems.specs.PassedPreset.{NeedsNoSemicolon, NeedsNoWhiteHead, NeedsNoWhiteEnd, NeedsOneSet}
 use Rattle.theorems.specs.Demand3.{RefusedOnlyFor80And81, AlwaysRefusedFor80And81, ElsePlanned, PlanMeetsDemand}
 use Rattle.theorems.specs.Demand3.{PlanIsSmall, PlainNameIsFound, TextMeetsDemand, TextRefusedOnlyFor80And81}
 use Rattle.theorems.specs.Demand3.{TextRefusedByValidation, TextAlwaysRefusedFor80And81}
-use Rattle.theorems.specs.Demand3Needs.{NeedsNoSemicolon, NeedsTrimmed, NeedsOneSet}
+use Rattle.theorems.specs.Demand3.{AcceptedInAllLargeRooms}
 use Rattle.theorems.specs.Listing.{ListingFits}
 
 -- what the functions answer
@@ -50,10 +52,14 @@ pub record Accepting : Type 0 where
   pub no-key-twice : NoKeyTwice
   -- no text is refused by one of the original's six other parser errors
   pub never-met : NeverMet
+  -- each refusal has a number, from 1 on: 0 always says that a text is accepted
+  pub each-numbered : EachRefusalHasANumber
   -- accepted partitions have distinct names and whole blocks, end below 4 GiB and share no byte
   pub accepted-layout : AcceptedLayoutIsSound
   -- so do those of a preset that obeys the rules
   pub preset-layout : PresetLayoutIsSound
+  -- the erase block, taken from the chip, is that of the media
+  pub erase-block : EraseBlockIsTheMedias
   -- its components have distinct names, one payload each, and a partition that is there
   pub accepted-components : AcceptedComponentsAreSound
   -- an output of the size asked for takes every listing
@@ -61,7 +67,17 @@ pub record Accepting : Type 0 where
 
 -- a passed preset does not fail later
 pub record Planning : Type 0 where
-  -- planning is refused for no other reason than 80 and 81
+  -- the one statement: after preset_validate's 0 preset_plan answers 0, 80 or 81, and with 0 the plan is sound
+  pub passed : APassedPresetDoesNotFailLater
+  -- without premise 1 a reference may find nothing: where the name holds a `;`
+  pub needs-no-semicolon : NeedsNoSemicolon
+  -- begins with white space
+  pub needs-no-white-head : NeedsNoWhiteHead
+  -- or ends with it
+  pub needs-no-white-end : NeedsNoWhiteEnd
+  -- without premise 2 a package may be built with other features than a use has
+  pub needs-one-set : NeedsOneSet
+  -- its parts: planning is refused for no other reason than 80 and 81
   pub refused-why : RefusedOnlyFor80And81
   -- and always for these
   pub why-refused : AlwaysRefusedFor80And81
@@ -71,7 +87,7 @@ pub record Planning : Type 0 where
   pub demand : PlanMeetsDemand
   -- a plan has no more components and builds than the preset gives cause for
   pub plan-size : PlanIsSmall
-  -- premise 1 holds of a name without `;` and without white space at its ends
+  -- a name without `;` and without white space at its ends is found as it is written
   pub plain-name : PlainNameIsFound
   -- all of it for the plan of a text
   pub text-demand : TextMeetsDemand
@@ -81,12 +97,8 @@ pub record Planning : Type 0 where
   pub refused-first : TextRefusedByValidation
   -- then for 80 and 81
   pub refused-then : TextAlwaysRefusedFor80And81
-  -- without premise 1 a reference may find nothing: where the name holds a `;`
-  pub needs-no-semicolon : NeedsNoSemicolon
-  -- or begins with white space
-  pub needs-trimmed : NeedsTrimmed
-  -- without premise 2 a package may be built with other features than a use has
-  pub needs-one-set : NeedsOneSet
+  -- what is accepted in some rooms is accepted in all that are large enough
+  pub accepted-anywhere : AcceptedInAllLargeRooms
 
 pub record Proved : Type 0 where
   pub answering : Answering
