@@ -5,71 +5,15 @@ use port::records::{self, Rooms};
 use port::text::TEXT_MAX;
 use port::value::{ARRAYS_MAX, SEGMENTS_MAX, STORE_MIN, TREE_MIN, VALUES_MAX};
 use preset::{PlannedComponent, Preset, Source, owned};
+use replay::harness::differences::{Row, code, refusal, rows, toml_tables};
 use replay::harness::rooms::holds;
 use replay::model::records::written;
 use std::collections::BTreeSet;
 
-const PAPER: &str = include_str!("../../../docs/DIFFERENCES.md");
-
-// Every table begins with one of two lines, and this one after it.
-const OF_TOML: &str = "| text | here | TOML 1.0.0 | why |";
-const OF_ORIGINAL: &str = "| asked | here | the original | why |";
-const RULE: &str = "|---|---|---|---|";
-
 // Fewer are a table that was skipped.
 const TOML_TABLES: usize = 8;
-const TOML_ROWS: usize = 136;
+const TOML_ROWS: usize = 148;
 const ORIGINAL_ROWS: usize = 25;
-
-struct Row {
-    line: usize,
-    of_toml: bool,
-    asked: &'static str,
-    here: &'static str,
-    theirs: &'static str,
-}
-
-// A line of a table that is no row, or a row of no table, is a fault of the document.
-fn rows() -> Vec<Row> {
-    let (mut out, mut head, mut last) = (Vec::new(), None, "");
-    for (line, l) in PAPER.lines().enumerate().map(|(i, l)| (i + 1, l)) {
-        let begins = l == OF_TOML || l == OF_ORIGINAL;
-        let in_table = l.starts_with('|');
-        match head {
-            _ if !in_table => {}
-            None => assert!(begins, "line {line}: no table of this document begins so"),
-            Some(h) if last == h => assert_eq!(l, RULE, "line {line}"),
-            Some(h) => out.push(row(line, h == OF_TOML, l)),
-        }
-        head = in_table.then_some(head.unwrap_or(l));
-        last = l;
-    }
-    out
-}
-
-fn row(line: usize, of_toml: bool, l: &'static str) -> Row {
-    let inner = l.strip_prefix("| ").and_then(|l| l.strip_suffix(" |"));
-    let cells: Vec<_> = inner.map_or(Vec::new(), |l| l.split(" | ").collect());
-    let [asked, here, theirs, why] = cells[..] else {
-        panic!("line {line}: no row of four cells: {l}");
-    };
-    let short = [asked, theirs, why].iter().any(|cell| cell.is_empty());
-    assert!(!short, "line {line}: an empty cell");
-    let here = code(here).unwrap_or_else(|| panic!("line {line}: no answer in code: {here}"));
-    Row {
-        line,
-        of_toml,
-        asked,
-        here,
-        theirs,
-    }
-}
-
-// What stands between two backticks, where that is the whole cell.
-fn code(cell: &str) -> Option<&str> {
-    let inner = cell.strip_prefix('`')?.strip_suffix('`')?;
-    (!inner.contains('`')).then_some(inner)
-}
 
 // A text as it is written in a table.
 fn bytes(written: &str) -> Result<Vec<u8>, String> {
@@ -160,14 +104,6 @@ fn entries(table: &Table) -> Vec<String> {
 fn tree(rooms: Rooms) -> String {
     let root = document::rebuild(rooms.tree, rooms.store, rooms.made);
     entries(&root.expect("a tree")).join("; ")
-}
-
-fn refusal(o: Outcome) -> String {
-    match (o.number, o.section, o.place) {
-        (number @ (1 | 2 | 17), 0, 0) => format!("refused {number}"),
-        (number, 0, line) => format!("refused {number} at line {line}"),
-        (number, section, place) => format!("refused {number} in section {section} at {place}"),
-    }
 }
 
 type Lent<'a> = (&'a mut [u8], &'a mut [u8]);
@@ -377,7 +313,7 @@ fn every_row_departs_from_toml() {
 
 #[test]
 fn no_row_is_lost() {
-    let (rows, tables) = (rows(), PAPER.lines().filter(|l| *l == OF_TOML).count());
+    let (rows, tables) = (rows(), toml_tables());
     let of_toml = rows.iter().filter(|row| row.of_toml).count();
     assert!(tables >= TOML_TABLES, "{tables} tables");
     assert!(of_toml >= TOML_ROWS, "{of_toml} rows");

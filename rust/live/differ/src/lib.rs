@@ -11,5 +11,6 @@ pub mod record;
 pub mod records;
 pub mod run;
 pub mod shorten;
+pub mod suite;
 pub mod validate;
 pub mod value;
