@@ -6,8 +6,9 @@ use replay::harness::faults::{FUNCTIONS, Function, Input, Said, least};
 use replay::harness::stack::{most, used, within};
 use std::thread;
 
-// docs/HOST.md says so.
+// docs/HOST.md says so: this is enough, and a fifth of it is left over.
 const STACK: usize = 64 * 1_024;
+const MOST: usize = STACK / 5 * 4;
 
 fn called(function: &Function, text: &[u8], key: &[u8]) -> (Said, [Vec<u8>; 3]) {
     let name = b"board";
@@ -22,7 +23,7 @@ fn stack() {
     for (called, bytes, text) in most() {
         println!("{called}: {bytes} bytes, {text}");
         assert!(
-            bytes > 4_096 && bytes < STACK,
+            bytes > 4_096 && bytes <= MOST,
             "{called}: {bytes} bytes, {text}"
         );
     }

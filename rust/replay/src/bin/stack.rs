@@ -1,10 +1,10 @@
-//! Prints how much of the stack each function that starts from a text uses at most, and on which of the largest texts:
+//! Prints how much of the stack each function that starts from a text and the views use at most, and on which text:
 //! `cargo run --offline --bin stack`.
 use replay::harness::stack::most;
 
 fn main() {
-    println!("| function | bytes of stack | text |\n|---|---|---|");
+    println!("| called | bytes of stack | text |\n|---|---|---|");
     for (called, bytes, text) in most() {
-        println!("| `{called}` | {bytes} | {text} |");
+        println!("| {called} | {bytes} | {text} |");
     }
 }

@@ -4,10 +4,7 @@ use port::text::TEXT_MAX;
 /// 32 partitions, 64 components and 64 applications, with the fields that presets mostly have.
 pub fn full() -> String {
     let board = "[board]\nname = \"bench\"\nchip = \"d13x\"\n[image]\nproduct = \"bench\"\n";
-    let partitions = (0..32).map(|i| {
-        let offset = i * 4_096;
-        format!("[[partition]]\nname = \"part{i}\"\noffset = {offset}\nsize = 0x1000\n")
-    });
+    let partitions = (0..32).map(|i| partition(&format!("part{i}"), i));
     let components = (0..64).map(|i| {
         let part = i % 32;
         format!(
@@ -25,6 +22,62 @@ pub fn full() -> String {
     });
     let lists = partitions.chain(components).chain(apps);
     board.to_string() + &lists.collect::<String>()
+}
+
+/// As many entries, with names as long as they may be, two packages for each component that no other has, and as many
+/// features as a list may have.
+pub fn named() -> String {
+    let long = |head: char, i: usize| format!("{head}{i:02}{}", "-".repeat(29));
+    let partitions = (0..32).map(|i| partition(&long('p', i), i));
+    let components = (0..64).map(|i| {
+        let (name, part) = (long('c', i), long('p', i % 32));
+        format!(
+            "[[component]]\nkind = \"app\"\nname = \"{name}\"\npackage = \"own{i}\"\npbp_package = \"pbp{i}\"\n\
+             partition = \"{part}\"\nfeatures = {}\n",
+            features(i)
+        )
+    });
+    let apps = (0..64).map(|i| {
+        let (name, part) = (long('a', i), long('p', i % 32));
+        let words = features(i);
+        format!("[apps.k{i:02}]\nname = \"{name}\"\npartition = \"{part}\"\nfeatures = {words}\n")
+    });
+    partitions.chain(components).chain(apps).collect()
+}
+
+/// As many entries, all components of one package, whose features every one of them has in another order.
+pub fn shared() -> String {
+    let partitions = (0..32).map(|i| partition(&format!("part{i}"), i));
+    let components = (0..64).map(|i| {
+        let words = features(i);
+        format!(
+            "[[component]]\nname = \"comp{i}\"\npackage = \"a\"\npbp_package = \"a\"\npartition = \"part0\"\n\
+             features = {words}\n"
+        )
+    });
+    let apps = (0..64).map(|i| {
+        let words = features(i);
+        let key = if i == 0 { "a".into() } else { format!("k{i}") };
+        format!("[apps.{key}]\npartition = \"part1\"\nfeatures = {words}\n")
+    });
+    partitions.chain(components).chain(apps).collect()
+}
+
+fn partition(name: &str, i: usize) -> String {
+    let offset = i * 4_096;
+    format!("[[partition]]\nname = \"{name}\"\noffset = {offset}\nsize = 0x1000\n")
+}
+
+// 32 of one letter each, beginning with number i; every eighth list is an array, the others are strings.
+fn features(i: usize) -> String {
+    let letters = "abcdefghijklmnopqrstuvwxyz012345";
+    let each = letters.chars().cycle().skip(i % 32).take(32);
+    let each: Vec<_> = each.map(String::from).collect();
+    if i % 8 == 0 {
+        format!("[\"{}\"]", each.join("\", \""))
+    } else {
+        format!("\"{}\"", each.join(" "))
+    }
 }
 
 /// A text and a comment after it, up to the longest that is read.

@@ -2,10 +2,12 @@
 //! written is looked for afterwards.
 use super::faults::{FUNCTIONS, Function, Input, least};
 use super::rooms::Fenced;
-use crate::generators::large;
+use crate::generators::random::{Rng, stride, turns};
 use crate::generators::records::random::EXAMPLES;
+use crate::generators::{large, mixed};
+use port::document;
 use port::plans::plan;
-use port::{document, records};
+use port::records::Rooms;
 use preset::owned;
 use std::ffi::{c_int, c_void};
 
@@ -59,7 +61,7 @@ fn on(stack: &mut [u8], work: &mut (dyn FnMut() + Send)) -> usize {
     job.from
 }
 
-const SIZE: usize = 1 << 20;
+const SIZE: usize = 1 << 18;
 
 /// The bytes below the caller's frame that a call wrote to, by two patterns, the greater.
 pub fn used(mut work: impl FnMut() + Send) -> usize {
@@ -79,61 +81,179 @@ pub fn within(bytes: usize, mut work: impl FnMut() + Send) {
     on(Fenced::new(bytes).bytes(), &mut work);
 }
 
-/// What is called, the most bytes of stack that one of the large texts takes, and which.
+/// What is called, the most bytes of stack that it takes, and on which text.
 pub type Most = (&'static str, usize, &'static str);
 
-/// Of each function that starts from a text, and of the views of a plan together with the wrappers that call them.
+/// Of each function that starts from a text, and of the views of each sort, with the Rust that copies out what they
+/// show.
 pub fn most() -> Vec<Most> {
-    let document = Function {
-        called: "document_read",
-        rooms: 2,
-        last: 16,
-        call: |i, [store, tree, _]| document::read(i.text, store, tree).into(),
-    };
-    let views = Function {
-        called: "all views of a plan",
-        rooms: 2,
-        last: 81,
-        call: |i, [store, tree, _]| {
-            let got = plan(i.text, i.name, None.into(), store, tree);
-            let made = got.made as usize;
-            if got.number == 0 {
-                let rooms = records::Rooms { tree, store, made };
-                owned::plan(rooms, i.name, None.into()).expect("a plan");
-            }
-            got.into()
-        },
-    };
-    let functions = [&document].into_iter().chain(FUNCTIONS).chain([&views]);
-    functions.map(most_of).collect()
-}
-
-fn most_of(function: &Function) -> Most {
-    let name = b"board";
-    let mut rooms = least(name).map(|length| vec![0; length]);
     let texts = texts();
-    let each = texts.iter().map(|(called, text)| {
-        let (text, key) = (text.as_bytes(), &b"profile-63"[..]);
-        let input = Input { text, name, key };
-        let call = || {
-            (function.call)(input, rooms.each_mut().map(Vec::as_mut_slice));
-        };
-        (used(call), *called)
-    });
-    let (bytes, text) = each.max().expect("some texts");
-    (function.called, bytes, text)
+    let calls = [&DOCUMENT].into_iter().chain(FUNCTIONS);
+    let calls = calls.map(|f| greatest(f.called, &texts, |text| text.calling(f)));
+    let views = VIEWS.iter();
+    let views = views.map(|(what, view)| greatest(what, &texts, |text| text.viewing(*view)));
+    calls.chain(views).collect()
 }
 
-fn texts() -> [(&'static str, String); 5] {
-    let (full, commented) = (large::full(), large::commented(&large::full()));
-    [
-        ("example.toml", EXAMPLES[0].into()),
+fn greatest(called: &'static str, texts: &[Text], bytes: impl Fn(&Text) -> usize) -> Most {
+    let each = texts.iter().map(|text| (bytes(text), text.called));
+    let (bytes, text) = each.max().expect("some texts");
+    (called, bytes, text)
+}
+
+const DOCUMENT: Function = Function {
+    called: "document_read",
+    rooms: 2,
+    last: 16,
+    call: |i, [store, tree, _]| document::read(i.text, store, tree).into(),
+};
+
+// Of a preset that was planned, and each key that it can be planned with.
+type View = fn(Rooms, &[Vec<u8>]);
+
+const VIEWS: [(&str, View); 4] = [
+    ("views of a tree", |rooms, _| {
+        document::rebuild(rooms.tree, rooms.store, rooms.made).expect("a tree");
+    }),
+    ("views of a preset", |rooms, _| {
+        owned::preset(rooms, NAME).expect("records");
+    }),
+    ("views of a plan of the boot chain", |rooms, _| {
+        owned::plan(rooms, NAME, None.into()).expect("a plan");
+    }),
+    ("views of a plan of an application", |rooms, keys| {
+        for key in keys {
+            owned::plan(rooms, NAME, Some(&key[..]).into()).expect("a plan");
+        }
+    }),
+];
+
+const NAME: &[u8] = b"board";
+
+// A text; where it is a preset that can be planned, its rooms after that, and the applications that go with it.
+struct Text {
+    called: &'static str,
+    bytes: Vec<u8>,
+    planned: Option<Planned>,
+}
+
+struct Planned {
+    store: Vec<u8>,
+    tree: Vec<u8>,
+    made: usize,
+    keys: Vec<Vec<u8>>,
+}
+
+impl Text {
+    fn new(called: &'static str, bytes: impl Into<Vec<u8>>) -> Self {
+        let bytes = bytes.into();
+        let planned = Planned::new(&bytes);
+        Text {
+            called,
+            bytes,
+            planned,
+        }
+    }
+
+    // With fewer applications, since all views of a plan are called for each: the first, one between and the last.
+    fn fewer(mut self) -> Self {
+        if let Some(Planned { keys, .. }) = &mut self.planned
+            && keys.len() > 3
+        {
+            *keys = [0, keys.len() / 2, keys.len() - 1]
+                .map(|i| keys[i].clone())
+                .into();
+        }
+        self
+    }
+
+    // With each application that can be selected, and with one that cannot; once where none is asked for.
+    fn calling(&self, function: &Function) -> usize {
+        let mut rooms = rooms();
+        let most = if function.last < 80 { 1 } else { usize::MAX };
+        let keys = self.planned.iter().flat_map(|p| &p.keys);
+        let keys = keys.map(Vec::as_slice).chain([&b"undeclared"[..]]);
+        let keys: Vec<_> = keys.take(most).collect();
+        let (text, name) = (&self.bytes[..], NAME);
+        used(|| {
+            for key in &keys {
+                let input = Input { text, name, key };
+                (function.call)(input, rooms.each_mut().map(Vec::as_mut_slice));
+            }
+        })
+    }
+
+    fn viewing(&self, view: View) -> usize {
+        let shown = |p: &Planned| used(|| view(p.rooms(), &p.keys));
+        self.planned.as_ref().map_or(0, shown)
+    }
+}
+
+impl Planned {
+    fn new(text: &[u8]) -> Option<Self> {
+        let [mut store, mut tree, _] = rooms();
+        let made = made_of(text, None, &mut store, &mut tree)?;
+        let mut out = Planned {
+            store,
+            tree,
+            made,
+            keys: Vec::new(),
+        };
+        let apps = owned::preset(out.rooms(), NAME).expect("records").apps;
+        let [mut store, mut tree, _] = rooms();
+        let keys = apps.into_keys().map(String::into_bytes);
+        let selected = |k: &Vec<u8>| made_of(text, Some(k), &mut store, &mut tree).is_some();
+        out.keys.extend(keys.filter(selected));
+        Some(out)
+    }
+
+    fn rooms(&self) -> Rooms<'_> {
+        let Planned { tree, store, .. } = self;
+        let made = self.made;
+        Rooms { tree, store, made }
+    }
+}
+
+fn rooms() -> [Vec<u8>; 3] {
+    least(NAME).map(|length| vec![0; length])
+}
+
+// How many values there are in the rooms of a plan; nothing, where it is refused.
+fn made_of(text: &[u8], key: Option<&[u8]>, store: &mut [u8], tree: &mut [u8]) -> Option<usize> {
+    let got = plan(text, NAME, key.into(), store, tree);
+    (got.number == 0).then_some(got.made as usize)
+}
+
+const SEED: u64 = 64;
+const RANDOM: usize = 300;
+
+// Every application is selected in the fullest of them, or each fifth where programs are emulated.
+fn texts() -> Vec<Text> {
+    let mut fullest = Text::new("all lists full, with long names", large::named());
+    let keys = &mut fullest.planned.as_mut().expect("a plan").keys;
+    assert_eq!(keys.len(), 64, "applications of the fullest");
+    *keys = keys.iter().step_by(stride()).cloned().collect();
+    let full = large::full();
+    let others: [(_, String); 8] = [
+        ("all lists full", full.clone()),
+        ("the same in the longest text", large::commented(&full)),
+        ("all lists full, of one package", large::shared()),
         ("lists 16 deep in a full preset", large::deep(300) + &full),
         (
             "lists 16 deep in the longest text",
             large::commented(&large::deep(2_000)),
         ),
-        ("all lists full", full),
-        ("the same in the longest text", commented),
-    ]
+        ("example.toml", EXAMPLES[0].into()),
+        ("stage-d13x.toml", EXAMPLES[1].into()),
+        ("tour-d21x.toml", EXAMPLES[2].into()),
+    ];
+    let mut r = Rng::new(SEED);
+    let random = (0..turns(RANDOM)).map(|_| Text::new("a random text", mixed::text(&mut r)));
+    let others = others
+        .into_iter()
+        .map(|(called, text)| Text::new(called, text));
+    [fullest]
+        .into_iter()
+        .chain(others.chain(random).map(Text::fewer))
+        .collect()
 }
