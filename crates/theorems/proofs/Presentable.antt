@@ -26,13 +26,14 @@ use Rattle.schema.specs.declared.Image.{Image}
 use Rattle.schema.specs.declared.Component.{Component}
 use Rattle.schema.specs.declared.Application.{Application}
 use Rattle.schema.specs.Words.{chipWord, targetWord}
-use Rattle.schema.specs.Texts.{isGiven, orText, aicOf}
+use Rattle.schema.specs.Texts.{spelled, isGiven, orText, aicOf}
 use Rattle.parse.specs.declared.view.ComponentFound.{ComponentFound}
 use Rattle.parse.specs.declared.view.ComponentFound.the-variants as components
 use Rattle.parse.specs.declared.view.ApplicationFound.{ApplicationFound}
 use Rattle.parse.specs.declared.view.ApplicationFound.the-variants as applications
 use Rattle.parse.specs.Fields.{firstFault, textRead, textAt, textNeeded, kindAt, missing}
 use Rattle.parse.specs.Reads.{Kept, text-kept}
+use Rattle.parse.specs.Meant.{imageMeant}
 use Rattle.parse.specs.Front as front
 use Rattle.parse.specs.Front.{frontRead}
 use Rattle.parse.specs.Refused.{lentText}
@@ -78,6 +79,28 @@ aic-given (texts.WithAic at long) from len h = absurd h
 pub lent-given : (name : List ℕ) → Given (lentText name)
 unfolding lentText
 lent-given name = picked Given (valid name) (λ e. refl) (λ e. refl)
+
+-- it is not the lent name, so no lent name changes its bytes
+abbrev Unlent : Text → Type 0
+Unlent texts.Absent = Unit {0}
+Unlent (texts.Stored from len) = Unit {0}
+Unlent texts.Lent = ⊥
+Unlent (texts.Fixed w) = Unit {0}
+Unlent (texts.WithAic from len) = Unit {0}
+
+or-unlent : (t d : Text) → Kept t → Unlent d → Unlent (orText t d)
+or-unlent texts.Absent d h k = k
+or-unlent (texts.Stored from len) d h k = tt
+or-unlent texts.Lent d h k = absurd h
+or-unlent (texts.Fixed w) d h k = absurd h
+or-unlent (texts.WithAic from len) d h k = absurd h
+
+spelled-same : (store name other : List ℕ) (t : Text) → Unlent t → spelled store other t ≡ spelled store name t
+spelled-same store name other texts.Absent h = refl
+spelled-same store name other (texts.Stored from len) h = refl
+spelled-same store name other texts.Lent h = absurd h
+spelled-same store name other (texts.Fixed w) h = refl
+spelled-same store name other (texts.WithAic from len) h = refl
 
 -- two faults are none where the first of them is
 both-none : (n m : ℕ) → firstFault n m ≡ 0 → (n ≡ 0) × (m ≡ 0)
@@ -137,6 +160,20 @@ module _ (room store : List ℕ) (made : ℕ) (root : Fields) (lent : Text) wher
         media-id = or-given (at (ascii "media_id")) (texts.Stored 0 0) refl;
         app = or-given (at (ascii "app")) (texts.Stored 0 0) refl;
       }
+
+  -- no lent name changes the image
+  pub image-unlent : (name other : List ℕ) → imageMeant room store made other (frontRead room store made root lent .image) ≡ imageMeant room store made name (frontRead room store made root lent .image)
+  unfolding front.frontOf front.imageRead front.imageNames front.imageRest
+  image-unlent name other =
+      let same : (key : List ℕ) (d : Text) → Unlent d → spelled store other (orText (textAt room store imageFields key .text) d) ≡ spelled store name (orText (textAt room store imageFields key .text) d) =
+      λ key d k. spelled-same store name other (orText (textAt room store imageFields key .text) d) (or-unlent (textAt room store imageFields key .text) d (text-kept (field room store imageFields key)) k) in
+      rw (
+        same (ascii "platform") (texts.Fixed (chipWord (front.chipOf room store boardFields imageFields .chip))) tt,
+        same (ascii "product") (texts.Fixed words.Unknown) tt,
+        same (ascii "version") (texts.Fixed words.Version) tt,
+        same (ascii "media_id") (texts.Stored 0 0) tt,
+        same (ascii "app") (texts.Stored 0 0) tt,
+      )
 
 -- ---- entries
 

@@ -60,7 +60,7 @@ use Rattle.theorems.specs.Answers.{readOf}
 use Rattle.theorems.specs.Decoding.{boardBy, imageBy, partitionBy, headBy, roleBy, bootBy, loadBy, applicationBy, sourceBy, buildBy}
 use Rattle.theorems.specs.Views.{partOf, partIn, PresetShown, PlanShown, AcceptedIsShown, PlanIsShownByViews}
 use Rattle.theorems.proofs.Decoding.{chip-by, media-by, kind-by, flag-by, amount-by, optional-by, text-by, list-by}
-use Rattle.theorems.proofs.Presentable.{BoardFit, ImageFit, board-fit, image-fit, lent-given, FitComponent, FitApplication, component-found, application-found}
+use Rattle.theorems.proofs.Presentable.{BoardFit, ImageFit, board-fit, image-fit, image-unlent, lent-given, FitComponent, FitApplication, component-found, application-found}
 use Rattle.theorems.proofs.Presentable.{FitSource, FitBuild, FitPlanned, planned-found, build-found, stem-given}
 
 -- ---- structs
@@ -229,13 +229,14 @@ module _ (name store tree : List ℕ) (p : Read) (h : Recorded name store tree p
       (board-fit tree store made (fieldsOf tree made 1) (lentText name) (lent-given name))
       ∙ ap (λ (r : schemas.Preset). some (some (r .board))) (h .records))
 
-  image-is : imageBy tree store made name (records.imageShown tree store made) ≡ some (some (p .preset .image))
+  image-is : (other : List ℕ) → imageBy tree store made other (records.imageShown tree store made) ≡ some (some (p .preset .image))
   unfolding records.imageView
-  image-is =
+  image-is other =
+      let root = fieldsOf tree made 1 in
       rw (h .stands, clear-unlent)
-      (image-by tree store made name (frontRead tree store made (fieldsOf tree made 1) (lentText []) .image)
-      (image-fit tree store made (fieldsOf tree made 1) (lentText []))
-      ∙ ap (λ (i : Image). some (some (imageMeant tree store made name i))) (image-same tree store made (fieldsOf tree made 1) (lentText []) (lentText name))
+      (image-by tree store made other (frontRead tree store made root (lentText []) .image) (image-fit tree store made root (lentText []))
+      ∙ ap (λ (i : schemas.Image). some (some i)) (image-unlent tree store made root (lentText []) name other)
+      ∙ ap (λ (i : Image). some (some (imageMeant tree store made name i))) (image-same tree store made root (lentText []) (lentText name))
       ∙ ap (λ (r : schemas.Preset). some (some (r .image))) (h .records))
 
   partition-is : (i : ℕ) → partitionBy tree store made name (records.partitionShown tree store made i) ≡ some (entryAt (p .preset .partitions) i)
@@ -287,7 +288,7 @@ module _ (name store tree : List ℕ) (p : Read) (h : Recorded name store tree p
       record {
         counts = λ v e. rw e counts-are;
         board = λ v e. rw e board-is;
-        image = λ v e. rw e image-is;
+        image = λ other v e. rw e (image-is other);
         partition = λ i v e. rw e (partition-is i);
         head = λ i v e. rw e (head-is i);
         role = λ i v e. rw e (role-is i);

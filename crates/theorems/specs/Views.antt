@@ -66,9 +66,9 @@ module _ (name store tree : List ℕ) (made : ℕ) (r : Preset) where
     -- preset_board, with the lent name
     pub board : (v : BoardView) → v ≡ boardShown tree store made name
         → boardBy tree store made name v ≡ some (some (r .board))
-    -- preset_image, which is lent no name
-    pub image : (v : ImageView) → v ≡ imageShown tree store made
-        → imageBy tree store made name v ≡ some (some (r .image))
+    -- preset_image, which is lent no name: the image is the same under any
+    pub image : (other : List ℕ) (v : ImageView) → v ≡ imageShown tree store made
+        → imageBy tree store made other v ≡ some (some (r .image))
     -- preset_partition
     pub partition : (i : ℕ) (v : PartitionView) → v ≡ partitionShown tree store made i
         → partitionBy tree store made name v ≡ some (entryAt (r .partitions) i)
