@@ -17,13 +17,13 @@ use Rattle.laws.specs.Plans.{valid-rules}
 use Rattle.laws.specs.Rooms.{valid-anywhere}
 use Rattle.plan.specs.ChoiceSaid.{selection}
 use Rattle.host.specs.declared.documents.Outcome.{Outcome}
-use Rattle.host.specs.Presets.{outcomeBy, Recorded, Answered, validated}
+use Rattle.host.specs.Presets.{outcomeBy, Answered, validated}
 use Rattle.host.specs.Plans.{planned}
-use Rattle.host.specs.Planned.{Composed}
 use Rattle.theorems.specs.Answers.{planBy01}
+use Rattle.theorems.specs.Views.{PresetShown, PlanShown}
 use Rattle.theorems.specs.PassedPreset.{Accepts, Refuses, APassedPresetDoesNotFailLater}
 use Rattle.theorems.proofs.NeverMet.{number-some}
-use Rattle.theorems.proofs.Answers.{plan-is-shown}
+use Rattle.theorems.proofs.Views.{accepted-is-shown, plan-is-shown-by-views}
 use Rattle.theorems.proofs.Refusals.{refused-why, why-refused}
 use Rattle.theorems.proofs.Demand3.{demand}
 
@@ -36,10 +36,10 @@ zero-accepted (refused f section place) h z = absurd (omega (arith, z, number-so
 
 -- what the rooms of a call show that answers with x
 pub preset-shown : (a : Answer Read) (text name store tree store' tree' : List ℕ) (r : Outcome) (x : Read) → Answered a text name store tree store' tree' r → a ≡ accepted x
-    → (r .number ≡ 0) × Recorded name store' tree' x
+    → (r .number ≡ 0) × PresetShown name store' tree' (r .made) (x .preset)
 preset-shown a text name store tree store' tree' r x h e =
     let g = subst (λ (b : Answer Read). Answered b text name store tree store' tree' r) e h in
-    (ap (λ (o : Outcome). o .number) (g .says), g .shows)
+    (ap (λ (o : Outcome). o .number) (g .says), accepted-is-shown a text name store tree store' tree' r x h e)
 
 module _ (text name : List ℕ) (app : ℕ) (key store tree : List ℕ) (x : Read) (v : validated text name store tree ≡ accepted x) where
   abbrev s : Selection
@@ -59,23 +59,19 @@ module _ (text name : List ℕ) (app : ℕ) (key store tree : List ℕ) (x : Rea
     answered-as : (a : Answer Read) → planned text name app key store tree ≡ a → Answered a text name store tree store' tree' r
     answered-as a e = subst (λ (b : Answer Read). Answered b text name store tree store' tree' r) e h
 
-    pub plan-shown : (q : Plan) → planOf (x .preset) s ≡ accepted q → (r .number ≡ 0) × Composed name store' tree' app key (r .made) q
+    pub plan-shown : (q : Plan) → planOf (x .preset) s ≡ accepted q → (r .number ≡ 0) × PlanShown name store' tree' (r .made) app key q
     plan-shown q e =
         let g = answered-as (accepted x) (planned-as q e) in
-        let m : r .made ≡ x .parsed .made = ap (λ (o : Outcome). o .made) (g .says) in (
-          ap (λ (o : Outcome). o .number) (g .says),
-          subst (λ (n : ℕ). Composed name store' tree' app key n q) (sym m)
-              (plan-is-shown text name app key store tree store' tree' r (record { read = x; plan = q }) h (plan-as q e)),
-        )
+        (ap (λ (o : Outcome). o .number) (g .says), plan-is-shown-by-views text name app key store tree store' tree' r (record { read = x; plan = q }) h (plan-as q e))
 
-    accepts : (q : Plan) → planOf (x .preset) s ≡ accepted q → Accepts x name app key store' tree' r
+    accepts : (q : Plan) → planOf (x .preset) s ≡ accepted q → Accepts (x .preset) name app key store' tree' r
     accepts q e =
         let g = answered-as (accepted x) (planned-as q e) in
         let m : r .made ≡ x .parsed .made = ap (λ (o : Outcome). o .made) (g .says) in
         record {
           says = g .says ∙ ap (λ (n : ℕ). record { number = 0; section = 0; place = 0; made = n }) (sym m);
           no-reason = λ number section place w. refused-never (numbered number) section place q (sym (why-refused (x .preset) s number section place w) ∙ e);
-          shows-preset = g .shows;
+          shows-preset = preset-shown (planned text name app key store tree) text name store tree store' tree' r x h (planned-as q e) .1;
           plan = q;
           shows-plan = plan-shown q e .1;
           sound = demand (x .preset) s q (valid-rules of01 (length store) (length tree) name text x v) e;
@@ -91,10 +87,10 @@ module _ (text name : List ℕ) (app : ℕ) (key store tree : List ℕ) (x : Rea
           says = answered-as (refused f section place) (refused-as f section place e) .says;
         }
 
-    later : Accepts x name app key store' tree' r ⊎ Refuses (x .preset) app key r
+    later : Accepts (x .preset) name app key store' tree' r ⊎ Refuses (x .preset) app key r
     later = go (planOf (x .preset) s) refl
       where
-        go : (o : Answer Plan) → planOf (x .preset) s ≡ o → Accepts x name app key store' tree' r ⊎ Refuses (x .preset) app key r
+        go : (o : Answer Plan) → planOf (x .preset) s ≡ o → Accepts (x .preset) name app key store' tree' r ⊎ Refuses (x .preset) app key r
         go (accepted q) e = inl (accepts q e)
         go (refused f section place) e = inr (refuses f section place e)
 
@@ -104,7 +100,7 @@ pub passed : APassedPresetDoesNotFailLater
 passed text name store tree store' tree' r h z =
     let k = zero-accepted (validated text name store tree) (validate-numbered of01 (length store) (length tree) name text .numbered)
     (sym (ap (λ (o : Outcome). o .number) (h .says)) ∙ z) in (
-      k .0,
+      k .0 .preset,
       preset-shown (validated text name store tree) text name store tree store' tree' r (k .0) h (k .1) .1,
       λ app key store₂ tree₂ store₂' tree₂' r₂ l m g. later text name app key store₂ tree₂ (k .0)
           (valid-anywhere of01 (length store) (length tree) (length store₂) (length tree₂) name text (k .0) (k .1) (record { store-takes = l; tree-takes = m }))

@@ -31,7 +31,7 @@ module _ (text : List ℕ) (asked : ℕ) (key : List ℕ) (Met : Preset → Sele
       let there : (store tree : List ℕ) → 32768 ≤ length store → 65536 ≤ length tree → validated text (ascii "board") store tree ≡ accepted x
       = λ store tree l m. valid-anywhere of01 32768 65536 (length store) (length tree) (ascii "board") text x e (record { store-takes = l; tree-takes = m }) in
       record {
-        read = x;
+        preset = x .preset;
         passes = λ store tree store' tree' r l m h. preset-shown (validated text (ascii "board") store tree) text (ascii "board") store tree store' tree' r x h (there store tree l m);
         met = met;
         plan = q;

@@ -21,16 +21,15 @@ use Rattle.meaning.specs.Schema.{Partition, Component, Application, Preset}
 use Rattle.meaning.specs.Space.{trim}
 use Rattle.meaning.specs.Layout.{endOf}
 use Rattle.meaning.specs.Rules.{nameOf}
-use Rattle.meaning.specs.Preset.{Read}
 use Rattle.meaning.specs.Plan.{Selection, app, Build, built, Source, fromPackage, fromFile, PlannedComponent}
 use Rattle.meaning.specs.Plan.{Plan, planned, componentOf, partitionFor}
 use Rattle.examples.specs.Samples.{lined}
 use Rattle.plan.specs.ChoiceSaid.{selection}
 use Rattle.host.specs.declared.documents.Outcome.{Outcome}
-use Rattle.host.specs.Presets.{Answered, Recorded, validated}
+use Rattle.host.specs.Presets.{Answered, validated}
 use Rattle.host.specs.Plans as calls
-use Rattle.host.specs.Planned.{Composed}
 use Rattle.theorems.specs.Words.{At, In, Holds}
+use Rattle.theorems.specs.Views.{PresetShown, PlanShown}
 
 -- ---- which application is selected, and the two reasons to refuse
 
@@ -178,15 +177,15 @@ abbrev pub PlanPromise : List ℕ → List ℕ → ℕ → List ℕ → List ℕ
 PlanPromise text name asked key store tree store' tree' r =
     Answered (calls.planned text name asked key store tree) text name store tree store' tree' r
 
--- preset_plan accepts: there is no reason not to, and the views of its rooms show the preset, and a plan that has all
--- clauses
-pub record Accepts (x : Read) (name : List ℕ) (asked : ℕ) (key store' tree' : List ℕ) (r : Outcome) : Type 0 where
+-- preset_plan accepts: there is no reason not to, and the views of its rooms show the preset (`Views.PresetShown`), and
+-- a plan (`Views.PlanShown`) that has all clauses
+pub record Accepts (p : Preset) (name : List ℕ) (asked : ℕ) (key store' tree' : List ℕ) (r : Outcome) : Type 0 where
   pub says : r ≡ record { number = 0; section = 0; place = 0; made = r .made }
-  pub no-reason : (number section place : ℕ) → Why (x .preset) (selection asked key) number section place → ⊥
-  pub shows-preset : Recorded name store' tree' x
+  pub no-reason : (number section place : ℕ) → Why p (selection asked key) number section place → ⊥
+  pub shows-preset : PresetShown name store' tree' (r .made) p
   pub plan : Plan
-  pub shows-plan : Composed name store' tree' asked key (r .made) plan
-  pub sound : SoundPlan (x .preset) (selection asked key) plan
+  pub shows-plan : PlanShown name store' tree' (r .made) asked key plan
+  pub sound : SoundPlan p (selection asked key) plan
 
 -- preset_plan refuses, for one of the two reasons
 pub record Refuses (p : Preset) (asked : ℕ) (key : List ℕ) (r : Outcome) : Type 0 where
@@ -198,17 +197,17 @@ pub record Refuses (p : Preset) (asked : ℕ) (key : List ℕ) (r : Outcome) : T
 
 -- ---- the statement
 
--- preset_validate's promise holds with number 0; then the rooms show a preset, and whatever preset_plan's promise
+-- preset_validate's promise holds with number 0; then the views show a preset, and whatever preset_plan's promise
 -- allows for the same text and name, in rooms that are large enough (docs/ROOMS.md), it is one of the two
 abbrev pub APassedPresetDoesNotFailLater : Type 0
 APassedPresetDoesNotFailLater =
     (text name store tree store' tree' : List ℕ) (r : Outcome)
     → ValidatePromise text name store tree store' tree' r → r .number ≡ 0
-    → (x : Read) × Recorded name store' tree' x
+    → (p : Preset) × PresetShown name store' tree' (r .made) p
     × ((asked : ℕ) (key store₂ tree₂ store₂' tree₂' : List ℕ) (r₂ : Outcome)
     → 32768 ≤ length store₂ → 65536 ≤ length tree₂
     → PlanPromise text name asked key store₂ tree₂ store₂' tree₂' r₂
-    → Accepts x name asked key store₂' tree₂' r₂ ⊎ Refuses (x .preset) asked key r₂)
+    → Accepts p name asked key store₂' tree₂' r₂ ⊎ Refuses p asked key r₂)
 
 -- ---- both premises are needed
 
@@ -217,15 +216,15 @@ APassedPresetDoesNotFailLater =
 -- is met
 pub record PassesWithout (text : List ℕ) (asked : ℕ) (key : List ℕ) (Met : Preset → Selection → Type 0)
     (Clause : Plan → Type 0) : Type 0 where
-  pub read : Read
+  pub preset : Preset
   pub passes : (store tree store' tree' : List ℕ) (r : Outcome) → 32768 ≤ length store → 65536 ≤ length tree
       → ValidatePromise text (ascii "board") store tree store' tree' r
-      → (r .number ≡ 0) × Recorded (ascii "board") store' tree' read
-  pub met : Met (read .preset) (selection asked key)
+      → (r .number ≡ 0) × PresetShown (ascii "board") store' tree' (r .made) preset
+  pub met : Met preset (selection asked key)
   pub plan : Plan
   pub planned : (store tree store' tree' : List ℕ) (r : Outcome) → 32768 ≤ length store → 65536 ≤ length tree
       → PlanPromise text (ascii "board") asked key store tree store' tree' r
-      → (r .number ≡ 0) × Composed (ascii "board") store' tree' asked key (r .made) plan
+      → (r .number ≡ 0) × PlanShown (ascii "board") store' tree' (r .made) asked key plan
   pub fails : Clause plan → ⊥
 
 -- a text whose application `desk` goes to the second partition
