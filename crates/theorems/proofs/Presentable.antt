@@ -120,12 +120,12 @@ needed-given (values.Table place) e = absurd (omega (arith, e))
 
 -- ---- the board and the image
 
-pub record BoardFit (b : Board) : Type 0 where
+pub record BoardWhole (b : Board) : Type 0 where
   pub name : Given (b .name)
   pub target : Given (b .target)
   pub profile : Given (b .profile)
 
-pub record ImageFit (i : Image) : Type 0 where
+pub record ImageWhole (i : Image) : Type 0 where
   pub platform : Given (i .platform)
   pub product : Given (i .product)
   pub version : Given (i .version)
@@ -139,9 +139,9 @@ module _ (room store : List ℕ) (made : ℕ) (root : Fields) (lent : Text) wher
   abbrev imageFields : Fields
   imageFields = front.tableAt room store made root (ascii "image") .fields
 
-  pub board-fit : Given lent → BoardFit (frontRead room store made root lent .board)
+  pub board-whole : Given lent → BoardWhole (frontRead room store made root lent .board)
   unfolding front.frontOf front.boardRead
-  board-fit h =
+  board-whole h =
       let at : List ℕ → Text = λ key. textAt room store boardFields key .text in
       record {
         name = or-given (at (ascii "name")) lent h;
@@ -149,9 +149,9 @@ module _ (room store : List ℕ) (made : ℕ) (root : Fields) (lent : Text) wher
         profile = or-given (at (ascii "profile")) (texts.Fixed words.Release) refl;
       }
 
-  pub image-fit : ImageFit (frontRead room store made root lent .image)
+  pub image-whole : ImageWhole (frontRead room store made root lent .image)
   unfolding front.frontOf front.imageRead front.imageNames front.imageRest
-  image-fit =
+  image-whole =
       let at : List ℕ → Text = λ key. textAt room store imageFields key .text in
       record {
         platform = or-given (at (ascii "platform")) (texts.Fixed (chipWord (front.chipOf room store boardFields imageFields .chip))) refl;
@@ -177,14 +177,14 @@ module _ (room store : List ℕ) (made : ℕ) (root : Fields) (lent : Text) wher
 
 -- ---- entries
 
-pub record ComponentFit (c : Component) : Type 0 where
+pub record ComponentWhole (c : Component) : Type 0 where
   pub name : Given (c .head .name)
   pub filename : Given (c .head .filename)
   pub partition : Given (c .role .partition)
   pub attr : Given (c .role .attr)
   pub lists : LowIn c
 
-pub record ApplicationFit (a : Application) : Type 0 where
+pub record ApplicationWhole (a : Application) : Type 0 where
   pub pack : Given (a .«package»)
   pub name : Given (a .name)
   pub partition : Given (a .partition)
@@ -192,13 +192,13 @@ pub record ApplicationFit (a : Application) : Type 0 where
   pub attr : Given (a .attr)
   pub list : Low (a .features)
 
-abbrev pub FitComponent : ComponentFound → Type 0
-FitComponent components.Nothing = Unit {0}
-FitComponent (components.At c) = ComponentFit c
+abbrev pub WholeComponent : ComponentFound → Type 0
+WholeComponent components.Nothing = Unit {0}
+WholeComponent (components.At c) = ComponentWhole c
 
-abbrev pub FitApplication : ApplicationFound → Type 0
-FitApplication applications.Nothing = Unit {0}
-FitApplication (applications.At a) = ApplicationFit a
+abbrev pub WholeApplication : ApplicationFound → Type 0
+WholeApplication applications.Nothing = Unit {0}
+WholeApplication (applications.At a) = ApplicationWhole a
 
 -- a component without a fault has a name
 head-named : (room store : List ℕ) (f : Fields) → component.headRead room store f .fault ≡ 0 → Given (component.headRead room store f .head .name)
@@ -222,9 +222,9 @@ module _ (room store : List ℕ) (made : ℕ) (held : holdsValues room made ≡ 
       (firstFault (component.bootRead room store (t .fields) .fault) (component.loadRead room store (t .fields) .fault))) (a .1) in
       head-named room store (t .fields) (b .0)
 
-  component-fit : (n limit : ℕ) → componentAt room store made n limit .fault ≡ 0 → ComponentFit (componentAt room store made n limit .component)
+  component-whole : (n limit : ℕ) → componentAt room store made n limit .fault ≡ 0 → ComponentWhole (componentAt room store made n limit .component)
   unfolding componentAt component.componentRead component.headRead component.roleRead component.filenameFor
-  component-fit n limit e =
+  component-whole n limit e =
       let at : List ℕ → Text = λ key. textAt room store (tableAt room store made n .fields) key .text in
       let from = component.sources room store (tableAt room store made n .fields) in
       record {
@@ -237,9 +237,9 @@ module _ (room store : List ℕ) (made : ℕ) (held : holdsValues room made ≡ 
         lists = component-low room store made held n limit;
       }
 
-  application-fit : (n limit : ℕ) → ApplicationFit (applicationAt room store made n limit .application)
+  application-whole : (n limit : ℕ) → ApplicationWhole (applicationAt room store made n limit .application)
   unfolding applicationAt application.applicationRead application.names
-  application-fit n limit =
+  application-whole n limit =
       let f = tableAt room store made n .fields in
       let at : List ℕ → Text = λ key. textAt room store f key .text in
       let v = slotAt room n in
@@ -253,33 +253,33 @@ module _ (room store : List ℕ) (made : ℕ) (held : holdsValues room made ≡ 
       }
 
   -- by number
-  pub component-found : (limit : ℕ) (r : Found) → FitComponent (views.componentOf room store made limit r)
+  pub component-found : (limit : ℕ) (r : Found) → WholeComponent (views.componentOf room store made limit r)
   unfolding views.goodComponent
   component-found limit (At n) =
       let fault : ℕ = componentAt room store made n limit .fault in
-      picked FitComponent (eqb fault 0) (λ e. component-fit n limit (eqb-true fault 0 e)) (λ e. tt)
+      picked WholeComponent (eqb fault 0) (λ e. component-whole n limit (eqb-true fault 0 e)) (λ e. tt)
   component-found limit Nothing = tt
 
-  pub application-found : (limit : ℕ) (r : Found) → FitApplication (views.applicationOf room store made limit r)
+  pub application-found : (limit : ℕ) (r : Found) → WholeApplication (views.applicationOf room store made limit r)
   unfolding views.goodApplication
-  application-found limit (At n) = picked FitApplication (eqb (applicationAt room store made n limit .fault) 0) (λ e. application-fit n limit) (λ e. tt)
+  application-found limit (At n) = picked WholeApplication (eqb (applicationAt room store made n limit .fault) 0) (λ e. application-whole n limit) (λ e. tt)
   application-found limit Nothing = tt
 
 -- ---- a plan
 
-pub record BuildFit (b : Build) : Type 0 where
+pub record BuildWhole (b : Build) : Type 0 where
   pub pack : Given (b .«package»)
   pub bin : Given (b .bin)
   pub list : Low (b .features)
 
-abbrev pub FitSource : Source → Type 0
-FitSource sources.Nothing = Unit {0}
-FitSource (sources.Package b) = BuildFit b
-FitSource (sources.File t) = Given t
+abbrev pub WholeSource : Source → Type 0
+WholeSource sources.Nothing = Unit {0}
+WholeSource (sources.Package b) = BuildWhole b
+WholeSource (sources.File t) = Given t
 
-abbrev pub FitBuild : BuildFound → Type 0
-FitBuild builds.Nothing = Unit {0}
-FitBuild (builds.At b) = BuildFit b
+abbrev pub WholeBuild : BuildFound → Type 0
+WholeBuild builds.Nothing = Unit {0}
+WholeBuild (builds.At b) = BuildWhole b
 
 -- each of them
 abbrev Each : {X : Type 0} → (X → Type 0) → List X → Type 0
@@ -296,103 +296,103 @@ each-at P (x ∷ xs) zero d l h = h .0
 each-at P (x ∷ xs) (suc i) d l h = each-at P xs i d (omega (arith, l)) (h .1)
 
 -- a use whose package may be absent; its bin is there where the package is
-record UseFit (b : Build) : Type 0 where
+record UseWhole (b : Build) : Type 0 where
   bin : Given (b .«package») → Given (b .bin)
   list : Low (b .features)
 
-built-use : (p bin : Text) (fs : _) → Low fs → UseFit (plans.built p bin fs)
+built-use : (p bin : Text) (fs : _) → Low fs → UseWhole (plans.built p bin fs)
 built-use p bin fs h = record { bin = λ g. or-given bin p g; list = h }
 
 fresh-given : (store : List ℕ) (earlier : List Build) (b : Build) → needed.fresh store earlier b ≡ true → Given (b .«package»)
 unfolding needed.fresh
 fresh-given store earlier b e = on (isGiven (b .«package»)) (λ f. f) (λ f. never {b = false} (rw f at e) refl)
 
-first-fit : (store : List ℕ) (earlier bs : List Build) → Each UseFit bs → Each BuildFit (needed.firstUses store earlier bs)
-first-fit store earlier [] h = tt
-first-fit store earlier (b ∷ bs) h =
-    let more = first-fit store (earlier ++ (b ∷ [])) bs (h .1) in
-    picked (Each BuildFit) (needed.fresh store earlier b)
+first-whole : (store : List ℕ) (earlier bs : List Build) → Each UseWhole bs → Each BuildWhole (needed.firstUses store earlier bs)
+first-whole store earlier [] h = tt
+first-whole store earlier (b ∷ bs) h =
+    let more = first-whole store (earlier ++ (b ∷ [])) bs (h .1) in
+    picked (Each BuildWhole) (needed.fresh store earlier b)
     (λ e. let g = fresh-given store earlier b e in (record { pack = g; bin = h .0 .bin g; list = h .0 .list }, more)) (λ e. more)
 
 module _ (room store : List ℕ) (made : ℕ) (held : holdsValues room made ≡ true) (name : List ℕ) where
-  pub record PlannedFit (p : Planned) : Type 0 where
-    pub spec : ComponentFit (p .spec)
-    pub source : FitSource (p .source)
-    pub pbp : FitSource (p .«pbp_source»)
+  pub record PlannedWhole (p : Planned) : Type 0 where
+    pub spec : ComponentWhole (p .spec)
+    pub source : WholeSource (p .source)
+    pub pbp : WholeSource (p .«pbp_source»)
     pub sourced : sourceMeant room store made name (p .source) ≡ some (plannedMeant room store made name p .source)
 
-  abbrev pub FitPlanned : PlannedFound → Type 0
-  FitPlanned founds.Nothing = Unit {0}
-  FitPlanned (founds.At p) = PlannedFit p
+  abbrev pub WholePlanned : PlannedFound → Type 0
+  WholePlanned founds.Nothing = Unit {0}
+  WholePlanned (founds.At p) = PlannedWhole p
 
-  planned-fit : (c : Component) → ComponentFit c → PlannedFit (plans.planned c)
+  planned-whole : (c : Component) → ComponentWhole c → PlannedWhole (plans.planned c)
   unfolding plans.planned plans.payload plans.pbpPayload plans.headLeft
-  planned-fit c h =
+  planned-whole c h =
       let pack = c .head .«package» in
       let own = c .boot .«pbp_package» in
       record {
         spec = record { name = h .name; filename = h .filename; partition = h .partition; attr = h .attr; lists = h .lists };
         source =
-            picked FitSource (isGiven pack) (λ e. record { pack = e; bin = or-given (c .head .bin) pack e; list = h .lists .0 })
+            picked WholeSource (isGiven pack) (λ e. record { pack = e; bin = or-given (c .head .bin) pack e; list = h .lists .0 })
             (λ e. or-given (c .head .file) (texts.Stored 0 0) refl);
         pbp =
-            picked FitSource (isGiven (c .boot .pbp)) (λ e. e)
-            (λ e. picked FitSource (isGiven own) (λ d. record { pack = d; bin = d; list = h .lists .1 }) (λ d. tt));
+            picked WholeSource (isGiven (c .boot .pbp)) (λ e. e)
+            (λ e. picked WholeSource (isGiven own) (λ d. record { pack = d; bin = d; list = h .lists .1 }) (λ d. tt));
         sourced = planned-sourced room store made name c;
       }
 
-  found-fit : (f : ComponentFound) → FitComponent f → FitPlanned (plans.plannedFound f)
-  found-fit components.Nothing h = tt
-  found-fit (components.At c) h = planned-fit c h
+  found-whole : (f : ComponentFound) → WholeComponent f → WholePlanned (plans.plannedFound f)
+  found-whole components.Nothing h = tt
+  found-whole (components.At c) h = planned-whole c h
 
   abbrev numbers : List ℕ
   numbers = items room (views.componentList room store made .end) (views.componentList room store made .place) 0
 
-  own-fit : (i : ℕ) → FitPlanned (plans.own room store made i)
-  own-fit i = found-fit (views.component room store made i 32) (component-found room store made held 32 (nthOf numbers i))
+  own-whole : (i : ℕ) → WholePlanned (plans.own room store made i)
+  own-whole i = found-whole (views.component room store made i 32) (component-found room store made held 32 (nthOf numbers i))
 
-  as-component : (a : Application) → ApplicationFit a → ComponentFit (plans.componentOf a)
+  as-component : (a : Application) → ApplicationWhole a → ComponentWhole (plans.componentOf a)
   unfolding plans.componentOf
   as-component a h = record { name = h .name; filename = h .filename; partition = h .partition; attr = h .attr; lists = (h .list, tt) }
 
-  pub planned-found : (c : Choice) (i : ℕ) → FitPlanned (plans.component room store made c i)
+  pub planned-found : (c : Choice) (i : ℕ) → WholePlanned (plans.component room store made c i)
   unfolding plans.composed
-  planned-found choices.BootChain i = own-fit i
+  planned-found choices.BootChain i = own-whole i
   planned-found choices.Undeclared i = tt
   planned-found (choices.At place n) i =
       let ahead : ℕ = plans.ahead room store made in
       let a = applicationAt room store made n 32 .application in
-      picked FitPlanned (ltb i ahead) (λ e. own-fit i)
-      (λ e. picked FitPlanned (eqb i ahead) (λ d. planned-fit (plans.componentOf a) (as-component a (application-fit room store made held n 32))) (λ d. own-fit (i - 1)))
+      picked WholePlanned (ltb i ahead) (λ e. own-whole i)
+      (λ e. picked WholePlanned (eqb i ahead) (λ d. planned-whole (plans.componentOf a) (as-component a (application-whole room store made held n 32))) (λ d. own-whole (i - 1)))
 
-  uses-fit : (ns : List ℕ) → Each UseFit (needed.usesOf room store made ns)
+  uses-whole : (ns : List ℕ) → Each UseWhole (needed.usesOf room store made ns)
   unfolding needed.wanted
-  uses-fit [] = tt
-  uses-fit (n ∷ ns) =
+  uses-whole [] = tt
+  uses-whole (n ∷ ns) =
       let c = componentAt room store made n 32 .component in
       let low = component-low room store made held n 32 in
-      (built-use (c .head .«package») (c .head .bin) (c .role .features) (low .0), (built-use (c .boot .«pbp_package») texts.Absent (c .role .«pbp_features») (low .1), uses-fit ns))
+      (built-use (c .head .«package») (c .head .bin) (c .role .features) (low .0), (built-use (c .boot .«pbp_package») texts.Absent (c .role .«pbp_features») (low .1), uses-whole ns))
 
-  chosen-fit : (c : Choice) → Each UseFit (needed.uses room store made c)
+  chosen-whole : (c : Choice) → Each UseWhole (needed.uses room store made c)
   unfolding needed.applicationUse
-  chosen-fit choices.BootChain = uses-fit (take 64 numbers)
-  chosen-fit choices.Undeclared = tt
-  chosen-fit (choices.At place n) =
+  chosen-whole choices.BootChain = uses-whole (take 64 numbers)
+  chosen-whole choices.Undeclared = tt
+  chosen-whole (choices.At place n) =
       let a = applicationAt room store made n 32 .application in
-      each-joined UseFit (needed.ownUses room store made) (needed.applicationUse room store made n ∷ []) (uses-fit (take 64 numbers))
+      each-joined UseWhole (needed.ownUses room store made) (needed.applicationUse room store made n ∷ []) (uses-whole (take 64 numbers))
       (built-use (a .«package») texts.Absent (a .features) (application-low room store made held n 32), tt)
 
-  pub build-found : (c : Choice) (i : ℕ) → FitBuild (needed.build room store made c i)
+  pub build-found : (c : Choice) (i : ℕ) → WholeBuild (needed.build room store made c i)
   unfolding needed.build needed.buildsOf
   build-found c i =
       let bs : List Build = needed.firstUses store [] (needed.uses room store made c) in
-      picked FitBuild (ltb i (length bs))
-      (λ e. each-at BuildFit bs i needed.blank (ltb-true i (length bs) e) (first-fit store [] (needed.uses room store made c) (chosen-fit c))) (λ e. tt)
+      picked WholeBuild (ltb i (length bs))
+      (λ e. each-at BuildWhole bs i needed.blank (ltb-true i (length bs) e) (first-whole store [] (needed.uses room store made c) (chosen-whole c))) (λ e. tt)
 
   -- the stem of what is declared
   pub stem-given : (c : Choice) → (c ≡ choices.Undeclared → ⊥) → Given (stems.stem room store made name c)
   unfolding stems.bootStem
   stem-given choices.BootChain h =
-      or-given (stems.leading room store made) _ (board-fit room store made (fieldsOf room made 1) (lentText name) (lent-given name) .name)
+      or-given (stems.leading room store made) _ (board-whole room store made (fieldsOf room made 1) (lentText name) (lent-given name) .name)
   stem-given choices.Undeclared h = absurd (h refl)
   stem-given (choices.At place n) h = refl

@@ -60,17 +60,17 @@ use Rattle.theorems.specs.Answers.{readOf}
 use Rattle.theorems.specs.Decoding.{boardBy, imageBy, partitionBy, headBy, roleBy, bootBy, loadBy, applicationBy, sourceBy, buildBy}
 use Rattle.theorems.specs.Views.{partOf, partIn, PresetShown, PlanShown, AcceptedIsShown, PlanIsShownByViews}
 use Rattle.theorems.proofs.Decoding.{chip-by, media-by, kind-by, flag-by, amount-by, optional-by, text-by, list-by}
-use Rattle.theorems.proofs.Presentable.{BoardFit, ImageFit, board-fit, image-fit, image-unlent, lent-given, FitComponent, FitApplication, component-found, application-found}
-use Rattle.theorems.proofs.Presentable.{FitSource, FitBuild, FitPlanned, planned-found, build-found, stem-given}
+use Rattle.theorems.proofs.Presentable.{BoardWhole, ImageWhole, board-whole, image-whole, image-unlent, lent-given, WholeComponent, WholeApplication, component-found, application-found}
+use Rattle.theorems.proofs.Presentable.{WholeSource, WholeBuild, WholePlanned, planned-found, build-found, stem-given}
 
 -- ---- structs
 
 module _ (room store : List ℕ) (made : ℕ) (name : List ℕ) where
-  board-by : (b : Board) → BoardFit b → boardBy room store made name (records.boardOf b) ≡ some (some (boardMeant room store made name b))
+  board-by : (b : Board) → BoardWhole b → boardBy room store made name (records.boardOf b) ≡ some (some (boardMeant room store made name b))
   board-by b h =
       rw (chip-by (b .chip), text-by store name (b .name) (h .name), text-by store name (b .target) (h .target), text-by store name (b .profile) (h .profile))
 
-  image-by : (i : Image) → ImageFit i → imageBy room store made name (records.imageOf i) ≡ some (some (imageMeant room store made name i))
+  image-by : (i : Image) → ImageWhole i → imageBy room store made name (records.imageOf i) ≡ some (some (imageMeant room store made name i))
   image-by i h =
       rw (
         media-by (i .media),
@@ -85,7 +85,7 @@ module _ (room store : List ℕ) (made : ℕ) (name : List ℕ) where
   partition-by partitions.Nothing = refl
   partition-by (partitions.At p) = refl
 
-  head-by : (f : ComponentFound) → FitComponent f → headBy room store made name (records.headOf f) ≡ some (partOf (λ (c : schemas.Component). c .head) (componentSeen room store made name f))
+  head-by : (f : ComponentFound) → WholeComponent f → headBy room store made name (records.headOf f) ≡ some (partOf (λ (c : schemas.Component). c .head) (componentSeen room store made name f))
   head-by components.Nothing h = refl
   head-by (components.At c) h =
       rw (
@@ -120,7 +120,7 @@ module _ (room store : List ℕ) (made : ℕ) (name : List ℕ) where
       )
 
   module _ (held : holdsValues room made ≡ true) where
-    role-by : (f : ComponentFound) → FitComponent f
+    role-by : (f : ComponentFound) → WholeComponent f
         → roleBy room store made name (records.roleOf f) ≡ some (partOf (λ (c : schemas.Component). c .role) (componentSeen room store made name f))
     role-by components.Nothing h = refl
     role-by (components.At c) h =
@@ -133,7 +133,7 @@ module _ (room store : List ℕ) (made : ℕ) (name : List ℕ) where
           optional-by store name (c .role .«target_filename»),
         )
 
-    application-by : (f : ApplicationFound) → FitApplication f
+    application-by : (f : ApplicationFound) → WholeApplication f
         → applicationBy room store made name (records.applicationOf f) ≡ some (applicationSeen room store made name f)
     application-by applications.Nothing h = refl
     application-by (applications.At a) h =
@@ -148,23 +148,23 @@ module _ (room store : List ℕ) (made : ℕ) (name : List ℕ) where
           amount-by (a .«entry_offset»),
         )
 
-    source-by : (s : Source) → FitSource s → sourceBy room store made name (plans.sourceOf s) ≡ some (sourceMeant room store made name s)
+    source-by : (s : Source) → WholeSource s → sourceBy room store made name (plans.sourceOf s) ≡ some (sourceMeant room store made name s)
     source-by sources.Nothing h = refl
     source-by (sources.Package b) h = rw (text-by store name (b .«package») (h .pack), text-by store name (b .bin) (h .bin), list-by room store made held (b .features) (h .list))
     source-by (sources.File t) h = rw (text-by store name t h)
 
-    build-by : (f : BuildFound) → FitBuild f → buildBy room store made name (plans.buildOf f) ≡ some (builtMeant room store made name f)
+    build-by : (f : BuildFound) → WholeBuild f → buildBy room store made name (plans.buildOf f) ≡ some (builtMeant room store made name f)
     build-by builds.Nothing h = refl
     build-by (builds.At b) h = rw (text-by store name (b .«package») (h .pack), text-by store name (b .bin) (h .bin), list-by room store made held (b .features) (h .list))
 
     -- ---- of a planned component
 
-    planned-head : (f : PlannedFound) → FitPlanned room store made held name f
+    planned-head : (f : PlannedFound) → WholePlanned room store made held name f
         → headBy room store made name (records.headOf (plans.specOf f)) ≡ some (partOf (λ (c : meant.PlannedComponent). c .spec .head) (foundMeant room store made name f))
     planned-head founds.Nothing h = refl
     planned-head (founds.At p) h = head-by (components.At (p .spec)) (h .spec)
 
-    planned-role : (f : PlannedFound) → FitPlanned room store made held name f
+    planned-role : (f : PlannedFound) → WholePlanned room store made held name f
         → roleBy room store made name (records.roleOf (plans.specOf f)) ≡ some (partOf (λ (c : meant.PlannedComponent). c .spec .role) (foundMeant room store made name f))
     planned-role founds.Nothing h = refl
     planned-role (founds.At p) h = role-by (components.At (p .spec)) (h .spec)
@@ -179,12 +179,12 @@ module _ (room store : List ℕ) (made : ℕ) (name : List ℕ) where
     planned-load founds.Nothing = refl
     planned-load (founds.At p) = load-by (components.At (p .spec))
 
-    planned-source : (f : PlannedFound) → FitPlanned room store made held name f
+    planned-source : (f : PlannedFound) → WholePlanned room store made held name f
         → sourceBy room store made name (plans.payload f) ≡ some (partOf (λ (c : meant.PlannedComponent). c .source) (foundMeant room store made name f))
     planned-source founds.Nothing h = refl
     planned-source (founds.At p) h = source-by (p .source) (h .source) ∙ ap some (h .sourced)
 
-    planned-pbp : (f : PlannedFound) → FitPlanned room store made held name f
+    planned-pbp : (f : PlannedFound) → WholePlanned room store made held name f
         → sourceBy room store made name (plans.pbp f) ≡ some (partIn (λ (c : meant.PlannedComponent). c .pbpSource) (foundMeant room store made name f))
     planned-pbp founds.Nothing h = refl
     planned-pbp (founds.At p) h = source-by (p .«pbp_source») (h .pbp)
@@ -226,7 +226,7 @@ module _ (name store tree : List ℕ) (p : Read) (h : Recorded name store tree p
   board-is =
       rw (h .stands, clear)
       (board-by tree store made name (frontRead tree store made (fieldsOf tree made 1) (lentText name) .board)
-      (board-fit tree store made (fieldsOf tree made 1) (lentText name) (lent-given name))
+      (board-whole tree store made (fieldsOf tree made 1) (lentText name) (lent-given name))
       ∙ ap (λ (r : schemas.Preset). some (some (r .board))) (h .records))
 
   image-is : (other : List ℕ) → imageBy tree store made other (records.imageShown tree store made) ≡ some (some (p .preset .image))
@@ -234,7 +234,7 @@ module _ (name store tree : List ℕ) (p : Read) (h : Recorded name store tree p
   image-is other =
       let root = fieldsOf tree made 1 in
       rw (h .stands, clear-unlent)
-      (image-by tree store made other (frontRead tree store made root (lentText []) .image) (image-fit tree store made root (lentText []))
+      (image-by tree store made other (frontRead tree store made root (lentText []) .image) (image-whole tree store made root (lentText []))
       ∙ ap (λ (i : schemas.Image). some (some i)) (image-unlent tree store made root (lentText []) name other)
       ∙ ap (λ (i : Image). some (some (imageMeant tree store made name i))) (image-same tree store made root (lentText []) (lentText name))
       ∙ ap (λ (r : schemas.Preset). some (some (r .image))) (h .records))
@@ -242,22 +242,22 @@ module _ (name store tree : List ℕ) (p : Read) (h : Recorded name store tree p
   partition-is : (i : ℕ) → partitionBy tree store made name (records.partitionShown tree store made i) ≡ some (entryAt (p .preset .partitions) i)
   partition-is i = rw (h .stands) (partition-by tree store made name (views.partition tree store made i) ∙ ap some (partition-shown name store tree p h i))
 
-  component-fit : (i : ℕ) → FitComponent (views.component tree store made i 32)
-  component-fit i = component-found tree store made (h .stands) 32 (nthOf (items tree (views.componentList tree store made .end) (views.componentList tree store made .place) 0) i)
+  component-whole : (i : ℕ) → WholeComponent (views.component tree store made i 32)
+  component-whole i = component-found tree store made (h .stands) 32 (nthOf (items tree (views.componentList tree store made .end) (views.componentList tree store made .place) 0) i)
 
-  application-fit : (i : ℕ) → FitApplication (views.application tree store made i 32)
-  application-fit i = application-found tree store made (h .stands) 32 (nthKey tree store (views.applicationList tree store made) i)
+  application-whole : (i : ℕ) → WholeApplication (views.application tree store made i 32)
+  application-whole i = application-found tree store made (h .stands) 32 (nthKey tree store (views.applicationList tree store made) i)
 
   head-is : (i : ℕ) → headBy tree store made name (records.headOf (records.component tree store made i)) ≡ some (partOf (λ c. c .head) (entryAt (p .preset .components) i))
   head-is i =
       rw (h .stands)
-      (head-by tree store made name (views.component tree store made i 32) (component-fit i)
+      (head-by tree store made name (views.component tree store made i 32) (component-whole i)
       ∙ ap (λ (c : Option schemas.Component). some (partOf (λ c. c .head) c)) (component-shown name store tree p h i))
 
   role-is : (i : ℕ) → roleBy tree store made name (records.roleOf (records.component tree store made i)) ≡ some (partOf (λ c. c .role) (entryAt (p .preset .components) i))
   role-is i =
       rw (h .stands)
-      (role-by tree store made name (h .stands) (views.component tree store made i 32) (component-fit i)
+      (role-by tree store made name (h .stands) (views.component tree store made i 32) (component-whole i)
       ∙ ap (λ (c : Option schemas.Component). some (partOf (λ c. c .role) c)) (component-shown name store tree p h i))
 
   boot-is : (i : ℕ) → bootBy tree store made name (records.bootOf (records.component tree store made i)) ≡ some (partOf (λ c. c .boot) (entryAt (p .preset .components) i))
@@ -275,7 +275,7 @@ module _ (name store tree : List ℕ) (p : Read) (h : Recorded name store tree p
   application-is : (i : ℕ) → applicationBy tree store made name (records.applicationShown tree store made i) ≡ some (entryAt (p .preset .applications) i)
   application-is i =
       rw (h .stands)
-      (application-by tree store made name (h .stands) (views.application tree store made i 32) (application-fit i)
+      (application-by tree store made name (h .stands) (views.application tree store made i 32) (application-whole i)
       ∙ ap some (application-shown name store tree p h i))
 
   counts-are : (records.countsOf (countsAt tree store made) .partitions ≡ length (p .preset .partitions))
@@ -301,18 +301,18 @@ module _ (name store tree : List ℕ) (p : Read) (h : Recorded name store tree p
 
 module _ (name store tree : List ℕ) (made app : ℕ) (key : List ℕ) (q : meant.Plan) (held : holdsValues tree made ≡ true)
     (declared : plans.chosen tree store made app key ≡ choices.Undeclared → ⊥) (g : Composed name store tree app key made q) where
-  fit : (i : ℕ) → FitPlanned tree store made held name (plans.component tree store made app key i)
-  fit i = rw held (planned-found tree store made held name (plans.chosen tree store made app key) i)
+  whole : (i : ℕ) → WholePlanned tree store made held name (plans.component tree store made app key i)
+  whole i = rw held (planned-found tree store made held name (plans.chosen tree store made app key) i)
 
   plan-shown : PlanShown name store tree made app key q
   plan-shown =
       record {
         counts = λ v e. (ap (λ (c : PlanCounts). c .components) (e ∙ g .counts), ap (λ (c : PlanCounts). c .builds) (e ∙ g .counts));
         head = λ i v e. rw e
-            (planned-head tree store made name held (plans.component tree store made app key i) (fit i)
+            (planned-head tree store made name held (plans.component tree store made app key i) (whole i)
             ∙ ap (λ (c : Option meant.PlannedComponent). some (partOf (λ c. c .spec .head) c)) (g .components i));
         role = λ i v e. rw e
-            (planned-role tree store made name held (plans.component tree store made app key i) (fit i)
+            (planned-role tree store made name held (plans.component tree store made app key i) (whole i)
             ∙ ap (λ (c : Option meant.PlannedComponent). some (partOf (λ c. c .spec .role) c)) (g .components i));
         boot = λ i v e. rw e
             (planned-boot tree store made name held (plans.component tree store made app key i)
@@ -321,10 +321,10 @@ module _ (name store tree : List ℕ) (made app : ℕ) (key : List ℕ) (q : mea
             (planned-load tree store made name held (plans.component tree store made app key i)
             ∙ ap (λ (c : Option meant.PlannedComponent). some (partOf (λ c. c .spec .load) c)) (g .components i));
         source = λ i v e. rw e
-            (planned-source tree store made name held (plans.component tree store made app key i) (fit i)
+            (planned-source tree store made name held (plans.component tree store made app key i) (whole i)
             ∙ ap (λ (c : Option meant.PlannedComponent). some (partOf (λ c. c .source) c)) (g .components i));
         pbp = λ i v e. rw e
-            (planned-pbp tree store made name held (plans.component tree store made app key i) (fit i)
+            (planned-pbp tree store made name held (plans.component tree store made app key i) (whole i)
             ∙ ap (λ (c : Option meant.PlannedComponent). some (partIn (λ c. c .pbpSource) c)) (g .components i));
         partition = λ i v e. rw (e, g .targeted i)
             (planned-target tree store made name (q .partitions) (plans.component tree store made app key i) (g .target i)
