@@ -77,7 +77,7 @@ module _ (entry : ℕ → Entry) (all : Seq ℕ) (front : Seq Pair) (marks : Seq
       let t : take (i + 1) all ≡ take i all ++ (n ∷ []) = rw (add-one i) (next-taken n ns i all (k .here)) in
       record {
         here = sym (drop-drop 1 i all) ∙ ap (drop 1) (k .here);
-        high = next-low n ns i all (k .here);
+        high = omega (arith, next-low n ns i all (k .here));
         mark-room = length-set marks i (e .mark) ∙ k .mark-room;
         pair-room = length-set pairs at (e .pair) ∙ k .pair-room;
         marks =
