@@ -1,4 +1,6 @@
-//! What a host may rely on beside the answers: how deep the stack is used, and that threads do not meet.
+//! What a host may rely on beside the answers: how deep the stack is used, that threads do not meet, and that the fixed
+//! words are those of the table in docs/HOST.md.
+use port::records::word;
 use replay::generators::mixed;
 use replay::generators::random::Rng;
 use replay::generators::records::random::EXAMPLES;
@@ -70,4 +72,43 @@ fn threads_do_not_meet() {
             assert!(thread.join().expect("an answer") == want);
         }
     });
+}
+
+// The rows of the table of words: three numbers in each, with a word after each.
+fn table(paper: &str) -> Vec<(u32, &str)> {
+    let begun = paper
+        .lines()
+        .skip_while(|line| !line.starts_with("| number | word |"));
+    let rows = begun.skip(2).take_while(|line| line.starts_with('|'));
+    let mut words = Vec::new();
+    for row in rows {
+        let cells: Vec<_> = row.split('|').map(str::trim).collect();
+        for pair in cells[1..].chunks_exact(2) {
+            if let Ok(number) = pair[0].parse() {
+                words.push((number, pair[1].trim_matches('`')));
+            }
+        }
+    }
+    words.sort();
+    words
+}
+
+#[test]
+fn words_are_those_of_the_table() {
+    let path = concat!(env!("CARGO_MANIFEST_DIR"), "/../../docs/HOST.md");
+    let paper = std::fs::read_to_string(path).expect("it");
+    let words = table(&paper);
+    assert!(
+        words.iter().map(|(number, _)| *number).eq(1..=17),
+        "{words:?}"
+    );
+    for number in 0..40 {
+        let mut out = [0xAA; 32];
+        let length = word(number, &mut out);
+        let want = words.iter().find(|(of, _)| *of == number);
+        let mut left = want.map_or(vec![], |(_, word)| word.as_bytes().to_vec());
+        assert_eq!(length, left.len(), "{number}");
+        left.resize(32, 0);
+        assert_eq!(out[..], left, "{number}");
+    }
 }
