@@ -159,25 +159,13 @@ module _ (room store : List ℕ) (made : ℕ) (name : List ℕ) where
 
     -- ---- of a planned component
 
-    planned-head : (f : PlannedFound) → WholePlanned room store made held name f
-        → headBy room store made name (records.headOf (plans.specOf f)) ≡ some (partOf (λ (c : meant.PlannedComponent). c .spec .head) (foundMeant room store made name f))
-    planned-head founds.Nothing h = refl
-    planned-head (founds.At p) h = head-by (components.At (p .spec)) (h .spec)
-
-    planned-role : (f : PlannedFound) → WholePlanned room store made held name f
-        → roleBy room store made name (records.roleOf (plans.specOf f)) ≡ some (partOf (λ (c : meant.PlannedComponent). c .spec .role) (foundMeant room store made name f))
-    planned-role founds.Nothing h = refl
-    planned-role (founds.At p) h = role-by (components.At (p .spec)) (h .spec)
-
-    planned-boot : (f : PlannedFound)
-        → bootBy room store made name (records.bootOf (plans.specOf f)) ≡ some (partOf (λ (c : meant.PlannedComponent). c .spec .boot) (foundMeant room store made name f))
-    planned-boot founds.Nothing = refl
-    planned-boot (founds.At p) = boot-by (components.At (p .spec))
-
-    planned-load : (f : PlannedFound)
-        → loadBy room store made name (records.loadOf (plans.specOf f)) ≡ some (partOf (λ (c : meant.PlannedComponent). c .spec .load) (foundMeant room store made name f))
-    planned-load founds.Nothing = refl
-    planned-load (founds.At p) = load-by (components.At (p .spec))
+    -- a group of its record is shown as a component's
+    planned-group : {View Y : Type 0} (by : View → Option (Option Y)) (of : ComponentFound → View) (group : schemas.Component → Y)
+        → ((f : ComponentFound) → WholeComponent f → by (of f) ≡ some (partOf group (componentSeen room store made name f)))
+        → (f : PlannedFound) → WholePlanned room store made held name f
+        → by (of (plans.specOf f)) ≡ some (partOf (λ (c : meant.PlannedComponent). group (c .spec)) (foundMeant room store made name f))
+    planned-group by of group law founds.Nothing h = law components.Nothing tt
+    planned-group by of group law (founds.At p) h = law (components.At (p .spec)) (h .spec)
 
     planned-source : (f : PlannedFound) → WholePlanned room store made held name f
         → sourceBy room store made name (plans.payload f) ≡ some (partOf (λ (c : meant.PlannedComponent). c .source) (foundMeant room store made name f))
@@ -248,29 +236,14 @@ module _ (name store tree : List ℕ) (p : Read) (h : Recorded name store tree p
   application-whole : (i : ℕ) → WholeApplication (views.application tree store made i 32)
   application-whole i = application-found tree store made (h .stands) 32 (nthKey tree store (views.applicationList tree store made) i)
 
-  head-is : (i : ℕ) → headBy tree store made name (records.headOf (records.component tree store made i)) ≡ some (partOf (λ c. c .head) (entryAt (p .preset .components) i))
-  head-is i =
-      rw (h .stands)
-      (head-by tree store made name (views.component tree store made i 32) (component-whole i)
-      ∙ ap (λ (c : Option schemas.Component). some (partOf (λ c. c .head) c)) (component-shown name store tree p h i))
-
-  role-is : (i : ℕ) → roleBy tree store made name (records.roleOf (records.component tree store made i)) ≡ some (partOf (λ c. c .role) (entryAt (p .preset .components) i))
-  role-is i =
-      rw (h .stands)
-      (role-by tree store made name (h .stands) (views.component tree store made i 32) (component-whole i)
-      ∙ ap (λ (c : Option schemas.Component). some (partOf (λ c. c .role) c)) (component-shown name store tree p h i))
-
-  boot-is : (i : ℕ) → bootBy tree store made name (records.bootOf (records.component tree store made i)) ≡ some (partOf (λ c. c .boot) (entryAt (p .preset .components) i))
-  boot-is i =
-      rw (h .stands)
-      (boot-by tree store made name (views.component tree store made i 32)
-      ∙ ap (λ (c : Option schemas.Component). some (partOf (λ c. c .boot) c)) (component-shown name store tree p h i))
-
-  load-is : (i : ℕ) → loadBy tree store made name (records.loadOf (records.component tree store made i)) ≡ some (partOf (λ c. c .load) (entryAt (p .preset .components) i))
-  load-is i =
-      rw (h .stands)
-      (load-by tree store made name (views.component tree store made i 32)
-      ∙ ap (λ (c : Option schemas.Component). some (partOf (λ c. c .load) c)) (component-shown name store tree p h i))
+  -- a group of component number i
+  group-is : {View Y : Type 0} (by : View → Option (Option Y)) (of : ComponentFound → View) (group : schemas.Component → Y)
+      → ((f : ComponentFound) → WholeComponent f → by (of f) ≡ some (partOf group (componentSeen tree store made name f)))
+      → (i : ℕ) (v : View) → v ≡ of (records.component tree store made i) → by v ≡ some (partOf group (entryAt (p .preset .components) i))
+  group-is by of group law i v e =
+      rw (e, h .stands)
+      (law (views.component tree store made i 32) (component-whole i)
+      ∙ ap (λ (c : Option schemas.Component). some (partOf group c)) (component-shown name store tree p h i))
 
   application-is : (i : ℕ) → applicationBy tree store made name (records.applicationShown tree store made i) ≡ some (entryAt (p .preset .applications) i)
   application-is i =
@@ -290,10 +263,10 @@ module _ (name store tree : List ℕ) (p : Read) (h : Recorded name store tree p
         board = λ v e. rw e board-is;
         image = λ other v e. rw e (image-is other);
         partition = λ i v e. rw e (partition-is i);
-        head = λ i v e. rw e (head-is i);
-        role = λ i v e. rw e (role-is i);
-        boot = λ i v e. rw e (boot-is i);
-        load = λ i v e. rw e (load-is i);
+        head = group-is (headBy tree store made name) records.headOf (λ c. c .head) (head-by tree store made name);
+        role = group-is (roleBy tree store made name) records.roleOf (λ c. c .role) (role-by tree store made name (h .stands));
+        boot = group-is (bootBy tree store made name) records.bootOf (λ c. c .boot) (λ f k. boot-by tree store made name f);
+        load = group-is (loadBy tree store made name) records.loadOf (λ c. c .load) (λ f k. load-by tree store made name f);
         application = λ i v e. rw e (application-is i);
       }
 
@@ -304,28 +277,33 @@ module _ (name store tree : List ℕ) (made app : ℕ) (key : List ℕ) (q : mea
   whole : (i : ℕ) → WholePlanned tree store made held name (plans.component tree store made app key i)
   whole i = rw held (planned-found tree store made held name (plans.chosen tree store made app key) i)
 
+  -- what is shown of component number i
+  planned-is : {View Y : Type 0} (by : View → Option (Option Y)) (of : PlannedFound → View) (some-of : Option meant.PlannedComponent → Option Y)
+      → ((f : PlannedFound) → WholePlanned tree store made held name f → by (of f) ≡ some (some-of (foundMeant tree store made name f)))
+      → (i : ℕ) (v : View) → v ≡ of (plans.component tree store made app key i) → by v ≡ some (some-of (entryAt (q .components) i))
+  planned-is by of some-of law i v e =
+      rw e
+      (law (plans.component tree store made app key i) (whole i)
+      ∙ ap (λ (c : Option meant.PlannedComponent). some (some-of c)) (g .components i))
+
+  -- a group of its record
+  spec-is : {View Y : Type 0} (by : View → Option (Option Y)) (of : ComponentFound → View) (group : schemas.Component → Y)
+      → ((f : ComponentFound) → WholeComponent f → by (of f) ≡ some (partOf group (componentSeen tree store made name f)))
+      → (i : ℕ) (v : View) → v ≡ of (plans.specOf (plans.component tree store made app key i))
+      → by v ≡ some (partOf (λ (c : meant.PlannedComponent). group (c .spec)) (entryAt (q .components) i))
+  spec-is by of group law =
+      planned-is by (λ f. of (plans.specOf f)) (partOf (λ c. group (c .spec))) (planned-group tree store made name held by of group law)
+
   plan-shown : PlanShown name store tree made app key q
   plan-shown =
       record {
         counts = λ v e. (ap (λ (c : PlanCounts). c .components) (e ∙ g .counts), ap (λ (c : PlanCounts). c .builds) (e ∙ g .counts));
-        head = λ i v e. rw e
-            (planned-head tree store made name held (plans.component tree store made app key i) (whole i)
-            ∙ ap (λ (c : Option meant.PlannedComponent). some (partOf (λ c. c .spec .head) c)) (g .components i));
-        role = λ i v e. rw e
-            (planned-role tree store made name held (plans.component tree store made app key i) (whole i)
-            ∙ ap (λ (c : Option meant.PlannedComponent). some (partOf (λ c. c .spec .role) c)) (g .components i));
-        boot = λ i v e. rw e
-            (planned-boot tree store made name held (plans.component tree store made app key i)
-            ∙ ap (λ (c : Option meant.PlannedComponent). some (partOf (λ c. c .spec .boot) c)) (g .components i));
-        load = λ i v e. rw e
-            (planned-load tree store made name held (plans.component tree store made app key i)
-            ∙ ap (λ (c : Option meant.PlannedComponent). some (partOf (λ c. c .spec .load) c)) (g .components i));
-        source = λ i v e. rw e
-            (planned-source tree store made name held (plans.component tree store made app key i) (whole i)
-            ∙ ap (λ (c : Option meant.PlannedComponent). some (partOf (λ c. c .source) c)) (g .components i));
-        pbp = λ i v e. rw e
-            (planned-pbp tree store made name held (plans.component tree store made app key i) (whole i)
-            ∙ ap (λ (c : Option meant.PlannedComponent). some (partIn (λ c. c .pbpSource) c)) (g .components i));
+        head = spec-is (headBy tree store made name) records.headOf (λ c. c .head) (head-by tree store made name);
+        role = spec-is (roleBy tree store made name) records.roleOf (λ c. c .role) (role-by tree store made name held);
+        boot = spec-is (bootBy tree store made name) records.bootOf (λ c. c .boot) (λ f k. boot-by tree store made name f);
+        load = spec-is (loadBy tree store made name) records.loadOf (λ c. c .load) (λ f k. load-by tree store made name f);
+        source = planned-is (sourceBy tree store made name) plans.payload (partOf (λ c. c .source)) (planned-source tree store made name held);
+        pbp = planned-is (sourceBy tree store made name) plans.pbp (partIn (λ c. c .pbpSource)) (planned-pbp tree store made name held);
         partition = λ i v e. rw (e, g .targeted i)
             (planned-target tree store made name (q .partitions) (plans.component tree store made app key i) (g .target i)
             ∙ ap (λ (c : Option meant.PlannedComponent). some (partIn (λ c. meant.partitionFor (q .partitions) (c .spec .role .partition)) c)) (g .components i));
