@@ -1,11 +1,12 @@
 -- Views of the records: what stands in the rooms, as numbers. Where there is no such record all is 0.
 use Prim.Native.Nat.{ℕ}
 use mathlib.Core.Bool.{Bool, true, false}
-use mathlib.Core.List.{List, [], _++_}
+use mathlib.Core.List.{List, []}
 use mathlib.Core.Path.{_≡_}
 use lib.Dec.{eqb, ltb}
-use lib.ListN.{length, drop}
+use lib.ListN.{length}
 use Rattle.meaning.specs.Base.{pick, zeros}
+use Rattle.meaning.specs.Rooms.{over}
 use Rattle.tree.specs.Doors.{fieldsOf}
 use Rattle.schema.specs.declared.Word.{Word}
 use Rattle.schema.specs.declared.Word.the-variants as words
@@ -277,7 +278,7 @@ wordSize n room = pick (eqb n 0) 0 (pick (ltb 17 n) 0 (pick (ltb room (length (w
 unfoldable pub wordRoom : ℕ → ℕ → List ℕ
 wordRoom n room =
     pick (eqb n 0) (zeros room)
-    (pick (ltb 17 n) (zeros room) (pick (ltb room (length (word (wordBy n)))) (zeros room) (word (wordBy n) ++ drop (length (word (wordBy n))) (zeros room))))
+    (pick (ltb 17 n) (zeros room) (pick (ltb room (length (word (wordBy n)))) (zeros room) (over (word (wordBy n)) (zeros room))))
 
 pub record Worded (n : ℕ) (out out' : List ℕ) (r : ℕ) : Type 0 where
   pub says : r ≡ wordSize n (length out)

@@ -110,17 +110,16 @@ listed-tree text name store tree out x e =
     read-listed (refused f section place) = refl
 
 pub listing-says : ListingSays
-listing-says text name store tree out store' tree' out' r h =
-    (
-      lists-of (listing text name store tree out) out out' r (h .says) (h .out-is),
-      record {
-        values = valuesOf text;
-        sized = sized-by text (readFor (listing text name store tree out)) (listed-tree text name store tree out);
-        store-is = h .store-is;
-        tree-is = h .tree-is;
-        shows = h .shows;
-      },
-    )
+listing-says text name store tree out store' tree' out' r h = (
+  lists-of (listing text name store tree out) out out' r (h .says) (h .out-is),
+  record {
+    values = valuesOf text;
+    sized = sized-by text (readFor (listing text name store tree out)) (listed-tree text name store tree out);
+    store-is = h .store-is;
+    tree-is = h .tree-is;
+    shows = h .shows;
+  },
+)
 
 pub one-answer : OneAnswer
 one-answer = answered-decides
