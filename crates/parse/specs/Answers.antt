@@ -6,6 +6,7 @@ use borrow.Author.Tests.{eq-eqb, ne-eqb, eqb-true, eqb-false}
 use lib.Dec.{eqb}
 use Rattle.meaning.specs.Refusal.{R, ok, bad, Answer, accepted, refused, acceptedThen, Fault, numbered, unmet, numberOf, told}
 use Rattle.laws.specs.Cases.{on}
+use Rattle.laws.specs.Never.{Numbered}
 use Rattle.parse.specs.declared.Refusal.{Refusal}
 use Rattle.parse.specs.Refusals.{refusal, earlier}
 use Rattle.parse.specs.Meant.{Got}
@@ -13,19 +14,14 @@ use Rattle.parse.specs.Reads.{Gives}
 
 -- ---- one answer after the other
 
--- the fault has a number of 01's table
-abbrev pub OfTable : Fault → Type 0
-OfTable (numbered n) = 1 ≤ n
-OfTable (unmet e) = ⊥
-
-pub table-number : (f : Fault) → OfTable f → 1 ≤ numberOf f
+pub table-number : (f : Fault) → Numbered f → 1 ≤ numberOf f
 table-number (numbered n) h = h
 table-number (unmet e) h = absurd h
 
 -- a refusal, number 0 for none, says what a definition says, and y is what it gives
 abbrev pub Told-by : {X : Type 0} → Answer X → Refusal → X → Type 0
 Told-by (accepted x) r y = (r .number ≡ 0) × (y ≡ x)
-Told-by (refused f s p) r y = (r ≡ refusal (numberOf f) s p) × OfTable f
+Told-by (refused f s p) r y = (r ≡ refusal (numberOf f) s p) × Numbered f
 
 -- the same as a record: its type says what was answered
 pub record Says {X : Type 0} (a : Answer X) (r : Refusal) (y : X) : Type 0 where
@@ -76,7 +72,7 @@ says-accepted (refused f n p) r y s e =
     let d : r .number ≡ numberOf f = ap (λ (q : Refusal). q .number) (s .told-by .0) in
     absurd (omega (arith, table-number f (s .told-by .1)))
 
-numbered-by : (f : Fault) → OfTable f → f ≡ numbered (numberOf f)
+numbered-by : (f : Fault) → Numbered f → f ≡ numbered (numberOf f)
 numbered-by (numbered n) h = refl
 numbered-by (unmet e) h = absurd h
 
@@ -88,7 +84,7 @@ says-refused (refused f n p) r y s h = rw (s .told-by .0) (ap (λ (g : Fault). r
 pub accepted-says : {X : Type 0} (a : Answer X) (r : Refusal) (x y : X) → Says a r y → a ≡ accepted x → (r .number ≡ 0) × (y ≡ x)
 accepted-says a r x y s e = rw e at (s .told-by)
 
-pub refused-says : {X : Type 0} (a : Answer X) (r : Refusal) (f : Fault) (n p : ℕ) (y : X) → Says a r y → a ≡ refused f n p → (r ≡ refusal (numberOf f) n p) × OfTable f
+pub refused-says : {X : Type 0} (a : Answer X) (r : Refusal) (f : Fault) (n p : ℕ) (y : X) → Says a r y → a ≡ refused f n p → (r ≡ refusal (numberOf f) n p) × Numbered f
 refused-says a r f n p y s e = rw e at (s .told-by)
 
 -- two refusals are none where the first of them is

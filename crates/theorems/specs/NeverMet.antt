@@ -1,4 +1,4 @@
--- The original's parser has six more errors, without a number here: an unknown table, something else where a table or
+-- The original's parser has six more errors, of no number of 01's: an unknown table, something else where a table or
 -- an array should be, an empty path, an array without elements, or whose last is no table. No text meets one of them.
 -- So each refusal has a number, from 1 on, and number 0 always says that the text is accepted.
 use Prim.Native.Nat.{ℕ, _≤_}

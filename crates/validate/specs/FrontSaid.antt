@@ -11,6 +11,7 @@ use Rattle.meaning.specs.Verdict.{Verdict, firstRefusal, judged, long}
 use Rattle.meaning.specs.Schema as meant
 use Rattle.meaning.specs.Rules as rules
 use Rattle.laws.specs.Cases.{picked}
+use Rattle.laws.specs.Never as never
 use Rattle.tree.specs.declared.Fields.{Fields}
 use Rattle.tree.specs.Doors.{field}
 use Rattle.schema.specs.declared.Text.{Text}
@@ -26,7 +27,7 @@ use Rattle.parse.specs.Front.{chipOf, boardRead, imageNames, imageRest, imageRe
 use Rattle.parse.specs.Entries.{refusalOf}
 use Rattle.parse.specs.Meant.{boardMeant, imageMeant}
 use Rattle.parse.specs.Reads.{Kept, text-kept}
-use Rattle.parse.specs.Answers.{OfTable, Told-by, Says}
+use Rattle.parse.specs.Answers.{Told-by, Says}
 use Rattle.validate.specs.Fronts.{Plain, Fronted, ruled}
 
 -- ---- verdicts
@@ -34,7 +35,7 @@ use Rattle.validate.specs.Fronts.{Plain, Fronted, ruled}
 -- 1 at least, where there is one
 abbrev pub Numbered : Verdict → Type 0
 Numbered (accepted u) = Unit {0}
-Numbered (refused f section place) = OfTable f
+Numbered (refused f section place) = never.Numbered f
 
 -- the same as a record: its type names the verdict
 pub record Sound (v : Verdict) : Type 0 where
