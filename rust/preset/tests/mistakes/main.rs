@@ -1,0 +1,68 @@
+//! Mistakes that people make in presets, typed into an example, each with all that `preset check` tells of it.
+mod noted;
+mod refused;
+
+use std::path::Path;
+use std::process::Command;
+
+/// What a person did to the example, and what the person should be told.
+pub struct Mistake {
+    pub what: &'static str,
+    /// One after the other: what stands in the text exactly once then, and what is typed in its place.
+    pub edits: &'static [(&'static str, &'static str)],
+    /// Lines of standard output, then of standard error, without the file's name: `12: refused ..`, `12: note: ..`.
+    pub told: &'static [&'static str],
+}
+
+const EXAMPLE: &str = include_str!("../../../../presets/stage-d13x.toml");
+
+#[test]
+fn refusals_lead_to_the_mend() {
+    asked("refused", refused::ALL);
+}
+
+#[test]
+fn nothing_passes_without_a_word() {
+    asked("noted", noted::ALL);
+}
+
+#[test]
+fn at_least_a_hundred_are_asked() {
+    assert!(refused::ALL.len() + noted::ALL.len() >= 100);
+}
+
+// All mistakes are tried before one that is told otherwise fails the test.
+fn asked(table: &str, mistakes: &[Mistake]) {
+    let folder = std::env::temp_dir().join(format!("preset-{table}-{}", std::process::id()));
+    std::fs::create_dir_all(&folder).expect("a folder for the edited example");
+    let wrong = mistakes.iter().filter_map(|mistake| {
+        let told = told(&folder.join("stage.toml"), &edited(mistake));
+        let said = (told != mistake.told).then_some(told)?;
+        Some(format!("{}\n{}\n", mistake.what, said.join("\n")))
+    });
+    let wrong: Vec<_> = wrong.collect();
+    std::fs::remove_dir_all(&folder).expect("the folder is removed");
+    assert!(wrong.is_empty(), "told otherwise:\n\n{}", wrong.join("\n"));
+}
+
+fn edited(mistake: &Mistake) -> String {
+    let mut text = EXAMPLE.to_string();
+    for (old, new) in mistake.edits {
+        let met = text.matches(old).count();
+        assert_eq!(met, 1, "{}: {old:?} is met {met} times", mistake.what);
+        text = text.replacen(old, new, 1);
+    }
+    text
+}
+
+// Lines that only repeat the preset's own line, or lead to `explain`, are left out.
+fn told(file: &Path, text: &str) -> Vec<String> {
+    std::fs::write(file, text).expect("the edited example is written");
+    let mut check = Command::new(env!("CARGO_BIN_EXE_preset"));
+    let answer = check.arg("check").arg(file).output().expect("it runs");
+    let both = [answer.stdout, answer.stderr].concat();
+    let both = String::from_utf8(both).expect("its words are UTF-8");
+    let name = format!("{}:", file.display());
+    let lines = both.lines().filter_map(|line| line.strip_prefix(&name));
+    lines.map(|line| line.trim_start().to_string()).collect()
+}

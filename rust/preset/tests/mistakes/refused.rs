@@ -1,0 +1,4 @@
+//! Mistakes that the rules refuse.
+use super::Mistake;
+
+pub const ALL: &[Mistake] = &[];
