@@ -29,7 +29,7 @@ use Rattle.host.specs.declared.Lines.{Lines}
 use Rattle.host.specs.declared.Line.{Line}
 use Rattle.host.specs.Text.{noLine, lineOf, linesOf, refusedAt, judged, Exported}
 
--- ---- text_next
+-- ---- preset_text_next
 module _ (s : List ℕ) (at n : ℕ) (r : Next) (f : Follows s at n r) where
   told : (v : Next) → r ≡ v → lineOf v ≡ lineOf (next s at n)
   told v e = ap lineOf (sym e ∙ f .is)
@@ -50,7 +50,7 @@ module _ (s : List ℕ) (at n : ℕ) (r : Next) (f : Follows s at n r) where
   pub line-told : (a e l : ℕ) (p : Place) → r ≡ nexts.Line a e l p → lineOf (nexts.Line a e l p) ≡ lineOf (next s at n)
   line-told a e l p = told (nexts.Line a e l p)
 
--- ---- text_lines: z is the room once it is zero
+-- ---- preset_text_lines: z is the room once it is zero
 module _ (s room z : List ℕ) (ez : z ≡ zeros (length room)) where
   long : length z ≡ length room
   long = ap length ez ∙ length-zeros (length room)

@@ -33,7 +33,7 @@ module _ (s : List ℕ) (r : Int) (e : intOf r ≡ signed s) where
   pub int-refused : r ≡ ints.Wrong → numberOf (intOf ints.Wrong) ≡ numberOf (signed s)
   int-refused f = ap numberOf (ap intOf (sym f) ∙ e)
 
--- ---- value_string: z is the room once it is zero
+-- ---- preset_value_string: z is the room once it is zero
 module _ (s room z : List ℕ) (ez : z ≡ zeros (length room)) where
   long : length z ≡ length room
   long = ap length ez ∙ length-zeros (length room)
@@ -88,7 +88,7 @@ module _ (s room z : List ℕ) (ez : z ≡ zeros (length room)) where
           go closed q g = let i : Unended w ≡ Done (decode Plain s .span) (length (decode Plain s .bytes)) = rw q at g in let z : _≡_ {A = ℕ} 0 1 = cc in absurd (omega arith)
           go escape q g = let i : Unended w ≡ Escape (decode Plain s .span) (length (decode Plain s .bytes)) = rw q at g in let z : _≡_ {A = ℕ} 0 1 = cc in absurd (omega arith)
 
--- ---- tree_slot
+-- ---- preset_tree_slot
 module _ (room : List ℕ) (n takes : ℕ) (q : takes ≡ length room / 32) where
   pub slot-there : (v : Slot) → n < takes → v ≡ slotAt room n → valueOf v ≡ slotOf room n
   slot-there v h e = rw (← q, lt-ltb n takes h, e)

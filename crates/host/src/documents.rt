@@ -72,7 +72,13 @@ fn at_of(f: Found) -> At
 
 // The newest of the values made that hangs under the parent with the key; nothing where the room has fewer values.
 #[no_mangle]
-pub extern "C" fn tree_find(tree: &[u8], store: &[u8], made: usize, parent: u16, key: &[u8]) -> At
+pub extern "C" fn preset_tree_find(
+    tree: &[u8],
+    store: &[u8],
+    made: usize,
+    parent: u16,
+    key: &[u8],
+) -> At
     ensures { λ r. ⌜ r ≡ keyShown (now (tree .entry)) (now (store .entry)) made parent (now (key .entry)) ⌝ }
 {
     if tree::capacity(tree) < made {
@@ -83,7 +89,7 @@ pub extern "C" fn tree_find(tree: &[u8], store: &[u8], made: usize, parent: u16,
 
 // The first of the values made, from a number on, that hangs under the parent; nothing where the room has fewer values.
 #[no_mangle]
-pub extern "C" fn tree_child(tree: &[u8], made: usize, parent: u16, from: usize) -> At
+pub extern "C" fn preset_tree_child(tree: &[u8], made: usize, parent: u16, from: usize) -> At
     ensures { λ r. ⌜ r ≡ childShown (now (tree .entry)) made parent from ⌝ }
 {
     if tree::capacity(tree) < made {
@@ -109,7 +115,7 @@ fn last_visited(begun: u32, after: usize) -> Found
 // The value under the parent with the least key of all (begun 0), or with the least key above that of value number
 // after; nothing where the room has fewer values.
 #[no_mangle]
-pub extern "C" fn tree_next(
+pub extern "C" fn preset_tree_next(
     tree: &[u8],
     store: &[u8],
     made: usize,

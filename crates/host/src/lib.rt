@@ -57,7 +57,7 @@ pub struct Line {
 
 // Where s lies without White_Space at both ends.
 #[no_mangle]
-pub extern "C" fn text_trim(s: &[u8]) -> Span
+pub extern "C" fn preset_text_trim(s: &[u8]) -> Span
     ensures { λ r. ⌜ Trimmed (now (s .entry)) (spanOf r) ⌝ }
 {
     let t = chars::trim(s);
@@ -69,7 +69,7 @@ pub extern "C" fn text_trim(s: &[u8]) -> Span
 
 // Whether s is UTF-8.
 #[no_mangle]
-pub extern "C" fn text_valid(s: &[u8]) -> bool
+pub extern "C" fn preset_text_valid(s: &[u8]) -> bool
     ensures { λ r. ⌜ r ≡ utf8.valid (now (s .entry)) ⌝ }
 {
     chars::valid(s)
@@ -77,7 +77,7 @@ pub extern "C" fn text_valid(s: &[u8]) -> bool
 
 // How many bytes of one physical line stand before its comment.
 #[no_mangle]
-pub extern "C" fn text_kept(line: &[u8]) -> usize
+pub extern "C" fn preset_text_kept(line: &[u8]) -> usize
     ensures { λ r. ⌜ r ≡ quotes.upTo 35 StringState.Outside (now (line .entry)) ⌝ }
 {
     text::find_outside(line, b'#')
@@ -96,7 +96,7 @@ fn state_number(state: StringState) -> u8
 
 // The string state and the brackets of s.
 #[no_mangle]
-pub extern "C" fn text_scan(s: &[u8]) -> Scanned
+pub extern "C" fn preset_text_scan(s: &[u8]) -> Scanned
     ensures { λ r. ⌜ r ≡ scanned (quotes.scan quotes.fresh (now (s .entry))) ⌝ }
 {
     let c = text::scan(s);
@@ -124,7 +124,7 @@ fn no_line(kind: u32, line: usize) -> Line
 
 // The next joined line of a laid text, from a place between joined lines on; the first is 0, line 1.
 #[no_mangle]
-pub extern "C" fn text_next(laid: &[u8], at: usize, line: u32) -> Line
+pub extern "C" fn preset_text_next(laid: &[u8], at: usize, line: u32) -> Line
     ensures { λ r. ⌜ r ≡ lineOf (walk.next (now (laid .entry)) at line) ⌝ }
 {
     let r = text::next_line(laid, at, line as usize);
@@ -162,7 +162,7 @@ fn refused_lines(number: u32, place: u32) -> Lines
 
 // Lays a text into the scratch and judges its joined lines. A refusal leaves the scratch all zero.
 #[no_mangle]
-pub extern "C" fn text_lines(text: &[u8], scratch: &mut [u8]) -> Lines
+pub extern "C" fn preset_text_lines(text: &[u8], scratch: &mut [u8]) -> Lines
     ensures { λ r. ⌜ Exported (now (text .entry)) (now (scratch .entry)) (now (scratch .exit)) r ⌝ }
 {
     slices::zero(scratch);

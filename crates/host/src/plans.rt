@@ -106,7 +106,7 @@ fn spec_of(f: PlannedFound) -> ComponentFound
 
 // What component number i of a plan is; its `file` is absent where that is its source.
 #[no_mangle]
-pub extern "C" fn plan_head(
+pub extern "C" fn preset_plan_head(
     tree: &[u8],
     store: &[u8],
     made: usize,
@@ -122,7 +122,7 @@ pub extern "C" fn plan_head(
 
 // What it is built with and where it goes.
 #[no_mangle]
-pub extern "C" fn plan_role(
+pub extern "C" fn preset_plan_role(
     tree: &[u8],
     store: &[u8],
     made: usize,
@@ -138,7 +138,7 @@ pub extern "C" fn plan_role(
 
 // What it does at boot; its `pbp` is a source.
 #[no_mangle]
-pub extern "C" fn plan_boot(
+pub extern "C" fn preset_plan_boot(
     tree: &[u8],
     store: &[u8],
     made: usize,
@@ -154,7 +154,7 @@ pub extern "C" fn plan_boot(
 
 // How it is loaded.
 #[no_mangle]
-pub extern "C" fn plan_load(
+pub extern "C" fn preset_plan_load(
     tree: &[u8],
     store: &[u8],
     made: usize,
@@ -209,7 +209,7 @@ fn no_source() -> SourceView
 
 // Its payload: a package or a file, as written.
 #[no_mangle]
-pub extern "C" fn plan_source(
+pub extern "C" fn preset_plan_source(
     tree: &[u8],
     store: &[u8],
     made: usize,
@@ -232,7 +232,7 @@ pub extern "C" fn plan_source(
 
 // Its PBP.
 #[no_mangle]
-pub extern "C" fn plan_pbp(
+pub extern "C" fn preset_plan_pbp(
     tree: &[u8],
     store: &[u8],
     made: usize,
@@ -270,7 +270,7 @@ fn target_of(tree: &[u8], store: &[u8], made: usize, f: PlannedFound) -> Partiti
 }
 
 #[no_mangle]
-pub extern "C" fn plan_partition(
+pub extern "C" fn preset_plan_partition(
     tree: &[u8],
     store: &[u8],
     made: usize,
@@ -314,7 +314,7 @@ fn build_of(f: BuildFound) -> BuildView
 
 // Build number i of a plan, in first use.
 #[no_mangle]
-pub extern "C" fn plan_build(
+pub extern "C" fn preset_plan_build(
     tree: &[u8],
     store: &[u8],
     made: usize,
@@ -333,7 +333,7 @@ pub extern "C" fn plan_build(
 
 // How many components and builds a plan has.
 #[no_mangle]
-pub extern "C" fn plan_counts(
+pub extern "C" fn preset_plan_counts(
     tree: &[u8],
     store: &[u8],
     made: usize,
@@ -358,7 +358,7 @@ pub extern "C" fn plan_counts(
 
 // The stem of a plan's files; the lent name is the board's where the text has none.
 #[no_mangle]
-pub extern "C" fn plan_stem(
+pub extern "C" fn preset_plan_stem(
     tree: &[u8],
     store: &[u8],
     made: usize,

@@ -479,7 +479,12 @@ pub fn head_of(f: ComponentFound) -> HeadView
 
 // What component number i is and what it is made from.
 #[no_mangle]
-pub extern "C" fn component_head(tree: &[u8], store: &[u8], made: usize, i: usize) -> HeadView
+pub extern "C" fn preset_component_head(
+    tree: &[u8],
+    store: &[u8],
+    made: usize,
+    i: usize,
+) -> HeadView
     ensures { λ r. ⌜ r ≡ records.headOf (records.component (now (tree .entry)) (now (store .entry)) made i) ⌝ }
 {
     head_of(component(tree, store, made, i))
@@ -521,7 +526,12 @@ pub fn role_of(f: ComponentFound) -> RoleView
 
 // What it is built with and where it goes.
 #[no_mangle]
-pub extern "C" fn component_role(tree: &[u8], store: &[u8], made: usize, i: usize) -> RoleView
+pub extern "C" fn preset_component_role(
+    tree: &[u8],
+    store: &[u8],
+    made: usize,
+    i: usize,
+) -> RoleView
     ensures { λ r. ⌜ r ≡ records.roleOf (records.component (now (tree .entry)) (now (store .entry)) made i) ⌝ }
 {
     role_of(component(tree, store, made, i))
@@ -559,7 +569,12 @@ pub fn boot_of(f: ComponentFound) -> BootView
 
 // What it does at boot.
 #[no_mangle]
-pub extern "C" fn component_boot(tree: &[u8], store: &[u8], made: usize, i: usize) -> BootView
+pub extern "C" fn preset_component_boot(
+    tree: &[u8],
+    store: &[u8],
+    made: usize,
+    i: usize,
+) -> BootView
     ensures { λ r. ⌜ r ≡ records.bootOf (records.component (now (tree .entry)) (now (store .entry)) made i) ⌝ }
 {
     boot_of(component(tree, store, made, i))
@@ -599,7 +614,12 @@ pub fn load_of(f: ComponentFound) -> LoadView
 
 // How it is loaded.
 #[no_mangle]
-pub extern "C" fn component_load(tree: &[u8], store: &[u8], made: usize, i: usize) -> LoadView
+pub extern "C" fn preset_component_load(
+    tree: &[u8],
+    store: &[u8],
+    made: usize,
+    i: usize,
+) -> LoadView
     ensures { λ r. ⌜ r ≡ records.loadOf (records.component (now (tree .entry)) (now (store .entry)) made i) ⌝ }
 {
     load_of(component(tree, store, made, i))

@@ -42,7 +42,7 @@ pub struct Value {
 
 // The integer that s is.
 #[no_mangle]
-pub extern "C" fn value_int(s: &[u8]) -> Number
+pub extern "C" fn preset_value_int(s: &[u8]) -> Number
     ensures { λ r. ⌜ r ≡ numberOf (ints.signed (now (s .entry))) ⌝ }
 {
     let r = scalar::integer::read_int(s);
@@ -73,7 +73,7 @@ fn refused_string(number: u32, at: usize) -> Spelling
 
 // Decodes a string after its opening quote. A refusal leaves the room all zero.
 #[no_mangle]
-pub extern "C" fn value_string(src: &[u8], out: &mut [u8]) -> Spelling
+pub extern "C" fn preset_value_string(src: &[u8], out: &mut [u8]) -> Spelling
     ensures { λ r. ⌜ Spelled (now (src .entry)) (now (out .entry)) (now (out .exit)) r ⌝ }
 {
     slices::zero(out);
@@ -101,7 +101,7 @@ pub extern "C" fn value_string(src: &[u8], out: &mut [u8]) -> Spelling
 
 // Value number n of a tree room; no value where the room is too short for it.
 #[no_mangle]
-pub extern "C" fn tree_slot(tree: &[u8], n: usize) -> Value
+pub extern "C" fn preset_tree_slot(tree: &[u8], n: usize) -> Value
     ensures { λ r. ⌜ r ≡ slotOf (now (tree .entry)) n ⌝ }
 {
     if n < tree::capacity(tree) {
@@ -143,7 +143,7 @@ fn refused_key(number: u32) -> Segments
 
 // Splits a key at its dots, under 01's limit of 16 segments. A refusal leaves the room all zero.
 #[no_mangle]
-pub extern "C" fn value_key(s: &[u8], store: &mut [u8]) -> Segments
+pub extern "C" fn preset_value_key(s: &[u8], store: &mut [u8]) -> Segments
     ensures { λ r. ⌜ Split (now (s .entry)) (now (store .entry)) (now (store .exit)) r ⌝ }
 {
     slices::zero(store);
@@ -166,7 +166,7 @@ pub extern "C" fn value_key(s: &[u8], store: &mut [u8]) -> Segments
 
 // Where segment i of a key ends among its bytes; 0 where there is none. The room is all zero after it.
 #[no_mangle]
-pub extern "C" fn value_key_end(s: &[u8], store: &mut [u8], i: usize) -> usize
+pub extern "C" fn preset_value_key_end(s: &[u8], store: &mut [u8], i: usize) -> usize
     ensures { λ r. ⌜ Ends (now (s .entry)) (now (store .entry)) (now (store .exit)) i r ⌝ }
 {
     slices::zero(store);
@@ -220,7 +220,7 @@ fn size_fault(text: &[u8], store: &[u8], tree: &[u8]) -> u32
 
 // Reads one value under 01's limits into the two rooms. A refusal leaves both all zero.
 #[no_mangle]
-pub extern "C" fn value_read(text: &[u8], store: &mut [u8], tree: &mut [u8]) -> ValueRead
+pub extern "C" fn preset_value_read(text: &[u8], store: &mut [u8], tree: &mut [u8]) -> ValueRead
     ensures { λ r. ⌜ Readout (now (text .entry)) (now (store .entry)) (now (tree .entry)) (now (store .exit))
         (now (tree .exit)) r ⌝ }
 {

@@ -72,7 +72,7 @@ module _ (name store tree : List ℕ) (made : ℕ) (r : Preset) where
     -- preset_partition
     pub partition : (i : ℕ) (v : PartitionView) → v ≡ partitionShown tree store made i
         → partitionBy tree store made name v ≡ some (entryAt (r .partitions) i)
-    -- component_head, component_role, component_boot, component_load
+    -- preset_component_head, preset_component_role, preset_component_boot, preset_component_load
     pub head : (i : ℕ) (v : HeadView) → v ≡ records.headOf (records.component tree store made i)
         → headBy tree store made name v ≡ some (partOf (λ c. c .head) (componentIn i))
     pub role : (i : ℕ) (v : RoleView) → v ≡ records.roleOf (records.component tree store made i)
@@ -94,10 +94,10 @@ module _ (name store tree : List ℕ) (made app : ℕ) (key : List ℕ) (q : Pla
 
   -- all views of a plan show this one
   pub record PlanShown : Type 0 where
-    -- plan_counts
+    -- preset_plan_counts
     pub counts : (v : PlanCounts) → v ≡ countsShown tree store made app key
         → (v .components ≡ length (q .components)) × (v .builds ≡ length (q .builds))
-    -- plan_head, plan_role, plan_boot, plan_load
+    -- preset_plan_head, preset_plan_role, preset_plan_boot, preset_plan_load
     pub head : (i : ℕ) (v : HeadView) → v ≡ records.headOf (specOf (plans.component tree store made app key i))
         → headBy tree store made name v ≡ some (partOf (λ c. c .spec .head) (plannedIn i))
     pub role : (i : ℕ) (v : RoleView) → v ≡ records.roleOf (specOf (plans.component tree store made app key i))
@@ -106,21 +106,21 @@ module _ (name store tree : List ℕ) (made app : ℕ) (key : List ℕ) (q : Pla
         → bootBy tree store made name v ≡ some (partOf (λ c. c .spec .boot) (plannedIn i))
     pub load : (i : ℕ) (v : LoadView) → v ≡ records.loadOf (specOf (plans.component tree store made app key i))
         → loadBy tree store made name v ≡ some (partOf (λ c. c .spec .load) (plannedIn i))
-    -- plan_source: each component has one
+    -- preset_plan_source: each component has one
     pub source : (i : ℕ) (v : SourceView) → v ≡ plans.payload (plans.component tree store made app key i)
         → sourceBy tree store made name v ≡ some (partOf (λ c. c .source) (plannedIn i))
-    -- plan_pbp: some have none
+    -- preset_plan_pbp: some have none
     pub pbp : (i : ℕ) (v : SourceView) → v ≡ plans.pbp (plans.component tree store made app key i)
         → sourceBy tree store made name v ≡ some (partIn (λ c. c .pbpSource) (plannedIn i))
-    -- plan_partition: what 01 finds by the component's reference
+    -- preset_plan_partition: what 01 finds by the component's reference
     pub partition : (i : ℕ) (v : PartitionView)
         → v ≡ targetShown tree store made (plans.component tree store made app key i)
         → partitionBy tree store made name v
         ≡ some (partIn (λ c. partitionFor (q .partitions) (c .spec .role .partition)) (plannedIn i))
-    -- plan_build
+    -- preset_plan_build
     pub build : (i : ℕ) (v : BuildView) → v ≡ buildShown tree store made app key i
         → buildBy tree store made name v ≡ some (entryAt (q .builds) i)
-    -- plan_stem, with the lent name
+    -- preset_plan_stem, with the lent name
     pub stem : (v : Bytes) → v ≡ stemShown tree store made name app key → textBy store name v ≡ some (q .stem)
 
 -- ---- the statements

@@ -92,13 +92,13 @@ preset_board_view preset_board(const uint8_t *tree, size_t tree_n, const uint8_t
 preset_image_view preset_image(const uint8_t *tree, size_t tree_n, const uint8_t *store, size_t store_n, size_t made);
 preset_partition_view preset_partition(const uint8_t *tree, size_t tree_n, const uint8_t *store, size_t store_n,
                                        size_t made, size_t i);
-preset_head_view component_head(const uint8_t *tree, size_t tree_n, const uint8_t *store, size_t store_n, size_t made,
+preset_head_view preset_component_head(const uint8_t *tree, size_t tree_n, const uint8_t *store, size_t store_n, size_t made,
                                 size_t i);
-preset_role_view component_role(const uint8_t *tree, size_t tree_n, const uint8_t *store, size_t store_n, size_t made,
+preset_role_view preset_component_role(const uint8_t *tree, size_t tree_n, const uint8_t *store, size_t store_n, size_t made,
                                 size_t i);
-preset_boot_view component_boot(const uint8_t *tree, size_t tree_n, const uint8_t *store, size_t store_n, size_t made,
+preset_boot_view preset_component_boot(const uint8_t *tree, size_t tree_n, const uint8_t *store, size_t store_n, size_t made,
                                 size_t i);
-preset_load_view component_load(const uint8_t *tree, size_t tree_n, const uint8_t *store, size_t store_n, size_t made,
+preset_load_view preset_component_load(const uint8_t *tree, size_t tree_n, const uint8_t *store, size_t store_n, size_t made,
                                 size_t i);
 /* By its number in byte order of key. */
 preset_application_view preset_application(const uint8_t *tree, size_t tree_n, const uint8_t *store, size_t store_n,
@@ -112,74 +112,74 @@ size_t preset_word(uint32_t word, uint8_t *out, size_t out_n);
 /* ---- views of a plan, by what was selected */
 
 /* kind 0: none; 1: a package, its binary and its features; 2: a file. */
-typedef struct { uint32_t kind; preset_bytes package, bin; preset_features features; preset_bytes file; } plan_source_view;
-typedef struct { uint32_t found; preset_bytes package, bin; preset_features features; } plan_build_view;
-typedef struct { size_t components, builds; } plan_count_view;
+typedef struct { uint32_t kind; preset_bytes package, bin; preset_features features; preset_bytes file; } preset_plan_source_view;
+typedef struct { uint32_t found; preset_bytes package, bin; preset_features features; } preset_plan_build_view;
+typedef struct { size_t components, builds; } preset_plan_count_view;
 
-plan_count_view plan_counts(const uint8_t *tree, size_t tree_n, const uint8_t *store, size_t store_n, size_t made,
+preset_plan_count_view preset_plan_counts(const uint8_t *tree, size_t tree_n, const uint8_t *store, size_t store_n, size_t made,
                             uint32_t app, const uint8_t *key, size_t key_n);
-preset_head_view plan_head(const uint8_t *tree, size_t tree_n, const uint8_t *store, size_t store_n, size_t made,
+preset_head_view preset_plan_head(const uint8_t *tree, size_t tree_n, const uint8_t *store, size_t store_n, size_t made,
                            uint32_t app, const uint8_t *key, size_t key_n, size_t i);
-preset_role_view plan_role(const uint8_t *tree, size_t tree_n, const uint8_t *store, size_t store_n, size_t made,
+preset_role_view preset_plan_role(const uint8_t *tree, size_t tree_n, const uint8_t *store, size_t store_n, size_t made,
                            uint32_t app, const uint8_t *key, size_t key_n, size_t i);
-preset_boot_view plan_boot(const uint8_t *tree, size_t tree_n, const uint8_t *store, size_t store_n, size_t made,
+preset_boot_view preset_plan_boot(const uint8_t *tree, size_t tree_n, const uint8_t *store, size_t store_n, size_t made,
                            uint32_t app, const uint8_t *key, size_t key_n, size_t i);
-preset_load_view plan_load(const uint8_t *tree, size_t tree_n, const uint8_t *store, size_t store_n, size_t made,
+preset_load_view preset_plan_load(const uint8_t *tree, size_t tree_n, const uint8_t *store, size_t store_n, size_t made,
                            uint32_t app, const uint8_t *key, size_t key_n, size_t i);
-plan_source_view plan_source(const uint8_t *tree, size_t tree_n, const uint8_t *store, size_t store_n, size_t made,
+preset_plan_source_view preset_plan_source(const uint8_t *tree, size_t tree_n, const uint8_t *store, size_t store_n, size_t made,
                              uint32_t app, const uint8_t *key, size_t key_n, size_t i);
-plan_source_view plan_pbp(const uint8_t *tree, size_t tree_n, const uint8_t *store, size_t store_n, size_t made,
+preset_plan_source_view preset_plan_pbp(const uint8_t *tree, size_t tree_n, const uint8_t *store, size_t store_n, size_t made,
                           uint32_t app, const uint8_t *key, size_t key_n, size_t i);
-preset_partition_view plan_partition(const uint8_t *tree, size_t tree_n, const uint8_t *store, size_t store_n,
+preset_partition_view preset_plan_partition(const uint8_t *tree, size_t tree_n, const uint8_t *store, size_t store_n,
                                      size_t made, uint32_t app, const uint8_t *key, size_t key_n, size_t i);
-plan_build_view plan_build(const uint8_t *tree, size_t tree_n, const uint8_t *store, size_t store_n, size_t made,
+preset_plan_build_view preset_plan_build(const uint8_t *tree, size_t tree_n, const uint8_t *store, size_t store_n, size_t made,
                            uint32_t app, const uint8_t *key, size_t key_n, size_t i);
-preset_bytes plan_stem(const uint8_t *tree, size_t tree_n, const uint8_t *store, size_t store_n, size_t made,
+preset_bytes preset_plan_stem(const uint8_t *tree, size_t tree_n, const uint8_t *store, size_t store_n, size_t made,
                        const uint8_t *name, size_t name_n, uint32_t app, const uint8_t *key, size_t key_n);
 
 /* ---- the tree room, value by value: parent 1 is the root, n + 2 value number n */
 
-typedef struct { uint32_t found; size_t number; } tree_at;
+typedef struct { uint32_t found; size_t number; } preset_tree_at;
 /* kind 1 string, 2 integer, 3 boolean, 4 array, 5 table, 6 integer with a minus; docs/ROOMS.md has the rest. */
-typedef struct { uint32_t kind, parent, key, len; uint64_t data; } tree_value;
+typedef struct { uint32_t kind, parent, key, len; uint64_t data; } preset_tree_value;
 
 uint32_t preset_value_size(void);
-tree_value tree_slot(const uint8_t *tree, size_t tree_n, size_t n);
-tree_at tree_find(const uint8_t *tree, size_t tree_n, const uint8_t *store, size_t store_n, size_t made,
+preset_tree_value preset_tree_slot(const uint8_t *tree, size_t tree_n, size_t n);
+preset_tree_at preset_tree_find(const uint8_t *tree, size_t tree_n, const uint8_t *store, size_t store_n, size_t made,
                   uint16_t parent, const uint8_t *key, size_t key_n);
-tree_at tree_child(const uint8_t *tree, size_t tree_n, size_t made, uint16_t parent, size_t from);
-tree_at tree_next(const uint8_t *tree, size_t tree_n, const uint8_t *store, size_t store_n, size_t made,
+preset_tree_at preset_tree_child(const uint8_t *tree, size_t tree_n, size_t made, uint16_t parent, size_t from);
+preset_tree_at preset_tree_next(const uint8_t *tree, size_t tree_n, const uint8_t *store, size_t store_n, size_t made,
                   uint16_t parent, uint32_t begun, size_t after);
 
 /* ---- one value, string, key or integer */
 
-typedef struct { uint32_t number; bool negative; uint64_t magnitude; } value_number;
+typedef struct { uint32_t number; bool negative; uint64_t magnitude; } preset_value_number;
 /* 8: at is the backslash's place. */
-typedef struct { uint32_t number; size_t used, written, at; } value_spelling;
-typedef struct { uint32_t number; size_t count, used; } value_segments;
-typedef struct { uint32_t number; size_t used, made; } value_made;
+typedef struct { uint32_t number; size_t used, written, at; } preset_value_spelling;
+typedef struct { uint32_t number; size_t count, used; } preset_value_segments;
+typedef struct { uint32_t number; size_t used, made; } preset_value_made;
 
-value_number value_int(const uint8_t *s, size_t s_n);
-value_spelling value_string(const uint8_t *s, size_t s_n, uint8_t *out, size_t out_n);
-value_segments value_key(const uint8_t *s, size_t s_n, uint8_t *store, size_t store_n);
-size_t value_key_end(const uint8_t *s, size_t s_n, uint8_t *store, size_t store_n, size_t i);
-value_made value_read(const uint8_t *s, size_t s_n, uint8_t *store, size_t store_n, uint8_t *tree, size_t tree_n);
+preset_value_number preset_value_int(const uint8_t *s, size_t s_n);
+preset_value_spelling preset_value_string(const uint8_t *s, size_t s_n, uint8_t *out, size_t out_n);
+preset_value_segments preset_value_key(const uint8_t *s, size_t s_n, uint8_t *store, size_t store_n);
+size_t preset_value_key_end(const uint8_t *s, size_t s_n, uint8_t *store, size_t store_n, size_t i);
+preset_value_made preset_value_read(const uint8_t *s, size_t s_n, uint8_t *store, size_t store_n, uint8_t *tree, size_t tree_n);
 
 /* ---- characters and joined lines */
 
-typedef struct { size_t from, end; } text_span;
+typedef struct { size_t from, end; } preset_text_span;
 /* state 0 outside a string, 1 inside, 2 inside behind a backslash. */
-typedef struct { uint8_t state; size_t opens, closes; } text_scanned;
-typedef struct { uint32_t number, section, place, lines; size_t used; } text_laid;
+typedef struct { uint8_t state; size_t opens, closes; } preset_text_scanned;
+typedef struct { uint32_t number, section, place, lines; size_t used; } preset_text_laid;
 /* kind 0: no line is left; 1: a joined line; 3 or 4: that refusal at line. */
-typedef struct { uint32_t kind; size_t line, from, end, next, next_line; } text_line;
+typedef struct { uint32_t kind; size_t line, from, end, next, next_line; } preset_text_line;
 
-text_span text_trim(const uint8_t *s, size_t s_n);
-bool text_valid(const uint8_t *s, size_t s_n);
-size_t text_kept(const uint8_t *line, size_t line_n);
-text_scanned text_scan(const uint8_t *s, size_t s_n);
-text_laid text_lines(const uint8_t *text, size_t text_n, uint8_t *scratch, size_t scratch_n);
-text_line text_next(const uint8_t *laid, size_t laid_n, size_t at, uint32_t line);
+preset_text_span preset_text_trim(const uint8_t *s, size_t s_n);
+bool preset_text_valid(const uint8_t *s, size_t s_n);
+size_t preset_text_kept(const uint8_t *line, size_t line_n);
+preset_text_scanned preset_text_scan(const uint8_t *s, size_t s_n);
+preset_text_laid preset_text_lines(const uint8_t *text, size_t text_n, uint8_t *scratch, size_t scratch_n);
+preset_text_line preset_text_next(const uint8_t *laid, size_t laid_n, size_t at, uint32_t line);
 
 #ifdef __cplusplus
 }

@@ -46,7 +46,7 @@ mod sys {
             tree: *mut u8,
             tree_room: usize,
         ) -> Outcome;
-        pub fn tree_find(
+        pub fn preset_tree_find(
             tree: *const u8,
             room: usize,
             store: *const u8,
@@ -56,14 +56,14 @@ mod sys {
             key: *const u8,
             key_n: usize,
         ) -> At;
-        pub fn tree_child(
+        pub fn preset_tree_child(
             tree: *const u8,
             room: usize,
             made: usize,
             parent: u16,
             from: usize,
         ) -> At;
-        pub fn tree_next(
+        pub fn preset_tree_next(
             tree: *const u8,
             room: usize,
             store: *const u8,
@@ -99,9 +99,9 @@ fn number(at: sys::At) -> Option<usize> {
 pub fn find(tree: &[u8], store: &[u8], made: usize, parent: u16, key: &[u8]) -> Option<usize> {
     let (slots, places) = (tree.as_ptr(), tree.len());
     let (held, room) = (store.as_ptr(), store.len());
-    // SAFETY: all three are live slices of their lengths, only read; tree_find has no precondition.
+    // SAFETY: all three are live slices of their lengths, only read; preset_tree_find has no precondition.
     number(unsafe {
-        sys::tree_find(
+        sys::preset_tree_find(
             slots,
             places,
             held,
@@ -116,8 +116,8 @@ pub fn find(tree: &[u8], store: &[u8], made: usize, parent: u16, key: &[u8]) -> 
 
 /// The first of `made` values, from number `from` on, that hangs under the parent.
 pub fn child(tree: &[u8], made: usize, parent: u16, from: usize) -> Option<usize> {
-    // SAFETY: `tree` is a live slice of that length, only read; tree_child has no precondition.
-    number(unsafe { sys::tree_child(tree.as_ptr(), tree.len(), made, parent, from) })
+    // SAFETY: `tree` is a live slice of that length, only read; preset_tree_child has no precondition.
+    number(unsafe { sys::preset_tree_child(tree.as_ptr(), tree.len(), made, parent, from) })
 }
 
 /// The first of `made` values under the parent in byte order of key, or the one after value number `after`.
@@ -131,8 +131,8 @@ pub fn next(
     let (slots, places) = (tree.as_ptr(), tree.len());
     let (held, room) = (store.as_ptr(), store.len());
     let (begun, last) = (u32::from(after.is_some()), after.unwrap_or(0));
-    // SAFETY: both are live slices of their lengths, only read; tree_next has no precondition.
-    number(unsafe { sys::tree_next(slots, places, held, room, made, parent, begun, last) })
+    // SAFETY: both are live slices of their lengths, only read; preset_tree_next has no precondition.
+    number(unsafe { sys::preset_tree_next(slots, places, held, room, made, parent, begun, last) })
 }
 
 /// The whole tree that an accepted text left, or what in it is against the rules of the rooms.

@@ -66,18 +66,18 @@ mod sys {
         };
     }
     of_entry! {
-        plan_head -> HeadView;
-        plan_role -> RoleView;
-        plan_boot -> BootView;
-        plan_load -> LoadView;
-        plan_source -> SourceView;
-        plan_pbp -> SourceView;
-        plan_partition -> PartitionView;
-        plan_build -> BuildView;
+        preset_plan_head -> HeadView;
+        preset_plan_role -> RoleView;
+        preset_plan_boot -> BootView;
+        preset_plan_load -> LoadView;
+        preset_plan_source -> SourceView;
+        preset_plan_pbp -> SourceView;
+        preset_plan_partition -> PartitionView;
+        preset_plan_build -> BuildView;
     }
     of_rooms! {
-        plan_counts(app: u32, key: *const u8, key_n: usize) -> PlanCounts;
-        plan_stem(
+        preset_plan_counts(app: u32, key: *const u8, key_n: usize) -> PlanCounts;
+        preset_plan_stem(
             name: *const u8,
             name_n: usize,
             app: u32,
@@ -144,45 +144,45 @@ impl Planned<'_> {
     }
 
     pub fn head(&self, i: usize) -> HeadView {
-        self.entry(sys::plan_head, i)
+        self.entry(sys::preset_plan_head, i)
     }
 
     pub fn role(&self, i: usize) -> RoleView {
-        self.entry(sys::plan_role, i)
+        self.entry(sys::preset_plan_role, i)
     }
 
     pub fn boot(&self, i: usize) -> BootView {
-        self.entry(sys::plan_boot, i)
+        self.entry(sys::preset_plan_boot, i)
     }
 
     pub fn load(&self, i: usize) -> LoadView {
-        self.entry(sys::plan_load, i)
+        self.entry(sys::preset_plan_load, i)
     }
 
     /// The payload of component number `i`.
     pub fn source(&self, i: usize) -> SourceView {
-        self.entry(sys::plan_source, i)
+        self.entry(sys::preset_plan_source, i)
     }
 
     /// Its PBP.
     pub fn pbp(&self, i: usize) -> SourceView {
-        self.entry(sys::plan_pbp, i)
+        self.entry(sys::preset_plan_pbp, i)
     }
 
     /// The partition that its reference finds.
     pub fn partition(&self, i: usize) -> PartitionView {
-        self.entry(sys::plan_partition, i)
+        self.entry(sys::preset_plan_partition, i)
     }
 
     pub fn build(&self, i: usize) -> BuildView {
-        self.entry(sys::plan_build, i)
+        self.entry(sys::preset_plan_build, i)
     }
 
     pub fn counts(&self) -> PlanCounts {
         let (tree, room, store, length, made) = self.rooms.lent();
         let (app, key, size) = self.selection.lent();
         // SAFETY: three live slices of their lengths, only read; no precondition.
-        unsafe { sys::plan_counts(tree, room, store, length, made, app, key, size) }
+        unsafe { sys::preset_plan_counts(tree, room, store, length, made, app, key, size) }
     }
 
     /// `name` as it was lent for planning.
@@ -192,7 +192,7 @@ impl Planned<'_> {
         let (app, key, size) = self.selection.lent();
         // SAFETY: four live slices of their lengths, only read; no precondition.
         unsafe {
-            sys::plan_stem(
+            sys::preset_plan_stem(
                 tree, room, store, length, made, board, letters, app, key, size,
             )
         }

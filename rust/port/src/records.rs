@@ -164,10 +164,10 @@ mod sys {
         preset_board(name: *const u8, name_n: usize) -> BoardView;
         preset_image() -> ImageView;
         preset_partition(i: usize) -> PartitionView;
-        component_head(i: usize) -> HeadView;
-        component_role(i: usize) -> RoleView;
-        component_boot(i: usize) -> BootView;
-        component_load(i: usize) -> LoadView;
+        preset_component_head(i: usize) -> HeadView;
+        preset_component_role(i: usize) -> RoleView;
+        preset_component_boot(i: usize) -> BootView;
+        preset_component_load(i: usize) -> LoadView;
         preset_application(i: usize) -> ApplicationView;
         preset_feature(
             kind: u32,
@@ -269,25 +269,25 @@ impl Rooms<'_> {
     pub fn head(&self, i: usize) -> HeadView {
         let (tree, room, store, length, made) = self.lent();
         // SAFETY: two live slices of their lengths, only read; no precondition.
-        unsafe { sys::component_head(tree, room, store, length, made, i) }
+        unsafe { sys::preset_component_head(tree, room, store, length, made, i) }
     }
 
     pub fn role(&self, i: usize) -> RoleView {
         let (tree, room, store, length, made) = self.lent();
         // SAFETY: two live slices of their lengths, only read; no precondition.
-        unsafe { sys::component_role(tree, room, store, length, made, i) }
+        unsafe { sys::preset_component_role(tree, room, store, length, made, i) }
     }
 
     pub fn boot(&self, i: usize) -> BootView {
         let (tree, room, store, length, made) = self.lent();
         // SAFETY: two live slices of their lengths, only read; no precondition.
-        unsafe { sys::component_boot(tree, room, store, length, made, i) }
+        unsafe { sys::preset_component_boot(tree, room, store, length, made, i) }
     }
 
     pub fn load(&self, i: usize) -> LoadView {
         let (tree, room, store, length, made) = self.lent();
         // SAFETY: two live slices of their lengths, only read; no precondition.
-        unsafe { sys::component_load(tree, room, store, length, made, i) }
+        unsafe { sys::preset_component_load(tree, room, store, length, made, i) }
     }
 
     pub fn application(&self, i: usize) -> ApplicationView {

@@ -50,49 +50,49 @@ mod sys {
     use super::{Line, Lines, Scanned, Span};
 
     unsafe extern "C" {
-        pub fn text_trim(s: *const u8, n: usize) -> Span;
-        pub fn text_valid(s: *const u8, n: usize) -> bool;
-        pub fn text_kept(s: *const u8, n: usize) -> usize;
-        pub fn text_scan(s: *const u8, n: usize) -> Scanned;
-        pub fn text_lines(s: *const u8, n: usize, scratch: *mut u8, room: usize) -> Lines;
-        pub fn text_next(laid: *const u8, n: usize, at: usize, line: u32) -> Line;
+        pub fn preset_text_trim(s: *const u8, n: usize) -> Span;
+        pub fn preset_text_valid(s: *const u8, n: usize) -> bool;
+        pub fn preset_text_kept(s: *const u8, n: usize) -> usize;
+        pub fn preset_text_scan(s: *const u8, n: usize) -> Scanned;
+        pub fn preset_text_lines(s: *const u8, n: usize, scratch: *mut u8, room: usize) -> Lines;
+        pub fn preset_text_next(laid: *const u8, n: usize, at: usize, line: u32) -> Line;
     }
 }
 
 /// `s[from..end]` is `s` without White_Space at both ends.
 pub fn trim(s: &[u8]) -> Span {
-    // SAFETY: `s` is a live slice of that length, only read; text_trim has no precondition.
-    unsafe { sys::text_trim(s.as_ptr(), s.len()) }
+    // SAFETY: `s` is a live slice of that length, only read; preset_text_trim has no precondition.
+    unsafe { sys::preset_text_trim(s.as_ptr(), s.len()) }
 }
 
 /// Whether `s` is UTF-8.
 pub fn valid(s: &[u8]) -> bool {
-    // SAFETY: `s` is a live slice of that length, only read; text_valid has no precondition.
-    unsafe { sys::text_valid(s.as_ptr(), s.len()) }
+    // SAFETY: `s` is a live slice of that length, only read; preset_text_valid has no precondition.
+    unsafe { sys::preset_text_valid(s.as_ptr(), s.len()) }
 }
 
 /// The bytes of one physical line before its comment.
 pub fn kept(line: &[u8]) -> usize {
-    // SAFETY: `line` is a live slice of that length, only read; text_kept has no precondition.
-    unsafe { sys::text_kept(line.as_ptr(), line.len()) }
+    // SAFETY: `line` is a live slice of that length, only read; preset_text_kept has no precondition.
+    unsafe { sys::preset_text_kept(line.as_ptr(), line.len()) }
 }
 
 /// The string state after `s` and its brackets outside strings.
 pub fn scan(s: &[u8]) -> Scanned {
-    // SAFETY: `s` is a live slice of that length, only read; text_scan has no precondition.
-    unsafe { sys::text_scan(s.as_ptr(), s.len()) }
+    // SAFETY: `s` is a live slice of that length, only read; preset_text_scan has no precondition.
+    unsafe { sys::preset_text_scan(s.as_ptr(), s.len()) }
 }
 
 /// Lays the kept bytes of every physical line into `scratch` and judges the joined lines.
 pub fn lines(text: &[u8], scratch: &mut [u8]) -> Lines {
     let (to, room) = (scratch.as_mut_ptr(), scratch.len());
     // SAFETY: both are live slices of their lengths and the borrow rules keep them apart;
-    // text_lines has no precondition.
-    unsafe { sys::text_lines(text.as_ptr(), text.len(), to, room) }
+    // preset_text_lines has no precondition.
+    unsafe { sys::preset_text_lines(text.as_ptr(), text.len(), to, room) }
 }
 
 /// The joined line that starts at `at`, a place between joined lines; the first is 0, line 1.
 pub fn next(laid: &[u8], at: usize, line: u32) -> Line {
-    // SAFETY: `laid` is a live slice of that length, only read; text_next has no precondition.
-    unsafe { sys::text_next(laid.as_ptr(), laid.len(), at, line) }
+    // SAFETY: `laid` is a live slice of that length, only read; preset_text_next has no precondition.
+    unsafe { sys::preset_text_next(laid.as_ptr(), laid.len(), at, line) }
 }

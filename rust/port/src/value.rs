@@ -75,17 +75,17 @@ mod sys {
     }
 
     unsafe extern "C" {
-        pub fn value_int(s: *const u8, n: usize) -> Signed;
-        pub fn value_string(s: *const u8, n: usize, out: *mut u8, room: usize) -> Decoded;
-        pub fn value_key(s: *const u8, n: usize, store: *mut u8, room: usize) -> Segments;
-        pub fn value_key_end(
+        pub fn preset_value_int(s: *const u8, n: usize) -> Signed;
+        pub fn preset_value_string(s: *const u8, n: usize, out: *mut u8, room: usize) -> Decoded;
+        pub fn preset_value_key(s: *const u8, n: usize, store: *mut u8, room: usize) -> Segments;
+        pub fn preset_value_key_end(
             s: *const u8,
             n: usize,
             store: *mut u8,
             room: usize,
             i: usize,
         ) -> usize;
-        pub fn value_read(
+        pub fn preset_value_read(
             s: *const u8,
             n: usize,
             store: *mut u8,
@@ -93,14 +93,14 @@ mod sys {
             tree: *mut u8,
             tree_room: usize,
         ) -> ValueRead;
-        pub fn tree_slot(tree: *const u8, room: usize, n: usize) -> Slot;
+        pub fn preset_tree_slot(tree: *const u8, room: usize, n: usize) -> Slot;
     }
 }
 
 /// The integer that `s` is, taken as it stands: white space is not trimmed.
 pub fn int(s: &[u8]) -> Number {
-    // SAFETY: `s` is a live slice of that length, only read; value_int has no precondition.
-    let got = unsafe { sys::value_int(s.as_ptr(), s.len()) };
+    // SAFETY: `s` is a live slice of that length, only read; preset_value_int has no precondition.
+    let got = unsafe { sys::preset_value_int(s.as_ptr(), s.len()) };
     let value = if got.negative {
         got.magnitude.wrapping_neg() as i64
     } else {
@@ -116,24 +116,24 @@ pub fn int(s: &[u8]) -> Number {
 pub fn string(s: &[u8], out: &mut [u8]) -> Decoded {
     let (to, room) = (out.as_mut_ptr(), out.len());
     // SAFETY: both are live slices of their lengths and the borrow rules keep them apart;
-    // value_string has no precondition.
-    unsafe { sys::value_string(s.as_ptr(), s.len(), to, room) }
+    // preset_value_string has no precondition.
+    unsafe { sys::preset_value_string(s.as_ptr(), s.len(), to, room) }
 }
 
 /// Decodes a key's segments one after the other into `store`.
 pub fn key(s: &[u8], store: &mut [u8]) -> Segments {
     let (to, room) = (store.as_mut_ptr(), store.len());
     // SAFETY: both are live slices of their lengths and the borrow rules keep them apart;
-    // value_key has no precondition.
-    unsafe { sys::value_key(s.as_ptr(), s.len(), to, room) }
+    // preset_value_key has no precondition.
+    unsafe { sys::preset_value_key(s.as_ptr(), s.len(), to, room) }
 }
 
 /// Where segment `i` of a key ends among its bytes, 0 where there is none; `store` is zero then.
 pub fn key_end(s: &[u8], store: &mut [u8], i: usize) -> usize {
     let (to, room) = (store.as_mut_ptr(), store.len());
     // SAFETY: both are live slices of their lengths and the borrow rules keep them apart;
-    // value_key_end has no precondition.
-    unsafe { sys::value_key_end(s.as_ptr(), s.len(), to, room, i) }
+    // preset_value_key_end has no precondition.
+    unsafe { sys::preset_value_key_end(s.as_ptr(), s.len(), to, room, i) }
 }
 
 /// Reads a value: its strings into `store`, its values into `tree`, in reading order.
@@ -141,12 +141,12 @@ pub fn read(s: &[u8], store: &mut [u8], tree: &mut [u8]) -> ValueRead {
     let (to, room) = (store.as_mut_ptr(), store.len());
     let (slots, places) = (tree.as_mut_ptr(), tree.len());
     // SAFETY: all three are live slices of their lengths and the borrow rules keep them apart;
-    // value_read has no precondition.
-    unsafe { sys::value_read(s.as_ptr(), s.len(), to, room, slots, places) }
+    // preset_value_read has no precondition.
+    unsafe { sys::preset_value_read(s.as_ptr(), s.len(), to, room, slots, places) }
 }
 
 /// Value number `n` of a tree room; all zero where the room is too short for it.
 pub fn slot(tree: &[u8], n: usize) -> Slot {
-    // SAFETY: `tree` is a live slice of that length, only read; tree_slot has no precondition.
-    unsafe { sys::tree_slot(tree.as_ptr(), tree.len(), n) }
+    // SAFETY: `tree` is a live slice of that length, only read; preset_tree_slot has no precondition.
+    unsafe { sys::preset_tree_slot(tree.as_ptr(), tree.len(), n) }
 }

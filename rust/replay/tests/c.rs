@@ -129,17 +129,17 @@ fn layouts() -> String {
             found, package, name, partition, filename, attr, features, load_address, entry_offset
         }
         preset_feature_view = records::FeatureView { found, from, len }
-        plan_source_view = plans::SourceView { kind, package, bin, features, file }
-        plan_build_view = plans::BuildView { found, package, bin, features }
-        plan_count_view = plans::PlanCounts { components, builds }
-        tree_value = value::Slot { kind, parent, key, len, data }
-        value_spelling = value::Decoded { number, used, written, at }
-        value_segments = value::Segments { number, count, used }
-        value_made = value::ValueRead { number, used, made }
-        text_span = text::Span { from, end }
-        text_scanned = text::Scanned { state, opens, closes }
-        text_laid = text::Lines { number, section, place, lines, used }
-        text_line = text::Line { kind, line, from, end, next, next_line }
+        preset_plan_source_view = plans::SourceView { kind, package, bin, features, file }
+        preset_plan_build_view = plans::BuildView { found, package, bin, features }
+        preset_plan_count_view = plans::PlanCounts { components, builds }
+        preset_tree_value = value::Slot { kind, parent, key, len, data }
+        preset_value_spelling = value::Decoded { number, used, written, at }
+        preset_value_segments = value::Segments { number, count, used }
+        preset_value_made = value::ValueRead { number, used, made }
+        preset_text_span = text::Span { from, end }
+        preset_text_scanned = text::Scanned { state, opens, closes }
+        preset_text_laid = text::Lines { number, section, place, lines, used }
+        preset_text_line = text::Line { kind, line, from, end, next, next_line }
     }
 }
 
@@ -153,8 +153,8 @@ fn structs_are_laid_out_alike() {
         ("PRESET_SCRATCH_MIN", text::SCRATCH_MIN),
         ("PRESET_OUT_MIN(5)", listing::out_min(b"board")),
         // these two are private to the wrappers
-        ("sizeof(tree_at)", 16),
-        ("sizeof(value_number)", 16),
+        ("sizeof(preset_tree_at)", 16),
+        ("sizeof(preset_value_number)", 16),
     ];
     let sizes = sizes.map(|(c, rust)| format!("_Static_assert({c} == {rust}, \"{c}\");\n"));
     let source = Path::new(env!("CARGO_TARGET_TMPDIR")).join("layouts.c");

@@ -37,19 +37,19 @@ static void print_features(size_t made, preset_features list)
 
 static void print_plan(size_t made, uint32_t app, const uint8_t *key, size_t key_n)
 {
-    plan_count_view n = plan_counts(tree, sizeof tree, store, sizeof store, made, app, key, key_n);
+    preset_plan_count_view n = preset_plan_counts(tree, sizeof tree, store, sizeof store, made, app, key, key_n);
     printf("%zu values, stem ", made);
-    print(plan_stem(tree, sizeof tree, store, sizeof store, made, name, name_n, app, key, key_n));
+    print(preset_plan_stem(tree, sizeof tree, store, sizeof store, made, name, name_n, app, key, key_n));
     for (size_t i = 0; i < n.components; i++) {
-        preset_head_view head = plan_head(tree, sizeof tree, store, sizeof store, made, app, key, key_n, i);
-        preset_partition_view at = plan_partition(tree, sizeof tree, store, sizeof store, made, app, key, key_n, i);
+        preset_head_view head = preset_plan_head(tree, sizeof tree, store, sizeof store, made, app, key, key_n, i);
+        preset_partition_view at = preset_plan_partition(tree, sizeof tree, store, sizeof store, made, app, key, key_n, i);
         printf("\ncomponent ");
         print(head.name);
         if (at.found)
             printf(" at %u", (unsigned)at.offset);
     }
     for (size_t i = 0; i < n.builds; i++) {
-        plan_build_view build = plan_build(tree, sizeof tree, store, sizeof store, made, app, key, key_n, i);
+        preset_plan_build_view build = preset_plan_build(tree, sizeof tree, store, sizeof store, made, app, key, key_n, i);
         printf("\nbuild ");
         print(build.package);
         print_features(made, build.features);

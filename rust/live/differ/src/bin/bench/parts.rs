@@ -12,7 +12,7 @@ const HEAD: &str = "\
 | text | bytes | physical lines | joined lines | runs | port | original | port / original |
 |---|---|---|---|---|---|---|---|";
 const NOTE: &str = "
-Medians; both sides take turns in one run. The port's time is `text_lines` and a walk by `text_next`:
+Medians; both sides take turns in one run. The port's time is `preset_text_lines` and a walk by `preset_text_next`:
 it is handed bytes, checks that they are UTF-8, zeroes its scratch of 32769 bytes and lays the text
 into it. The original's time is `logical_lines`: it is handed a `&str`, checked before, and allocates.
 ";
@@ -21,7 +21,7 @@ const VALUES_HEAD: &str = "\
 | value | bytes | values made | runs | port | original | port / original |
 |---|---|---|---|---|---|---|";
 const VALUES_NOTE: &str = "
-The port's time is `value_read`, which zeroes its store of 32768 bytes and its tree room of 65536. The
+The port's time is `preset_value_read`, which zeroes its store of 32768 bytes and its tree room of 65536. The
 original's time is `parse_value`, with the value it makes dropped again.";
 
 const DOCUMENTS_HEAD: &str = "\
