@@ -100,8 +100,8 @@ same-length-6 c = search needs
 returns-6 : tie.Need-returns-6
 returns-6 c = search (needs, open-out)
 
-pub text-lines-spec : {M : Type 1} → statement M
-text-lines-spec =
+pub preset-text-lines-spec : {M : Type 1} → statement M
+preset-text-lines-spec =
     tie.close
     (tie.spec
     zero-requires

@@ -43,8 +43,8 @@ returns-3 c = search (needs, open-told)
 returns-4 : tie.Need-returns-4
 returns-4 c = search (needs, line-told)
 
-pub text-next-spec : {M : Type 1} → statement M
-text-next-spec =
+pub preset-text-next-spec : {M : Type 1} → statement M
+preset-text-next-spec =
     tie.close
     (tie.spec
     next-line-requires

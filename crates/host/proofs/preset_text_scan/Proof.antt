@@ -16,5 +16,5 @@ state-number-requires c κs = search needs
 returns : tie.Need-returns
 returns c = search (needs, scan-out)
 
-pub text-scan-spec : {M : Type 1} → statement M
-text-scan-spec = tie.close (tie.spec scan-requires state-number-requires returns)
+pub preset-text-scan-spec : {M : Type 1} → statement M
+preset-text-scan-spec = tie.close (tie.spec scan-requires state-number-requires returns)

@@ -42,8 +42,8 @@ returns-2 c = search (needs, item-there)
 returns-3 : tie.Need-returns-3
 returns-3 c = search (needs, item-none)
 
-pub tree-child-spec : {M : Type 1} → statement M
-tree-child-spec =
+pub preset-tree-child-spec : {M : Type 1} → statement M
+preset-tree-child-spec =
     tie.close
     (tie.spec
     capacity-requires

@@ -26,7 +26,7 @@ at-of-requires-2 c κs = search needs
 returns-2 : tie.Need-returns-2
 returns-2 c = search (needs, found-there)
 
-pub tree-find-spec : {M : Type 1} → statement M
-tree-find-spec =
+pub preset-tree-find-spec : {M : Type 1} → statement M
+preset-tree-find-spec =
     tie.close
     (tie.spec capacity-requires at-of-requires returns find-child-requires at-of-requires-2 returns-2)

@@ -46,8 +46,8 @@ returns-2 c = search (needs, key-there)
 returns-3 : tie.Need-returns-3
 returns-3 c = search (needs, key-none)
 
-pub tree-next-spec : {M : Type 1} → statement M
-tree-next-spec =
+pub preset-tree-next-spec : {M : Type 1} → statement M
+preset-tree-next-spec =
     tie.close
     (tie.spec
     capacity-requires

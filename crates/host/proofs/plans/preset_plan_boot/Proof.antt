@@ -20,5 +20,5 @@ boot-of-requires c κs = search needs
 returns : tie.Need-returns
 returns c = search (needs, boot-planned)
 
-pub plan-boot-spec : {M : Type 1} → statement M
-plan-boot-spec = tie.close (tie.spec planned-at-requires spec-of-requires boot-of-requires returns)
+pub preset-plan-boot-spec : {M : Type 1} → statement M
+preset-plan-boot-spec = tie.close (tie.spec planned-at-requires spec-of-requires boot-of-requires returns)

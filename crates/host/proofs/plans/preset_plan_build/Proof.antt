@@ -31,8 +31,8 @@ build-of-requires-2 c κs = search needs
 returns-2 : tie.Need-returns-2
 returns-2 c = search (needs, no-build)
 
-pub plan-build-spec : {M : Type 1} → statement M
-plan-build-spec =
+pub preset-plan-build-spec : {M : Type 1} → statement M
+preset-plan-build-spec =
     tie.close
     (tie.spec
     holds-values-requires

@@ -28,7 +28,7 @@ returns c = search (needs, counts-shown)
 returns-2 : tie.Need-returns-2
 returns-2 c = search (needs, no-counts)
 
-pub plan-counts-spec : {M : Type 1} → statement M
-plan-counts-spec =
+pub preset-plan-counts-spec : {M : Type 1} → statement M
+preset-plan-counts-spec =
     tie.close
     (tie.spec holds-values-requires choose-requires builds-requires count-requires returns returns-2)

@@ -20,5 +20,5 @@ head-of-requires c κs = search needs
 returns : tie.Need-returns
 returns c = search (needs, head-planned)
 
-pub plan-head-spec : {M : Type 1} → statement M
-plan-head-spec = tie.close (tie.spec planned-at-requires spec-of-requires head-of-requires returns)
+pub preset-plan-head-spec : {M : Type 1} → statement M
+preset-plan-head-spec = tie.close (tie.spec planned-at-requires spec-of-requires head-of-requires returns)

@@ -20,5 +20,5 @@ load-of-requires c κs = search needs
 returns : tie.Need-returns
 returns c = search (needs, load-planned)
 
-pub plan-load-spec : {M : Type 1} → statement M
-plan-load-spec = tie.close (tie.spec planned-at-requires spec-of-requires load-of-requires returns)
+pub preset-plan-load-spec : {M : Type 1} → statement M
+preset-plan-load-spec = tie.close (tie.spec planned-at-requires spec-of-requires load-of-requires returns)

@@ -31,8 +31,8 @@ partition-of-requires-2 c κs = search needs
 returns-2 : tie.Need-returns-2
 returns-2 c = search (needs, no-target)
 
-pub plan-partition-spec : {M : Type 1} → statement M
-plan-partition-spec =
+pub preset-plan-partition-spec : {M : Type 1} → statement M
+preset-plan-partition-spec =
     tie.close
     (tie.spec
     planned-at-requires

@@ -29,8 +29,8 @@ returns c = search (needs, no-pbp)
 returns-2 : tie.Need-returns-2
 returns-2 c = search (needs, pbp-told)
 
-pub plan-pbp-spec : {M : Type 1} → statement M
-plan-pbp-spec =
+pub preset-plan-pbp-spec : {M : Type 1} → statement M
+preset-plan-pbp-spec =
     tie.close
     (tie.spec
     planned-at-requires

@@ -20,5 +20,5 @@ role-of-requires c κs = search needs
 returns : tie.Need-returns
 returns c = search (needs, role-planned)
 
-pub plan-role-spec : {M : Type 1} → statement M
-plan-role-spec = tie.close (tie.spec planned-at-requires spec-of-requires role-of-requires returns)
+pub preset-plan-role-spec : {M : Type 1} → statement M
+preset-plan-role-spec = tie.close (tie.spec planned-at-requires spec-of-requires role-of-requires returns)

@@ -29,8 +29,8 @@ returns c = search (needs, no-payload)
 returns-2 : tie.Need-returns-2
 returns-2 c = search (needs, payload-told)
 
-pub plan-source-spec : {M : Type 1} → statement M
-plan-source-spec =
+pub preset-plan-source-spec : {M : Type 1} → statement M
+preset-plan-source-spec =
     tie.close
     (tie.spec
     planned-at-requires

@@ -31,8 +31,8 @@ bytes-of-requires-2 c κs = search needs
 returns-2 : tie.Need-returns-2
 returns-2 c = search (needs, no-stem)
 
-pub plan-stem-spec : {M : Type 1} → statement M
-plan-stem-spec =
+pub preset-plan-stem-spec : {M : Type 1} → statement M
+preset-plan-stem-spec =
     tie.close
     (tie.spec
     holds-values-requires

@@ -16,5 +16,5 @@ boot-of-requires c κs = search needs
 returns : tie.Need-returns
 returns c = search (needs, boot-shown)
 
-pub component-boot-spec : {M : Type 1} → statement M
-component-boot-spec = tie.close (tie.spec component-requires boot-of-requires returns)
+pub preset-component-boot-spec : {M : Type 1} → statement M
+preset-component-boot-spec = tie.close (tie.spec component-requires boot-of-requires returns)

@@ -16,5 +16,5 @@ head-of-requires c κs = search needs
 returns : tie.Need-returns
 returns c = search (needs, head-shown)
 
-pub component-head-spec : {M : Type 1} → statement M
-component-head-spec = tie.close (tie.spec component-requires head-of-requires returns)
+pub preset-component-head-spec : {M : Type 1} → statement M
+preset-component-head-spec = tie.close (tie.spec component-requires head-of-requires returns)

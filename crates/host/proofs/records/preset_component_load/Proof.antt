@@ -16,5 +16,5 @@ load-of-requires c κs = search needs
 returns : tie.Need-returns
 returns c = search (needs, load-shown)
 
-pub component-load-spec : {M : Type 1} → statement M
-component-load-spec = tie.close (tie.spec component-requires load-of-requires returns)
+pub preset-component-load-spec : {M : Type 1} → statement M
+preset-component-load-spec = tie.close (tie.spec component-requires load-of-requires returns)

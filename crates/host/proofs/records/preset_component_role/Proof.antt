@@ -16,5 +16,5 @@ role-of-requires c κs = search needs
 returns : tie.Need-returns
 returns c = search (needs, role-shown)
 
-pub component-role-spec : {M : Type 1} → statement M
-component-role-spec = tie.close (tie.spec component-requires role-of-requires returns)
+pub preset-component-role-spec : {M : Type 1} → statement M
+preset-component-role-spec = tie.close (tie.spec component-requires role-of-requires returns)

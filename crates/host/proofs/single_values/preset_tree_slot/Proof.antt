@@ -31,7 +31,7 @@ returns c = search (needs, slot-there)
 returns-2 : tie.Need-returns-2
 returns-2 c = search (needs, slot-none)
 
-pub tree-slot-spec : {M : Type 1} → statement M
-tree-slot-spec =
+pub preset-tree-slot-spec : {M : Type 1} → statement M
+preset-tree-slot-spec =
     tie.close
     (tie.spec capacity-requires show-slot-requires cast-t6 cast-t7 cast-t8 cast-t9 returns returns-2)

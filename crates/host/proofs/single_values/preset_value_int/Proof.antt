@@ -21,5 +21,5 @@ returns c = search (needs, int-told)
 returns-2 : tie.Need-returns-2
 returns-2 c = search (needs, int-refused)
 
-pub value-int-spec : {M : Type 1} → statement M
-value-int-spec = tie.close (tie.spec read-int-requires enum-known-r enum-told returns returns-2)
+pub preset-value-int-spec : {M : Type 1} → statement M
+preset-value-int-spec = tie.close (tie.spec read-int-requires enum-known-r enum-told returns returns-2)

@@ -45,8 +45,8 @@ same-length-3 c = search needs
 returns-3 : tie.Need-returns-3
 returns-3 c = search (needs, key-refused)
 
-pub value-key-spec : {M : Type 1} → statement M
-value-key-spec =
+pub preset-value-key-spec : {M : Type 1} → statement M
+preset-value-key-spec =
     tie.close
     (tie.spec
     zero-requires

@@ -50,8 +50,8 @@ same-length-4 c = search needs
 returns-4 : tie.Need-returns-4
 returns-4 c = search (needs, end-refused)
 
-pub value-key-end-spec : {M : Type 1} → statement M
-value-key-end-spec =
+pub preset-value-key-end-spec : {M : Type 1} → statement M
+preset-value-key-end-spec =
     tie.close
     (tie.spec
     zero-requires

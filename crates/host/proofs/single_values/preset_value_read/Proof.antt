@@ -67,8 +67,8 @@ same-length-6 c = search needs
 returns-3 : tie.Need-returns-3
 returns-3 c = search (needs, fault-out)
 
-pub value-read-spec : {M : Type 1} → statement M
-value-read-spec =
+pub preset-value-read-spec : {M : Type 1} → statement M
+preset-value-read-spec =
     tie.close
     (tie.spec
     zero-requires

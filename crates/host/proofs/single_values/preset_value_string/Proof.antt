@@ -62,8 +62,8 @@ same-length-4 c = search needs
 returns-4 : tie.Need-returns-4
 returns-4 c = search (needs, unended-out)
 
-pub value-string-spec : {M : Type 1} → statement M
-value-string-spec =
+pub preset-value-string-spec : {M : Type 1} → statement M
+preset-value-string-spec =
     tie.close
     (tie.spec
     zero-requires
