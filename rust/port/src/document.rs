@@ -6,9 +6,13 @@ use std::collections::BTreeMap;
 #[repr(C)]
 #[derive(Clone, Copy, Debug, PartialEq, Eq)]
 pub struct Outcome {
+    /// 0 where it is accepted, else the refusal.
     pub number: u32,
+    /// The section of a refusal.
     pub section: u32,
+    /// The place of a refusal.
     pub place: u32,
+    /// How many values were made; 0 where it is refused.
     pub made: u32,
 }
 
@@ -18,13 +22,19 @@ pub const ROOT: u16 = 1;
 /// A value of the tree; strings and keys are decoded bytes.
 #[derive(Clone, Debug, PartialEq, Eq)]
 pub enum Value {
+    /// A string's bytes.
     Str(Vec<u8>),
+    /// An integer.
     Int(i64),
+    /// A boolean.
     Bool(bool),
+    /// Values in their order.
     Array(Vec<Value>),
+    /// Values by key.
     Table(Table),
 }
 
+/// A table, in byte order of key.
 pub type Table = BTreeMap<Vec<u8>, Value>;
 
 mod sys {

@@ -1,4 +1,6 @@
 //! What the proved library exports, and safe wrappers over it.
+#![deny(missing_docs)]
+
 mod boundary;
 pub mod document;
 pub mod listing;

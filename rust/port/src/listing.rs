@@ -5,9 +5,13 @@
 #[repr(C)]
 #[derive(Clone, Copy, Debug, Default, PartialEq, Eq)]
 pub struct Listed {
+    /// 0 where it is accepted, else the refusal.
     pub number: u32,
+    /// The section of a refusal.
     pub section: u32,
+    /// The place of a refusal.
     pub place: u32,
+    /// How many bytes of the output are lines; 0 where it is refused.
     pub written: u32,
 }
 

@@ -8,10 +8,15 @@ use crate::records::{
 #[repr(C)]
 #[derive(Clone, Copy, Debug, Default, PartialEq, Eq)]
 pub struct SourceView {
+    /// 0, 1 or 2.
     pub kind: u32,
+    /// The package.
     pub package: Bytes,
+    /// The name of its binary.
     pub bin: Bytes,
+    /// The features that it is built with.
     pub features: FeatureList,
+    /// The path, as written.
     pub file: Bytes,
 }
 
@@ -19,9 +24,13 @@ pub struct SourceView {
 #[repr(C)]
 #[derive(Clone, Copy, Debug, Default, PartialEq, Eq)]
 pub struct BuildView {
+    /// 1 where it is there, else 0.
     pub found: u32,
+    /// The package.
     pub package: Bytes,
+    /// The name of its binary.
     pub bin: Bytes,
+    /// The features that it is built with.
     pub features: FeatureList,
 }
 
@@ -29,14 +38,18 @@ pub struct BuildView {
 #[repr(C)]
 #[derive(Clone, Copy, Debug, Default, PartialEq, Eq)]
 pub struct PlanCounts {
+    /// How many components.
     pub components: usize,
+    /// How many packages are to be built.
     pub builds: usize,
 }
 
 /// What goes with the boot chain: nothing where `app` is 0, else the application of the key.
 #[derive(Clone, Copy, Debug)]
 pub struct Selection<'a> {
+    /// 0 for the boot chain, whatever the key.
     pub app: u32,
+    /// The application's key.
     pub key: &'a [u8],
 }
 
@@ -118,7 +131,9 @@ impl Selection<'_> {
 /// The rooms that planning left, with what was selected; any others are fine too.
 #[derive(Clone, Copy, Debug)]
 pub struct Planned<'a> {
+    /// As planning left them.
     pub rooms: Rooms<'a>,
+    /// What was planned.
     pub selection: Selection<'a>,
 }
 
@@ -143,18 +158,22 @@ impl Planned<'_> {
         unsafe { view(tree, room, store, length, made, app, key, size, i) }
     }
 
+    /// What component number `i` is, and what it is made from.
     pub fn head(&self, i: usize) -> HeadView {
         self.entry(sys::preset_plan_head, i)
     }
 
+    /// Its features, and where it goes to.
     pub fn role(&self, i: usize) -> RoleView {
         self.entry(sys::preset_plan_role, i)
     }
 
+    /// Whether it is an updater, its memory and its private file.
     pub fn boot(&self, i: usize) -> BootView {
         self.entry(sys::preset_plan_boot, i)
     }
 
+    /// Where it is loaded and entered.
     pub fn load(&self, i: usize) -> LoadView {
         self.entry(sys::preset_plan_load, i)
     }
@@ -174,10 +193,12 @@ impl Planned<'_> {
         self.entry(sys::preset_plan_partition, i)
     }
 
+    /// Build number `i`, in the order of first use.
     pub fn build(&self, i: usize) -> BuildView {
         self.entry(sys::preset_plan_build, i)
     }
 
+    /// How many components and builds there are.
     pub fn counts(&self) -> PlanCounts {
         let (tree, room, store, length, made) = self.rooms.lent();
         let (app, key, size) = self.selection.lent();

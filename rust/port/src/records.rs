@@ -6,9 +6,13 @@ use crate::document::Outcome;
 #[repr(C)]
 #[derive(Clone, Copy, Debug, Default, PartialEq, Eq)]
 pub struct Bytes {
+    /// 0 to 4.
     pub kind: u32,
+    /// The fixed word's number.
     pub word: u32,
+    /// Where it begins in the store.
     pub from: usize,
+    /// How many bytes of the store it has.
     pub len: usize,
 }
 
@@ -16,7 +20,9 @@ pub struct Bytes {
 #[repr(C)]
 #[derive(Clone, Copy, Debug, Default, PartialEq, Eq)]
 pub struct Amount {
+    /// 0 or 1.
     pub kind: u32,
+    /// The number.
     pub number: u32,
 }
 
@@ -25,8 +31,11 @@ pub struct Amount {
 #[repr(C)]
 #[derive(Clone, Copy, Debug, Default, PartialEq, Eq)]
 pub struct FeatureList {
+    /// 0, 1 or 2.
     pub kind: u32,
+    /// Where its text begins in the store, or the place of its array.
     pub from: usize,
+    /// How many bytes its text has.
     pub len: usize,
 }
 
@@ -34,10 +43,15 @@ pub struct FeatureList {
 #[repr(C)]
 #[derive(Clone, Copy, Debug, Default, PartialEq, Eq)]
 pub struct BoardView {
+    /// 1 where it is there, else 0.
     pub found: u32,
+    /// 1 or 2.
     pub chip: u32,
+    /// Its name.
     pub name: Bytes,
+    /// The target triple that packages are built for.
     pub target: Bytes,
+    /// The profile they are built with.
     pub profile: Bytes,
 }
 
@@ -45,13 +59,21 @@ pub struct BoardView {
 #[repr(C)]
 #[derive(Clone, Copy, Debug, Default, PartialEq, Eq)]
 pub struct ImageView {
+    /// 1 where it is there, else 0.
     pub found: u32,
+    /// 1 or 2.
     pub media: u32,
+    /// The media's device number.
     pub media_dev_id: u32,
+    /// The chip's word.
     pub platform: Bytes,
+    /// The product's name.
     pub product: Bytes,
+    /// The image's version.
     pub version: Bytes,
+    /// The media's id.
     pub media_id: Bytes,
+    /// The name of the application that a normal boot jumps to.
     pub app: Bytes,
 }
 
@@ -59,10 +81,15 @@ pub struct ImageView {
 #[repr(C)]
 #[derive(Clone, Copy, Debug, Default, PartialEq, Eq)]
 pub struct PartitionView {
+    /// 1 where it is there, else 0.
     pub found: u32,
+    /// Where it starts on the flash.
     pub offset: u32,
+    /// How many bytes it has.
     pub size: u32,
+    /// Where its name begins in the store.
     pub from: usize,
+    /// How many bytes its name has.
     pub len: usize,
 }
 
@@ -70,12 +97,19 @@ pub struct PartitionView {
 #[repr(C)]
 #[derive(Clone, Copy, Debug, Default, PartialEq, Eq)]
 pub struct HeadView {
+    /// 1 where it is there, else 0.
     pub found: u32,
+    /// 1, 2 or 3.
     pub kind: u32,
+    /// Its name in the image.
     pub name: Bytes,
+    /// The package that is built for it.
     pub package: Bytes,
+    /// The binary's name where it is not the package's.
     pub bin: Bytes,
+    /// The path of a finished file.
     pub file: Bytes,
+    /// Its file name in the image.
     pub filename: Bytes,
 }
 
@@ -83,12 +117,19 @@ pub struct HeadView {
 #[repr(C)]
 #[derive(Clone, Copy, Debug, Default, PartialEq, Eq)]
 pub struct RoleView {
+    /// 1 where it is there, else 0.
     pub found: u32,
+    /// The package's features.
     pub features: FeatureList,
+    /// The features of `pbp_package`.
     pub pbp_features: FeatureList,
+    /// The partition that it goes to, as a reference.
     pub partition: Bytes,
+    /// Its attributes.
     pub attr: Bytes,
+    /// Its attributes in the partition.
     pub target_attr: Bytes,
+    /// Its file name in the partition.
     pub target_filename: Bytes,
 }
 
@@ -96,11 +137,17 @@ pub struct RoleView {
 #[repr(C)]
 #[derive(Clone, Copy, Debug, Default, PartialEq, Eq)]
 pub struct BootView {
+    /// 1 where it is there, else 0.
     pub found: u32,
+    /// 1 where it runs from memory before the flash is written.
     pub updater: u32,
+    /// Where an updater is loaded to.
     pub ram: Amount,
+    /// The path of a finished PBP file.
     pub pbp: Bytes,
+    /// The package that builds its PBP.
     pub pbp_package: Bytes,
+    /// The path of a private file.
     pub private: Bytes,
 }
 
@@ -108,12 +155,19 @@ pub struct BootView {
 #[repr(C)]
 #[derive(Clone, Copy, Debug, Default, PartialEq, Eq)]
 pub struct LoadView {
+    /// 1 where it is there, else 0.
     pub found: u32,
+    /// 1 where a loader is appended after its PBP.
     pub with_ext: u32,
+    /// Bytes kept free between the two.
     pub ext_reserve: u32,
+    /// Where it is loaded to.
     pub load_address: Amount,
+    /// Where it is entered.
     pub entry_point: Amount,
+    /// Where it is entered, as an offset.
     pub entry_offset: Amount,
+    /// The version in its header.
     pub header_version: Amount,
 }
 
@@ -121,14 +175,23 @@ pub struct LoadView {
 #[repr(C)]
 #[derive(Clone, Copy, Debug, Default, PartialEq, Eq)]
 pub struct ApplicationView {
+    /// 1 where it is there, else 0.
     pub found: u32,
+    /// Its key, which is its package.
     pub package: Bytes,
+    /// Its name in the image.
     pub name: Bytes,
+    /// The partition that it goes to.
     pub partition: Bytes,
+    /// Its file name in the image.
     pub filename: Bytes,
+    /// Its attributes.
     pub attr: Bytes,
+    /// The package's features.
     pub features: FeatureList,
+    /// Where it is loaded to.
     pub load_address: Amount,
+    /// Where it is entered, as an offset.
     pub entry_offset: Amount,
 }
 
@@ -136,8 +199,11 @@ pub struct ApplicationView {
 #[repr(C)]
 #[derive(Clone, Copy, Debug, Default, PartialEq, Eq)]
 pub struct Counts {
+    /// How many partitions.
     pub partitions: usize,
+    /// How many components.
     pub components: usize,
+    /// How many applications.
     pub applications: usize,
 }
 
@@ -145,8 +211,11 @@ pub struct Counts {
 #[repr(C)]
 #[derive(Clone, Copy, Debug, Default, PartialEq, Eq)]
 pub struct FeatureView {
+    /// 1 where it is there, else 0.
     pub found: u32,
+    /// Where it begins in the store.
     pub from: usize,
+    /// How many bytes it has.
     pub len: usize,
 }
 
@@ -215,6 +284,9 @@ fn asked(ask: Ask, text: &[u8], name: &[u8], store: &mut [u8], tree: &mut [u8]) 
     unsafe { ask(from, n, board, letters, to, room, slots, places) }
 }
 
+/// Enough for every fixed word.
+pub const WORD_MIN: usize = 32;
+
 /// Writes the fixed word of that number at the head of `out` and zeros after it, and says how
 /// long the word is; 0, and zeros alone, where there is none or `out` is shorter.
 pub fn word(number: u32, out: &mut [u8]) -> usize {
@@ -225,8 +297,11 @@ pub fn word(number: u32, out: &mut [u8]) -> usize {
 /// The two rooms with the count of values that reading left; any others are fine too.
 #[derive(Clone, Copy, Debug)]
 pub struct Rooms<'a> {
+    /// The tree room.
     pub tree: &'a [u8],
+    /// The text store.
     pub store: &'a [u8],
+    /// How many values were made.
     pub made: usize,
 }
 
@@ -240,6 +315,7 @@ impl Rooms<'_> {
         (slots, tree.len(), held, store.len(), self.made)
     }
 
+    /// How many partitions, components and applications there are.
     pub fn counts(&self) -> Counts {
         let (tree, room, store, length, made) = self.lent();
         // SAFETY: two live slices of their lengths, only read; no precondition.
@@ -254,42 +330,49 @@ impl Rooms<'_> {
         unsafe { sys::preset_board(tree, room, store, length, made, board, letters) }
     }
 
+    /// The image's fields.
     pub fn image(&self) -> ImageView {
         let (tree, room, store, length, made) = self.lent();
         // SAFETY: two live slices of their lengths, only read; no precondition.
         unsafe { sys::preset_image(tree, room, store, length, made) }
     }
 
+    /// Partition number `i`.
     pub fn partition(&self, i: usize) -> PartitionView {
         let (tree, room, store, length, made) = self.lent();
         // SAFETY: two live slices of their lengths, only read; no precondition.
         unsafe { sys::preset_partition(tree, room, store, length, made, i) }
     }
 
+    /// What component number `i` is, and what it is made from.
     pub fn head(&self, i: usize) -> HeadView {
         let (tree, room, store, length, made) = self.lent();
         // SAFETY: two live slices of their lengths, only read; no precondition.
         unsafe { sys::preset_component_head(tree, room, store, length, made, i) }
     }
 
+    /// Its features, and where it goes to.
     pub fn role(&self, i: usize) -> RoleView {
         let (tree, room, store, length, made) = self.lent();
         // SAFETY: two live slices of their lengths, only read; no precondition.
         unsafe { sys::preset_component_role(tree, room, store, length, made, i) }
     }
 
+    /// Whether it is an updater, its memory, its PBP and its private file.
     pub fn boot(&self, i: usize) -> BootView {
         let (tree, room, store, length, made) = self.lent();
         // SAFETY: two live slices of their lengths, only read; no precondition.
         unsafe { sys::preset_component_boot(tree, room, store, length, made, i) }
     }
 
+    /// Where it is loaded and entered.
     pub fn load(&self, i: usize) -> LoadView {
         let (tree, room, store, length, made) = self.lent();
         // SAFETY: two live slices of their lengths, only read; no precondition.
         unsafe { sys::preset_component_load(tree, room, store, length, made, i) }
     }
 
+    /// Application number `i` in byte order of key.
     pub fn application(&self, i: usize) -> ApplicationView {
         let (tree, room, store, length, made) = self.lent();
         // SAFETY: two live slices of their lengths, only read; no precondition.

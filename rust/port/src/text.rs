@@ -9,7 +9,9 @@ pub const SCRATCH_MIN: usize = 32_769;
 #[repr(C)]
 #[derive(Clone, Copy, Debug, PartialEq, Eq)]
 pub struct Span {
+    /// Its first byte.
     pub from: usize,
+    /// The place after its last byte.
     pub end: usize,
 }
 
@@ -18,8 +20,11 @@ pub struct Span {
 #[repr(C)]
 #[derive(Clone, Copy, Debug, PartialEq, Eq)]
 pub struct Scanned {
+    /// 0, 1 or 2.
     pub state: u8,
+    /// How many `[` there are.
     pub opens: usize,
+    /// How many `]` there are.
     pub closes: usize,
 }
 
@@ -27,10 +32,15 @@ pub struct Scanned {
 #[repr(C)]
 #[derive(Clone, Copy, Debug, PartialEq, Eq)]
 pub struct Lines {
+    /// 0 where it is accepted, else the refusal.
     pub number: u32,
+    /// The section of a refusal.
     pub section: u32,
+    /// The place of a refusal.
     pub place: u32,
+    /// How many joined lines there are.
     pub lines: u32,
+    /// How many bytes of the scratch they take.
     pub used: usize,
 }
 
@@ -38,11 +48,17 @@ pub struct Lines {
 #[repr(C)]
 #[derive(Clone, Copy, Debug, PartialEq, Eq)]
 pub struct Line {
+    /// 0, 1, 3 or 4.
     pub kind: u32,
+    /// The physical line, from 1, that it begins in.
     pub line: usize,
+    /// Its first byte in the laid text.
     pub from: usize,
+    /// The place after its last byte.
     pub end: usize,
+    /// Where the line after it begins.
     pub next: usize,
+    /// The physical line there.
     pub next_line: usize,
 }
 

@@ -16,7 +16,9 @@ pub const ARRAYS_MAX: usize = 16;
 /// `number` 0: this integer; else 12.
 #[derive(Clone, Copy, Debug, PartialEq, Eq)]
 pub struct Number {
+    /// 0, or 12 where it is no integer.
     pub number: u32,
+    /// The integer.
     pub value: i64,
 }
 
@@ -25,9 +27,13 @@ pub struct Number {
 #[repr(C)]
 #[derive(Clone, Copy, Debug, PartialEq, Eq)]
 pub struct Decoded {
+    /// 0, 8, 9 or 17.
     pub number: u32,
+    /// How many bytes it takes, with its closing quote.
     pub used: usize,
+    /// How many bytes were decoded.
     pub written: usize,
+    /// The backslash's place, for 8.
     pub at: usize,
 }
 
@@ -35,8 +41,11 @@ pub struct Decoded {
 #[repr(C)]
 #[derive(Clone, Copy, Debug, PartialEq, Eq)]
 pub struct Segments {
+    /// 0, 7, 8, 9, 15 or 17.
     pub number: u32,
+    /// How many segments there are.
     pub count: usize,
+    /// How many bytes of the store they take.
     pub used: usize,
 }
 
@@ -44,8 +53,11 @@ pub struct Segments {
 #[repr(C)]
 #[derive(Clone, Copy, Debug, PartialEq, Eq)]
 pub struct ValueRead {
+    /// 0, or the refusal.
     pub number: u32,
+    /// How many bytes of the store are taken.
     pub used: usize,
+    /// How many values were made.
     pub made: usize,
 }
 
@@ -56,10 +68,15 @@ pub struct ValueRead {
 #[repr(C)]
 #[derive(Clone, Copy, Debug, PartialEq, Eq)]
 pub struct Slot {
+    /// 0 to 6.
     pub kind: u32,
+    /// What it hangs under.
     pub parent: u32,
+    /// Where its key begins in the store.
     pub key: u32,
+    /// How many bytes its key has.
     pub len: u32,
+    /// A string's place, an integer's magnitude or a boolean.
     pub data: u64,
 }
 

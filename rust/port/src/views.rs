@@ -2,12 +2,13 @@
 use crate::plans::BuildView;
 use crate::records::{
     Amount, ApplicationView, BoardView, BootView, Bytes, FeatureList, FeatureView, HeadView,
-    ImageView, LoadView, PartitionView, RoleView, Rooms, word,
+    ImageView, LoadView, PartitionView, RoleView, Rooms, WORD_MIN, word,
 };
 use std::fmt::Debug;
 
 /// A view says whether what it shows is there.
 pub trait View: Copy + Debug + Default + PartialEq {
+    /// 1 where it is, else 0.
     fn found(&self) -> u32;
 }
 
@@ -60,6 +61,7 @@ pub fn all<T>(
     }
 }
 
+/// A field that is 0 or 1.
 pub fn flag(number: u32) -> Result<bool, String> {
     match number {
         0 | 1 => Ok(number == 1),
@@ -67,6 +69,7 @@ pub fn flag(number: u32) -> Result<bool, String> {
     }
 }
 
+/// A number that may be absent.
 pub fn amount(a: Amount) -> Result<Option<u32>, String> {
     match (a.kind, a.number) {
         (0, 0) => Ok(None),
@@ -75,13 +78,10 @@ pub fn amount(a: Amount) -> Result<Option<u32>, String> {
     }
 }
 
-// No fixed word is longer.
-const WORD_MAX: usize = 32;
-
 fn fixed(number: u32) -> Result<Vec<u8>, String> {
-    let mut out = [0xAA; WORD_MAX];
+    let mut out = [0xAA; WORD_MIN];
     match word(number, &mut out) {
-        length @ 1..=WORD_MAX => Ok(out[..length].to_vec()),
+        length @ 1..=WORD_MIN => Ok(out[..length].to_vec()),
         length => Err(format!("word {number} has {length} bytes")),
     }
 }

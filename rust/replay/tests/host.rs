@@ -1,6 +1,6 @@
-//! What a host may rely on beside the answers: how deep the stack is used, that threads do not meet, and that the fixed
-//! words are those of the table in docs/HOST.md.
-use port::records::word;
+//! What a host may rely on beside the answers, as docs/HOST.md has it: how deep the stack is used, that threads do not
+//! meet, and the fixed words.
+use port::records::{WORD_MIN, word};
 use replay::generators::mixed;
 use replay::generators::random::Rng;
 use replay::generators::records::random::EXAMPLES;
@@ -8,9 +8,34 @@ use replay::harness::faults::{FUNCTIONS, Function, Input, Said, least};
 use replay::harness::stack::{most, used, within};
 use std::thread;
 
-// docs/HOST.md says so: this is enough, and a fifth of it is left over.
+// Enough for all, and a quarter of it is left over.
 const STACK: usize = 64 * 1_024;
-const MOST: usize = STACK / 5 * 4;
+
+fn paper() -> String {
+    let path = concat!(env!("CARGO_MANIFEST_DIR"), "/../../docs/HOST.md");
+    std::fs::read_to_string(path).expect("the document")
+}
+
+// The cells of each row of the table that begins so.
+fn rows<'a>(paper: &'a str, head: &str) -> Vec<Vec<&'a str>> {
+    let begun = paper.lines().skip_while(|line| !line.starts_with(head));
+    let rows = begun.skip(2).take_while(|line| line.starts_with('|'));
+    let cells = |row: &'a str| {
+        let cells = row.split('|').map(str::trim).collect::<Vec<_>>();
+        cells[1..cells.len() - 1].to_vec()
+    };
+    rows.map(cells).collect()
+}
+
+// What is called, and the bytes of stack that it takes at most.
+fn bounds(paper: &str) -> Vec<(String, usize)> {
+    let rows = rows(paper, "| called | at most |").into_iter();
+    let bound = |row: Vec<&str>| {
+        let kib: usize = row[1].strip_suffix(" KiB")?.parse().ok()?;
+        Some((row[0].replace('`', ""), kib * 1_024))
+    };
+    rows.map(|row| bound(row).expect("a bound")).collect()
+}
 
 fn called(function: &Function, text: &[u8], key: &[u8]) -> (Said, [Vec<u8>; 3]) {
     let name = b"board";
@@ -21,13 +46,16 @@ fn called(function: &Function, text: &[u8], key: &[u8]) -> (Said, [Vec<u8>; 3]) 
 }
 
 #[test]
-fn stack() {
-    for (called, bytes, text) in most() {
+fn stack_is_within_the_bounds_of_the_table() {
+    let (bounds, most) = (bounds(&paper()), most());
+    assert_eq!(bounds.len(), most.len());
+    for (called, bytes, text) in most {
         println!("{called}: {bytes} bytes, {text}");
-        assert!(
-            bytes > 4_096 && bytes <= MOST,
-            "{called}: {bytes} bytes, {text}"
-        );
+        let bound = bounds.iter().find(|(row, _)| row == called);
+        let bound = bound.expect("a row of the table").1;
+        assert!(bytes > 4_096, "{called}: {bytes} bytes, {text}");
+        assert!(bytes <= bound, "{called}: {bytes} bytes, {text}");
+        assert!(bound <= STACK / 4 * 3, "{called}: {bound} bytes");
     }
 }
 
@@ -74,41 +102,31 @@ fn threads_do_not_meet() {
     });
 }
 
-// The rows of the table of words: three numbers in each, with a word after each.
-fn table(paper: &str) -> Vec<(u32, &str)> {
-    let begun = paper
-        .lines()
-        .skip_while(|line| !line.starts_with("| number | word |"));
-    let rows = begun.skip(2).take_while(|line| line.starts_with('|'));
-    let mut words = Vec::new();
-    for row in rows {
-        let cells: Vec<_> = row.split('|').map(str::trim).collect();
-        for pair in cells[1..].chunks_exact(2) {
-            if let Ok(number) = pair[0].parse() {
-                words.push((number, pair[1].trim_matches('`')));
-            }
-        }
-    }
+// Three numbers in each row, with a word after each.
+fn words(paper: &str) -> Vec<(u32, &str)> {
+    let cells = rows(paper, "| number | word |").concat();
+    let pairs = cells.chunks_exact(2);
+    let words = pairs.filter_map(|pair| Some((pair[0].parse().ok()?, pair[1].trim_matches('`'))));
+    let mut words: Vec<_> = words.collect();
     words.sort();
     words
 }
 
 #[test]
 fn words_are_those_of_the_table() {
-    let path = concat!(env!("CARGO_MANIFEST_DIR"), "/../../docs/HOST.md");
-    let paper = std::fs::read_to_string(path).expect("it");
-    let words = table(&paper);
+    let paper = paper();
+    let words = words(&paper);
     assert!(
         words.iter().map(|(number, _)| *number).eq(1..=17),
         "{words:?}"
     );
     for number in 0..40 {
-        let mut out = [0xAA; 32];
+        let mut out = [0xAA; WORD_MIN];
         let length = word(number, &mut out);
         let want = words.iter().find(|(of, _)| *of == number);
         let mut left = want.map_or(vec![], |(_, word)| word.as_bytes().to_vec());
         assert_eq!(length, left.len(), "{number}");
-        left.resize(32, 0);
+        left.resize(WORD_MIN, 0);
         assert_eq!(out[..], left, "{number}");
     }
 }

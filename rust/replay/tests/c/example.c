@@ -10,16 +10,17 @@ static uint8_t store[PRESET_STORE_MIN], tree[PRESET_TREE_MIN];
 static const uint8_t name[] = "board";
 static const size_t name_n = sizeof name - 1;
 
-/* A text's bytes: of the store, of the lent name, or a fixed word; `.aic` after kind 4. */
+/* A text's bytes: of the store, of the lent name, or a fixed word. */
 static void print(preset_bytes b)
 {
-    uint8_t word[32];
-    if (b.kind == 1 || b.kind == 4)
+    uint8_t word[PRESET_WORD_MIN];
+    uint32_t number = b.kind == PRESET_BYTES_STORE_AIC ? PRESET_WORD_AIC : b.word;
+    if (b.kind == PRESET_BYTES_STORE || b.kind == PRESET_BYTES_STORE_AIC)
         fwrite(store + b.from, 1, b.len, stdout);
-    if (b.kind == 2)
+    if (b.kind == PRESET_BYTES_NAME)
         fwrite(name, 1, name_n, stdout);
-    if (b.kind == 3 || b.kind == 4)
-        fwrite(word, 1, preset_word(b.kind == 3 ? b.word : 17, word, sizeof word), stdout);
+    if (b.kind == PRESET_BYTES_WORD || b.kind == PRESET_BYTES_STORE_AIC)
+        fwrite(word, 1, preset_word(number, word, sizeof word), stdout);
 }
 
 /* Each above the last in byte order. */
@@ -42,14 +43,16 @@ static void print_plan(size_t made, uint32_t app, const uint8_t *key, size_t key
     print(preset_plan_stem(tree, sizeof tree, store, sizeof store, made, name, name_n, app, key, key_n));
     for (size_t i = 0; i < n.components; i++) {
         preset_head_view head = preset_plan_head(tree, sizeof tree, store, sizeof store, made, app, key, key_n, i);
-        preset_partition_view at = preset_plan_partition(tree, sizeof tree, store, sizeof store, made, app, key, key_n, i);
+        preset_partition_view at =
+            preset_plan_partition(tree, sizeof tree, store, sizeof store, made, app, key, key_n, i);
         printf("\ncomponent ");
         print(head.name);
         if (at.found)
             printf(" at %u", (unsigned)at.offset);
     }
     for (size_t i = 0; i < n.builds; i++) {
-        preset_plan_build_view build = preset_plan_build(tree, sizeof tree, store, sizeof store, made, app, key, key_n, i);
+        preset_plan_build_view build =
+            preset_plan_build(tree, sizeof tree, store, sizeof store, made, app, key, key_n, i);
         printf("\nbuild ");
         print(build.package);
         print_features(made, build.features);
