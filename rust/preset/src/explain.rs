@@ -18,22 +18,28 @@ const WIDTH: usize = 78;
 pub struct Example {
     /// What stands after `toml` in its fence: `made` where the notation for made texts is used.
     pub tag: &'static str,
+    /// The preset.
     pub preset: &'static str,
+    /// What is told of it.
     pub told: &'static str,
 }
 
 /// What the document says of a number; it shows itself as `preset explain` prints it.
 #[derive(Clone, Debug, PartialEq, Eq)]
 pub struct Entry {
+    /// The refusal's number.
     pub number: u32,
     /// What messages call it.
     pub words: &'static str,
+    /// When it is given.
     pub meaning: &'static str,
     /// The first example's.
     pub preset: &'static str,
     /// The first example's.
     pub told: &'static str,
+    /// How it is put right, in words.
     pub mending: &'static str,
+    /// Every example, the first too.
     pub examples: Vec<Example>,
     /// The first example put right.
     pub mended: Option<&'static str>,

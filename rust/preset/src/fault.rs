@@ -28,6 +28,7 @@ use std::fmt;
 /// ```
 #[derive(Clone, Debug, PartialEq, Eq)]
 pub struct Fault {
+    /// The number, section and place.
     pub refusal: Refusal,
     /// The line, from 1, of the field at fault, else of its entry; none where nothing in the text
     /// is certain to be meant. Of a value over many lines it is the first.
@@ -125,5 +126,11 @@ impl fmt::Display for Fault {
             Some(detail) => write!(f, "{between}{detail}"),
             None => Ok(()),
         }
+    }
+}
+
+impl std::error::Error for Fault {
+    fn source(&self) -> Option<&(dyn std::error::Error + 'static)> {
+        Some(&self.refusal)
     }
 }

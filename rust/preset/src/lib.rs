@@ -22,16 +22,16 @@
 //! the line, the entry and what is wrong there, is a [`Fault`]:
 //!
 //! ```
-//! use preset::{Fault, Preset};
+//! use preset::Preset;
 //!
 //! let text = b"[[partition]]\nname = \"boot\"\noffset = 0\nsize = 4097\n";
-//! let refusal = Preset::validate(text, b"desk").unwrap_err();
-//! let fault = Fault::find(text, refusal, None);
+//! let fault = Preset::check(text, b"desk").unwrap_err();
 //! assert_eq!(fault.line, Some(4));
 //! assert_eq!(fault.entry.as_deref(), Some("partition 0 \"boot\""));
 //! ```
 //!
 //! Keys that the rules do not know are accepted; [`unknown`] finds them.
+#![deny(missing_docs)]
 #![forbid(unsafe_code)]
 
 mod clash;

@@ -21,8 +21,11 @@ use std::iter::once;
 /// What a map shows: the areas in the order of the preset's partitions.
 #[derive(Clone, Debug, Default, PartialEq, Eq)]
 pub struct Drawing {
+    /// The board, its chip and its media.
     pub title: String,
+    /// The product, and what is planned.
     pub subtitle: String,
+    /// The partitions.
     pub areas: Vec<Area>,
     /// What is told of a preset that is not accepted.
     pub refusal: Option<String>,
@@ -31,25 +34,35 @@ pub struct Drawing {
 /// A partition with what is written into it; `faulty` where the refusal names it.
 #[derive(Clone, Debug, Default, PartialEq, Eq)]
 pub struct Area {
+    /// Its name, escaped.
     pub name: String,
+    /// Where it starts on the flash.
     pub offset: u64,
+    /// How many bytes it has.
     pub size: u64,
+    /// What is written into it.
     pub lands: Vec<Land>,
+    /// Whether the refusal names it.
     pub faulty: bool,
 }
 
 /// A component or an application that lands in an area.
 #[derive(Clone, Debug, PartialEq, Eq)]
 pub struct Land {
+    /// What it is.
     pub kind: LandKind,
+    /// Its name, escaped.
     pub name: String,
 }
 
 /// `Chosen` is the application that the plan is for.
 #[derive(Clone, Copy, Debug, PartialEq, Eq)]
 pub enum LandKind {
+    /// A component of the boot chain.
     Component,
+    /// An application that is not chosen.
     Application,
+    /// The application that the plan is for.
     Chosen,
 }
 

@@ -5,11 +5,17 @@ use std::fmt;
 /// The part of a preset that a refusal speaks of.
 #[derive(Clone, Copy, Debug, PartialEq, Eq, Hash)]
 pub enum Section {
+    /// The text itself, before any table.
     Text,
+    /// `[board]`.
     Board,
+    /// `[image]`.
     Image,
+    /// `[[partition]]`.
     Partition,
+    /// `[[component]]`.
     Component,
+    /// `[apps.KEY]`.
     Application,
 }
 
@@ -47,6 +53,7 @@ impl Section {
 pub struct Refusal {
     /// As `preset explain` and docs/REFUSALS.md have it.
     pub number: u32,
+    /// What it speaks of.
     pub section: Section,
     /// In `Section::Text` the line from 1, or 0 for none; in lists the entry from 0, applications
     /// in byte order of key, and 0 too where no entry is meant.

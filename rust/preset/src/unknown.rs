@@ -27,6 +27,7 @@ pub struct Unknown {
     pub line: Option<usize>,
     /// The section, the entry's number from 0 and its name, as of a fault; none at the root.
     pub entry: Option<String>,
+    /// The key, as it stands in the text.
     pub key: String,
     /// The key of that table that it is most likely meant to be.
     pub near: Option<&'static str>,

@@ -1,4 +1,5 @@
 //! The ways in, each from a text: read, validate, plan, and the listing.
+use crate::fault::Fault;
 use crate::owned;
 use crate::refusal::Refusal;
 use crate::rooms::{Held, promised};
@@ -37,6 +38,37 @@ impl Preset {
         Ok(promised(owned::preset(held.rooms(), name)))
     }
 
+    /// As [`Preset::validate`], and a refusal is told with where in the text it points.
+    ///
+    /// ```
+    /// use preset::Preset;
+    ///
+    /// let text = b"[[partition]]\nname = \"boot\"\noffset = 0\nsize = 0\n";
+    /// let fault = Preset::check(text, b"desk").unwrap_err();
+    /// assert_eq!((fault.refusal.number, fault.line), (44, Some(4)));
+    /// assert_eq!(fault.entry.as_deref(), Some("partition 0 \"boot\""));
+    /// ```
+    pub fn check(text: &[u8], name: &[u8]) -> Result<Preset, Fault> {
+        let found = |refusal| Fault::find(text, refusal, None);
+        Preset::validate(text, name).map_err(found)
+    }
+
+    /// As [`Preset::plan`], and a refusal is told with where in the text it points.
+    ///
+    /// ```
+    /// use preset::{Preset, Selection};
+    ///
+    /// let text = std::fs::read("../../presets/example.toml").unwrap();
+    /// let lamp = Selection::App("lamp".into());
+    /// let fault = Preset::check_plan(&text, b"example", &lamp).unwrap_err();
+    /// assert_eq!(fault.refusal.number, 80);
+    /// assert!(fault.to_string().contains("\"lamp\""));
+    /// ```
+    pub fn check_plan(text: &[u8], name: &[u8], selection: &Selection) -> Result<ImagePlan, Fault> {
+        let found = |refusal| Fault::find(text, refusal, selection.package());
+        Preset::plan(text, name, selection).map_err(found)
+    }
+
     /// The plan of what is selected: refuses with 1 to 81.
     ///
     /// ```
@@ -52,11 +84,7 @@ impl Preset {
     /// assert_eq!(Preset::plan(&text, b"example", &other).unwrap_err().number, 80);
     /// ```
     pub fn plan(text: &[u8], name: &[u8], selection: &Selection) -> Result<ImagePlan, Refusal> {
-        let key = match selection {
-            Selection::Bootloader => None,
-            Selection::App(package) => Some(package.as_bytes()),
-        };
-        let chosen = key.into();
+        let chosen = selection.package().map(str::as_bytes).into();
         let held = Held::by(|store, tree| port::plans::plan(text, name, chosen, store, tree))?;
         Ok(promised(owned::plan(held.rooms(), name, chosen)))
     }

@@ -73,6 +73,23 @@ fn words_are_the_librarys() {
     }
 }
 
+// Each shows itself by its word and is found by it; of another word the error names them all.
+#[test]
+fn words_are_shown_and_found() {
+    assert!(Chip::ALL.iter().all(|c| c.to_string().parse() == Ok(*c)));
+    assert!(Media::ALL.iter().all(|m| m.to_string().parse() == Ok(*m)));
+    let kinds = ComponentKind::ALL.iter();
+    assert!(kinds.clone().all(|k| k.to_string().parse() == Ok(*k)));
+    assert_eq!(format!("{:>6}|", Chip::D13x), "  d13x|");
+    let unknown = |error: UnknownWord| error.to_string();
+    let media = "nor\n".parse::<Media>().map_err(unknown);
+    let said = "unknown media \"nor\\n\"; there are spi-nor, spi-nand";
+    assert_eq!(media, Err(said.into()));
+    let kind = "App".parse::<ComponentKind>().map_err(unknown);
+    let said = "unknown kind \"App\"; there are app, pbp, raw";
+    assert_eq!(kind, Err(said.into()));
+}
+
 // One erase block is a size; half of one more is none.
 fn blocks(chip: Chip) {
     let number = |size: u32| {
@@ -141,6 +158,34 @@ fn refusals_in_words() {
         refusal.to_string(),
         "refused 80 at applications: application not declared"
     );
+}
+
+// From a text to records or a fault in one call, and the fault is an error whose source is the refusal.
+#[test]
+fn faults_are_errors() {
+    let checked = |text: &str| -> Result<Preset, Box<dyn std::error::Error>> {
+        Ok(Preset::check(text.as_bytes(), b"n")?)
+    };
+    let preset = checked(PRESETS[0]).expect("accepted");
+    assert_eq!(Preset::validate(PRESETS[0].as_bytes(), b"n"), Ok(preset));
+    let error = checked("[[partition]]\nname = 1\n").expect_err("refused");
+    let source = error.source().and_then(|e| e.downcast_ref::<Refusal>());
+    let number = source.map(|refusal| refusal.number);
+    assert_eq!((number, error.is::<Fault>()), (Some(20), true));
+}
+
+#[test]
+fn plans_are_checked_in_one_call() {
+    let text = PRESETS[0].as_bytes();
+    for key in [None, Some("desk"), Some("lamp")] {
+        let selection = key.map_or(Selection::Bootloader, |k| Selection::App(k.into()));
+        assert_eq!(selection.package(), key);
+        let plan = Preset::check_plan(text, b"n", &selection);
+        let want = Preset::plan(text, b"n", &selection);
+        let want = want.map_err(|refusal| Fault::find(text, refusal, key));
+        assert_eq!(plan, want);
+        assert_eq!(plan.is_ok(), key != Some("lamp"));
+    }
 }
 
 // A name that is not UTF-8 counts as `board`, an empty one stays.
