@@ -8,9 +8,10 @@ mod json;
 mod paper;
 
 use json::Json;
+use paper::Field;
 use preset::{Preset, explain};
-use replay::generators::mixed;
 use replay::generators::random::{Rng, turns};
+use replay::generators::{large, mixed};
 use std::io::Write;
 use std::path::{Path, PathBuf};
 use std::process::{Command, Stdio};
@@ -64,41 +65,47 @@ fn presets_and_mended_examples_pass() {
     }
 }
 
-// What a schema might take for a fault and 01 does not.
-fn odd() -> Vec<String> {
+// The example with one edit, for each of some.
+fn edited(edits: &[(&str, &str)]) -> Vec<String> {
     let example = std::fs::read_to_string(root().join("presets/example.toml")).expect("a text");
-    let (head, tail) = example.split_once("[[component]]\n").expect("a component");
-    let plural = example.replace("[[partition]]", "[[partitions]]");
-    let key = "k".repeat(33);
-    vec![
-        format!("partitions = 5\ncomponents = [\"x\", {{}}]\n{example}").replace(", {}", ""),
-        plural.replace("[[component]]", "[[components]]"),
-        format!("extra = [1, \"a\"]\n[board.more]\nx = true\n{example}\nmore = 1\n[[other]]\n"),
-        format!(
-            "{example}[image]\nplatform = \"d13x\"\nmedia = \"spi-nor\"\napp = \"{}\"\n",
-            "a".repeat(32)
-        ),
-        example
-            .replace(
-                "chip = \"d13x\"",
-                "chip = \"d21x\"\ntarget = \"my-riscv64-riscv6\"",
-            )
-            .replace("0x40000", "0x100000"),
-        example.replace(
-            "chip = \"d13x\"",
-            "target = \"riscv64-riscv32\"\nname = \"\"",
-        ),
-        format!(
-            "{head}[[component]]\nfeatures = []\next_reserve = 0x200\nram = 0xFFFFFFFF\n{tail}"
-        ),
-        format!("{example}[apps.{key}]\nname = \"x\"\npartition = \"boot\"\nload_address = 0\n"),
-        format!("{example}[apps.\"é\"]\npartition = \"boot\"\nfeatures = [\"\", \"a\", \"a\"]\n"),
-    ]
+    let edit = |(old, new): &(&str, &str)| {
+        assert!(example.contains(old), "{old}");
+        example.replace(old, new)
+    };
+    edits.iter().map(edit).collect()
 }
 
+// What a schema might take for a fault and 01 does not.
+fn odd() -> Vec<String> {
+    let (chip, desk) = ("chip = \"d13x\"", "[apps.desk]\npartition = \"profiles\"");
+    let image = "[image]\nplatform = \"d13x\"\napp = \"a name that has thirty-two bytes\"\n";
+    let long = "[apps.a-key-of-more-than-thirty-two-bytes]\nname = \"x\"\npartition = \"boot\"\n";
+    edited(&[
+        ("[board]", "partitions = 5\ncomponents = [\"x\"]\n[board]"),
+        ("[[partition]]", "[[partitions]]"),
+        ("[[component]]", "[[components]]"),
+        (
+            "[board]",
+            "more = [1, \"a\"]\n[[other]]\n[board.more]\nx = true\n[board]",
+        ),
+        (chip, "name = \"\"\ntarget = \"riscv64-riscv32\""),
+        (desk, &(image.to_owned() + desk)),
+        (desk, &(long.to_owned() + desk)),
+        (
+            "kind = \"app\"",
+            "features = []\next_reserve = 0x200\nram = 0xFFFFFFFF",
+        ),
+        (
+            "\"pan tilt\"",
+            "[\"\", \"a\", \"a\"]\nload_address = 0\nkind = 7",
+        ),
+    ])
+}
+
+// Those with all lists full are at every limit.
 #[test]
 fn odd_presets_that_are_accepted_pass() {
-    for text in odd() {
+    for text in odd().into_iter().chain([large::full(), large::named()]) {
         let read = Preset::validate(text.as_bytes(), b"");
         assert!(read.is_ok(), "{read:?}\n{text}");
         assert!(passes(text.as_bytes()), "{text}");
@@ -110,16 +117,16 @@ fn random_presets_that_are_accepted_pass() {
     let mut r = Rng::new(77);
     let texts = (0..turns(3_000)).map(|_| mixed::text(&mut r));
     let accepted = texts.filter(|text| Preset::validate(text, b"").is_ok());
-    let passed = accepted.map(|text| {
+    let mut met = 0;
+    for text in accepted {
         assert!(passes(&text), "{}", String::from_utf8_lossy(&text));
-    });
-    assert!(passed.count() > turns(300));
+        met += 1;
+    }
+    assert!(met > turns(300), "{met}");
 }
 
-// Each is one edit away from the example.
 fn wrong() -> Vec<String> {
-    let example = std::fs::read_to_string(root().join("presets/example.toml")).expect("a text");
-    let edits = [
+    edited(&[
         ("chip = \"d13x\"", "chip = \"d12x\""),
         ("chip = \"d13x\"", "chip = 13"),
         ("name = \"boot\"\n", ""),
@@ -143,9 +150,7 @@ fn wrong() -> Vec<String> {
             "[[partition]]\nname = \"boot\"\n",
             "[[partitions]]\n[[partition]]\n",
         ),
-    ];
-    let edit = |(old, new)| example.replacen(old, new, 1);
-    edits.into_iter().map(edit).collect()
+    ])
 }
 
 #[test]
@@ -187,8 +192,7 @@ fn known() -> Vec<(String, String)> {
 
 #[test]
 fn fields_are_the_crates_and_no_other() {
-    let fields = HEADINGS.into_iter().flat_map(paper::fields);
-    let own = fields.map(|field| {
+    let own = all().into_iter().map(|(_, field)| {
         let want = match field.kind.split(':').next() {
             Some("text" | "word") => "Text",
             Some("number") => "Integer",
@@ -202,30 +206,55 @@ fn fields_are_the_crates_and_no_other() {
     assert_eq!(own.len(), 44);
 }
 
-// A list of lists is no value of any field; what is needed comes first.
-fn misused(header: &str, key: &str) -> String {
-    let needed = match header {
+// Every field, with the heading of its section.
+fn all() -> Vec<(&'static str, Field)> {
+    let each = |heading| {
+        paper::fields(heading)
+            .into_iter()
+            .map(move |f| (heading, f))
+    };
+    HEADINGS.into_iter().flat_map(each).collect()
+}
+
+// A section with a line after what it needs.
+fn section(heading: &str, line: &str) -> String {
+    let needed = match heading {
         "[[partition]]" => "name = \"a\"\noffset = 0\nsize = 0\n",
         "[[component]]" => "name = \"a\"\n",
         _ => "",
     };
-    format!("{header}\n{needed}{key} = [[]]\n")
+    format!("{heading}\n{needed}{line}\n")
 }
 
+// A list of lists is no value of any field.
 #[test]
 fn keys_of_the_schema_are_read_by_the_library() {
-    let mut met = 0;
-    for heading in HEADINGS {
-        for field in paper::fields(heading) {
-            let text = misused(heading, &field.key);
-            let refused = Preset::read(text.as_bytes(), b"").map_err(|refusal| refusal.number);
-            assert_eq!(refused.err(), Some(20), "{text}");
-            assert!(!passes(text.as_bytes()), "{text}");
-            met += 1;
-        }
+    for (heading, Field { key, .. }) in all() {
+        let text = section(heading, &format!("{key} = [[]]"));
+        let refused = Preset::read(text.as_bytes(), b"").map_err(|refusal| refusal.number);
+        assert_eq!(refused.err(), Some(20), "{text}");
+        assert!(!passes(text.as_bytes()), "{text}");
     }
-    assert_eq!(met, 44);
-    assert!(Preset::read(misused("[board]", "other").as_bytes(), b"").is_ok());
+    let other = section("[board]", "other = [[]]");
+    assert!(Preset::read(other.as_bytes(), b"").is_ok());
+}
+
+// What is written as the default says is read as what is not written.
+#[test]
+fn defaults_are_the_librarys() {
+    let read = |text: String| Preset::read(text.as_bytes(), b"").expect("records");
+    let mut met = 0;
+    for (heading, field) in all() {
+        let default = field.default().map(|value| value.written());
+        let line = default.map_or(String::new(), |value| format!("{} = {value}", field.key));
+        met += usize::from(!line.is_empty());
+        assert_eq!(
+            read(section(heading, &line)),
+            read(section(heading, "")),
+            "{line}"
+        );
+    }
+    assert_eq!(met, 16);
 }
 
 // Prints whether each of some values passes a schema.

@@ -136,8 +136,8 @@ impl Field {
         }
     }
 
-    // A default that is the same in every preset.
-    fn default(&self) -> Option<Json> {
+    /// A default that is the same in every preset.
+    pub fn default(&self) -> Option<Json> {
         let features = self.kind == "features";
         match (&*self.default, &quoted(&self.default)[..]) {
             ("empty", _) if features => Some(Json::List(Vec::new())),
