@@ -272,7 +272,8 @@ preset_value_spelling preset_value_string(const uint8_t *s, size_t s_n, uint8_t 
 preset_value_segments preset_value_key(const uint8_t *s, size_t s_n, uint8_t *store, size_t store_n);
 /* Where segment i of that key ends among its bytes, 0 where there is none; the store is zero then. */
 size_t preset_value_key_end(const uint8_t *s, size_t s_n, uint8_t *store, size_t store_n, size_t i);
-/* Reads one value into both rooms; they are of the same least lengths as for a text. */
+/* Reads one value into both rooms, which are as long as for a text; or 17, 1, or what is wrong with it, and both are
+   zero. */
 preset_value_made preset_value_read(const uint8_t *s, size_t s_n, uint8_t *store, size_t store_n,
                                     uint8_t *tree, size_t tree_n);
 
