@@ -1,7 +1,7 @@
 //! The schema, made from the tables of docs/FORMAT.md: each field is said there, and nowhere else.
 use crate::json::Json;
 
-pub const PAPER: &str = include_str!("../../../../docs/FORMAT.md");
+const PAPER: &str = include_str!("../../../../docs/FORMAT.md");
 
 /// A row of a table of fields.
 pub struct Field {
