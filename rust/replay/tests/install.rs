@@ -183,15 +183,21 @@ fn a_symbolic_link_runs_it_from_elsewhere() {
     assert_eq!(got, format!("my.toml: {OK}"));
 }
 
-// A stand-in for the program tells what it was handed.
-#[test]
-fn the_program_is_told_how_it_was_called() {
-    let (tree, folder) = (copy("called"), empty("calling"));
+// A copy in which nothing is built: a script stands in for the program, and cargo is not asked.
+fn with_stand_in(name: &str, text: &str) -> (PathBuf, PathBuf) {
+    let tree = copy(name);
     let program = tree.join("program");
-    script(&program, "#!/bin/sh\necho \"$PRESET_CALLED\" \"$@\"\n");
+    script(&program, text);
     let build = format!("#!/bin/sh\necho \"$@\" >>built\necho {}\n", word(&program));
     script(&tree.join("scripts/build"), &build);
     script(&tree.join("rust/cross"), "#!/bin/sh\nexec \"$@\"\n");
+    (tree, program)
+}
+
+#[test]
+fn the_program_is_told_how_it_was_called() {
+    let tells = "#!/bin/sh\necho \"$PRESET_CALLED\" \"$@\"\n";
+    let ((tree, program), folder) = (with_stand_in("called", tells), empty("calling"));
     symlink(tree.join("preset"), folder.join("linked")).expect("target/ can be written");
     let runner = "CARGO_TARGET_X86_64_UNKNOWN_LINUX_GNU_RUNNER";
     let called = |words: &[&str]| done(run(&folder, "./linked", words).env_remove(runner));
@@ -459,6 +465,21 @@ fn packagers_have_it_below_a_folder_of_theirs() {
     assert!(told.expect("a file").starts_with("prefix=/usr\n"));
     at(&["--remove", "/usr"]);
     assert_eq!(below(&folder), [""; 0]);
+}
+
+#[test]
+fn on_another_machine_the_emulator_is_named() {
+    let (tree, _) = with_stand_in("machine", "#!/bin/sh\n");
+    let prefix = empty("emulated");
+    script(&tree.join("uname"), "#!/bin/sh\necho aarch64\n");
+    let path = format!("{}:{}", word(&tree), *NO_KIT);
+    let said = said(run(&tree, "./install", &[word(&prefix)]).env("PATH", path));
+    assert_eq!(
+        (said.status, said.err.lines().count()),
+        (Some(0), 1),
+        "{said:?}"
+    );
+    assert!(said.err.contains("needs an emulator"), "{said:?}");
 }
 
 #[test]
