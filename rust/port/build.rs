@@ -71,8 +71,8 @@ fn missing(folders: &[PathBuf]) -> String {
     let folders = folders.iter().map(|folder| folder.display().to_string());
     let folders: Vec<String> = folders.collect();
     format!(
-        "{NAME} is missing in {}: at the repository's root, `git checkout -- prebuilt` brings the prebuilt one back, and \
-         `rt staticlib host` of the Rattle kit proves and builds one in target/staticlib",
+        "{NAME} is missing in {}: at the repository's root, `git checkout -- prebuilt` brings the prebuilt one back, \
+         and `rt staticlib host` of the Rattle kit proves and builds one in target/staticlib",
         folders.join(" and ")
     )
 }

@@ -1,6 +1,6 @@
-//! The way in: ./preset, ./install and cargo with the prebuilt archive, with a kit that only pretends to prove, and with
-//! none. All of it is done in copies of the repository, whose prebuilt archive is the one that these tests are linked
-//! with.
+//! The way in: ./preset, ./install and cargo with the prebuilt archive, with a kit that only pretends to prove, and
+//! with none. All of it is done in copies of the repository, whose prebuilt archive is the one that these tests are
+//! linked with.
 use port::ARCHIVE;
 use std::fs;
 use std::os::unix::fs::{PermissionsExt, symlink};
