@@ -281,27 +281,39 @@ fn the_check_of_the_prebuilt_archive_sees_what_differs() {
         let said = said(command.env("PATH", &path).env("MACHINE", machine));
         (said.status, said.out)
     };
+    let file = |name: &str| tree.join("prebuilt").join(name);
+    let put =
+        |name: &str, bytes: &[u8]| fs::write(file(name), bytes).expect("target/ can be written");
+    let same = "prebuilt/libhost.a is the archive that was proved\n";
+    assert_eq!(check(""), (Some(0), same.into()));
+
+    // another archive, with a SHA-256 of its own: only bytes that were made alike can be held together
+    let archive = fs::read(file("libhost.a")).expect("an archive");
+    put("libhost.a", &[archive.as_slice(), b"more"].concat());
+    let sums = "cd prebuilt && sha256sum libhost.a >SHA256SUMS";
+    done(run(&tree, "sh", &["-c", sums]).env("PATH", &path));
+    let (status, out) = check("");
+    assert!(
+        status == Some(1) && out.contains("not the archive"),
+        "{out}"
+    );
     let (status, out) = check("aarch64");
     assert!(
         status == Some(0) && out.contains("was not compared"),
         "{out}"
     );
-    let same = "prebuilt/libhost.a is the archive that was proved";
-    assert_eq!(check(""), (Some(0), format!("{same}\n")));
-    let made = tree.join("prebuilt/MADE");
-    let text = fs::read_to_string(&made).expect("what it was made from");
-    fs::write(&made, text.replace("kit of", "older kit of")).expect("target/ can be written");
+    let made = fs::read_to_string(file("MADE")).expect("what it was made from");
+    put("MADE", made.replace("kit of", "older kit of").as_bytes());
     let kits = "it was made by the kit older kit of the tests, and this is kit of the tests";
-    assert_eq!(check(""), (Some(0), format!("{same}, though {kits}\n")));
-    fs::write(tree.join("prebuilt/libhost.a"), "").expect("target/ can be written");
     let (status, out) = check("");
-    assert!(status == Some(1) && out.contains(kits), "{out}");
-    assert!(
-        out.contains("SHA-256") && out.contains("not the archive"),
-        "{out}"
-    );
+    assert!(status == Some(0) && out.contains(kits), "{out}");
+
+    // its own sum and its sources have to fit on every machine
+    put("libhost.a", b"");
+    let (status, out) = check("aarch64");
+    assert!(status == Some(1) && out.contains("SHA-256"), "{out}");
     fs::write(tree.join("crates/host/src/new.rt"), "").expect("target/ can be written");
-    let (status, out) = check("");
+    let (status, out) = check("aarch64");
     assert!(
         status == Some(1) && out.contains("digest of the sources"),
         "{out}"
