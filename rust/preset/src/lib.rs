@@ -30,7 +30,7 @@
 //! assert_eq!(fault.entry.as_deref(), Some("partition 0 \"boot\""));
 //! ```
 //!
-//! Keys that the rules do not know are accepted; [`unknown`] finds them.
+//! Slips that the rules accept, such as a misspelled key or a lost header, are found by [`notes`].
 #![deny(missing_docs)]
 #![forbid(unsafe_code)]
 
@@ -43,6 +43,7 @@ mod fields;
 mod lines;
 pub mod map;
 mod near;
+pub mod notes;
 pub mod owned;
 pub mod picture;
 mod refusal;

@@ -60,9 +60,23 @@ impl Tree {
 
     /// An array's items.
     pub fn items(&self, array: usize) -> Vec<usize> {
-        let Held { tree, made, .. } = &self.0;
         let own = under(array).filter(|_| self.kind(array) == Kind::Array);
-        let after = |from| document::child(tree, *made, own?, from);
+        own.map_or(Vec::new(), |own| self.hung(own))
+    }
+
+    /// Every value that a table has had, or the root for none, in the order made: also those that newer ones of the
+    /// same key have replaced.
+    pub fn ever(&self, table: Option<usize>) -> Vec<usize> {
+        let own = match table {
+            None => Some(ROOT),
+            Some(table) => under(table).filter(|_| self.kind(table) == Kind::Table),
+        };
+        own.map_or(Vec::new(), |own| self.hung(own))
+    }
+
+    fn hung(&self, parent: u16) -> Vec<usize> {
+        let Held { tree, made, .. } = &self.0;
+        let after = |from| document::child(tree, *made, parent, from);
         std::iter::successors(after(0), |n| after(n + 1)).collect()
     }
 
@@ -116,6 +130,11 @@ impl Tree {
             6 => Some(-i128::from(data)),
             _ => None,
         }
+    }
+
+    pub fn boolean(&self, value: usize) -> Option<bool> {
+        let Slot { kind, data, .. } = self.slot(value);
+        (kind == 3).then_some(data == 1)
     }
 
     /// What a section's entries stand in, or its one table.

@@ -1,21 +1,13 @@
 //! Keys that the rules do not know. They are no fault: a preset is accepted as if they were not there, and so nothing
 //! else tells that one is misspelled.
-use crate::entry::named;
 use crate::fields::fields;
 use crate::lines;
 use crate::near::near;
+use crate::notes::tables::{SECTIONS, Table, tables};
 use crate::refusal::Section;
 use crate::shown::quoted;
 use crate::tree::{Tree, roots};
 use std::fmt;
-
-const SECTIONS: [Section; 5] = [
-    Section::Board,
-    Section::Image,
-    Section::Partition,
-    Section::Component,
-    Section::Application,
-];
 
 /// A key that is passed over, with the table that it stands in.
 ///
@@ -68,58 +60,46 @@ pub fn unknown(text: &[u8]) -> impl ExactSizeIterator<Item = Unknown> {
 type Found = Vec<(usize, Unknown)>;
 
 fn all(tree: &Tree) -> Found {
-    let known = SECTIONS.map(|section| read(tree, section)).concat();
-    let mut out = strange(tree, tree.top(), known, None);
-    for section in SECTIONS {
-        for (place, table) in tables(tree, section).into_iter().enumerate() {
-            let known = fields(section).iter().map(|(key, _)| *key).collect();
-            let entry = match section {
-                Section::Board | Section::Image => section.name().into(),
-                _ => named(tree, section, place, Some(table)),
-            };
-            out.extend(strange(tree, tree.entries(table), known, Some(entry)));
-        }
-    }
-    out
+    let each = tables(tree).into_iter();
+    each.flat_map(|table| strange(tree, table)).collect()
 }
 
-// The keys of the root that a section is read from in this text: after one that is there no other counts.
-fn read(tree: &Tree, section: Section) -> &'static [&'static str] {
-    let keys = roots(section);
-    let there = keys.iter().position(|key| tree.root(key).is_some());
-    there.map_or(keys, |at| &keys[..=at])
-}
-
-// What a section's fields are read from, if it is a table.
-fn tables(tree: &Tree, section: Section) -> Vec<usize> {
-    match section {
-        Section::Board | Section::Image => tree.whole(section).into_iter().collect(),
-        _ => tree.list(section),
-    }
-}
-
-// Those of a table's values whose keys are not among the known.
-fn strange(
-    tree: &Tree,
-    values: Vec<usize>,
-    known: Vec<&'static str>,
-    entry: Option<String>,
-) -> Found {
+// Those of a table's values whose keys the rules do not know.
+fn strange(tree: &Tree, table: Table) -> Found {
+    let values = table.value.map_or(tree.top(), |value| tree.entries(value));
     let each = values.into_iter().filter_map(|value| {
         let key = tree.key(value)?;
-        let strange = !known.contains(&key.as_str());
-        let unknown = || Unknown {
+        let known = table.known.as_ref().filter(|_| !table.knows(&key))?;
+        let unknown = Unknown {
             line: None,
-            entry: entry.clone(),
-            near: near(&key, &known),
+            entry: table.entry.clone(),
+            near: near(&key, known),
             key,
         };
-        strange.then(unknown).map(|unknown| (value, unknown))
+        Some((value, unknown))
     });
     each.collect()
 }
 
+fn header(section: Section) -> &'static str {
+    match section {
+        Section::Text => "",
+        Section::Board => "[board]",
+        Section::Image => "[image]",
+        Section::Partition => "[[partition]]",
+        Section::Component => "[[component]]",
+        Section::Application => "[apps.KEY]",
+    }
+}
+
 impl Unknown {
+    // Where the rules do know it: the headers of other tables.
+    fn elsewhere(&self) -> Vec<&'static str> {
+        let known = |section: &Section| fields(*section).iter().any(|(key, _)| self.key == *key);
+        let others = SECTIONS.into_iter().filter(known);
+        others.map(header).collect()
+    }
+
     // A key of the root that the rules know is passed over beside another one only.
     fn doubles(&self) -> bool {
         let known = |section: Section| roots(section).contains(&self.key.as_str());
@@ -138,7 +118,14 @@ impl fmt::Display for Unknown {
                 write!(f, "key {key} is passed over, since there is {other:?}")
             }
             Some(near) => write!(f, "unknown key {key} is passed over ({near}?)"),
-            None => write!(f, "unknown key {key} is passed over"),
+            None => {
+                let known = self.elsewhere().join(" and ");
+                let known = match known.as_str() {
+                    "" => known,
+                    _ => format!(" (a key of {known})"),
+                };
+                write!(f, "unknown key {key} is passed over{known}")
+            }
         }
     }
 }

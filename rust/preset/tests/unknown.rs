@@ -77,17 +77,17 @@ fn every_section() {
     assert_eq!(told(text), want);
 }
 
-// A field is known in its own table only.
+// A field is known in its own table only, and it is told which one that is.
 #[test]
 fn fields_in_the_wrong_table() {
     let text = "chip = \"d13x\"\n[board]\nmedia = \"spi-nor\"\n[image]\nchip = \"d13x\"\n\
                 [[partition]]\nfilename = \"x\"\n[apps.k]\nkind = \"app\"\n";
     let want = [
-        "1: unknown key \"chip\" is passed over",
-        "3: board: unknown key \"media\" is passed over",
-        "5: image: unknown key \"chip\" is passed over",
-        "7: partition 0: unknown key \"filename\" is passed over",
-        "9: application 0 \"k\": unknown key \"kind\" is passed over",
+        "1: unknown key \"chip\" is passed over (a key of [board])",
+        "3: board: unknown key \"media\" is passed over (a key of [image])",
+        "5: image: unknown key \"chip\" is passed over (a key of [board])",
+        "7: partition 0: unknown key \"filename\" is passed over (a key of [[component]] and [apps.KEY])",
+        "9: application 0 \"k\": unknown key \"kind\" is passed over (a key of [[component]])",
     ];
     assert_eq!(told(text), want);
 }
