@@ -84,7 +84,11 @@ fn check_accepts() {
     let words = ["check", "presets/example.toml", "presets/stage-d13x.toml"];
     let lines = "presets/example.toml: ok: d13x, spi-nor, 2 partitions, 1 component, 1 application\n\
                  presets/stage-d13x.toml: ok: d13x, spi-nor, 6 partitions, 4 components, 7 applications\n";
-    assert_eq!(preset(&words), accepted(lines));
+    let want = Said {
+        err: "2 files: 2 ok\n".into(),
+        ..accepted(lines)
+    };
+    assert_eq!(preset(&words), want);
 }
 
 #[test]
@@ -208,7 +212,7 @@ fn check_leads_to_the_fault() {
     let explained = [12, 20, 22, 24, 43, 46, 47, 54, 56, 58, 64, 65];
     let explained = explained.map(|n| format!("preset explain {n}")).join(", ");
     let advice = format!("what it means and how it is mended: {explained}\n");
-    assert_eq!(got.err, advice);
+    assert_eq!(got.err, format!("{advice}12 files: 12 refused\n"));
 }
 
 // The worst counts, each file has its line, and only what cannot be read is told beside them.
@@ -225,7 +229,8 @@ fn check_goes_on() {
     assert_eq!((got.status, got.out), (2, format!("{refused}{ok}")));
     let missing = "preset: presets/none.toml: cannot be read: there is no such file";
     assert!(got.err.starts_with(missing), "{}", got.err);
-    assert!(got.err.ends_with(&advice(5)), "{}", got.err);
+    let last = advice(5) + "3 files: 1 ok, 1 refused, 1 not read\n";
+    assert!(got.err.ends_with(&last), "{}", got.err);
     let got = preset(&["check", good, word(&bad)]);
     assert_eq!((got.status, got.out), (1, format!("{ok}{refused}")));
 }
@@ -316,13 +321,61 @@ fn check_notes_after_each_file() {
     let noted =
         |file: &str| format!("{file}: {ok}\n{file}:1: note: unknown key \"nmae\" is passed over\n");
     let want = format!(
-        "{}{}:1: refused 5: neither a header nor an assignment\n    x\n{}{}",
+        "{}{}:1: refused 5: neither a header nor an assignment\n    x\n{}{}3 files: 2 ok, 1 refused; 2 notes\n",
         noted(word(&one)),
         word(&bad),
         noted(word(&two)),
         advice(5)
     );
     assert_eq!((got.status, got.out), (1, want));
+}
+
+// Whoever denies notes has them as failures; the lines of what is accepted stay, and the worst status counts.
+#[test]
+fn check_denies_notes() {
+    let slip = written("denied", "slip.toml", format!("nmae = 1\n{EXAMPLE}"));
+    let (slip, good) = (word(&slip), "presets/example.toml");
+    let note = format!("{slip}:1: note: unknown key \"nmae\" is passed over\n");
+    let asked = |words: &[&str]| preset(&[&["check", "--deny", "notes"], words].concat());
+    let ok = |file| preset(&["check", file]).out;
+    assert_eq!(asked(&[good]), accepted(ok(good)));
+    let got = asked(&[slip]);
+    assert_eq!((got.status, got.out, got.err), (1, ok(slip), note.clone()));
+    let got = asked(&[good, slip]);
+    assert_eq!((got.status, got.out), (1, ok(good) + &ok(slip)));
+    assert_eq!(got.err, format!("{note}2 files: 2 ok; 1 note\n"));
+    let got = asked(&[slip, "presets/none.toml"]);
+    assert_eq!(got.status, 2);
+    assert!(
+        got.err.ends_with("2 files: 1 ok, 1 not read; 1 note\n"),
+        "{}",
+        got.err
+    );
+}
+
+// Nothing is said of what is accepted; refusals, and notes that are denied, are told all the same.
+#[test]
+fn check_is_quiet() {
+    let slip = written("quiet", "slip.toml", format!("nmae = 1\n{EXAMPLE}"));
+    let bad = written("quiet", "bad.toml", "x = 1\nx = 2\n[board]\nchip = 1\n");
+    let (slip, bad, good) = (word(&slip), word(&bad), "presets/example.toml");
+    for quiet in ["-q", "--quiet"] {
+        assert_eq!(preset(&["check", quiet, good, slip]), accepted(""));
+    }
+    let refused = preset(&["check", bad]);
+    let got = preset(&["check", good, "-q", bad, slip]);
+    assert_eq!((got.status, got.out), (1, refused.out.clone()));
+    assert_eq!(got.err, advice(20));
+    let got = preset(&["check", "-q", good, slip, bad, "--deny=notes"]);
+    let notes = format!(
+        "{slip}:1: note: unknown key \"nmae\" is passed over\n\
+         {bad}:2: note: unknown key \"x\" is passed over\n"
+    );
+    assert_eq!((got.status, got.out), (1, refused.out));
+    assert_eq!(got.err, notes + &advice(20));
+    let got = preset(&["check", "-q", good, "presets/none.toml"]);
+    assert_eq!((got.status, got.out.as_str()), (2, ""));
+    assert_eq!(got.err.lines().count(), 1, "{}", got.err);
 }
 
 // Faults of the whole text have no line but for bytes that are no text.
@@ -380,11 +433,14 @@ fn files_are_named_whole() {
 
 #[test]
 fn bad_usage() {
-    let calls: [&[&str]; 9] = [
+    let calls: [&[&str]; 12] = [
         &[],
         &["chek", "x"],
         &["check"],
         &["check", "--app", "desk", "presets/example.toml"],
+        &["check", "--deny", "presets/example.toml"],
+        &["check", "presets/example.toml", "--deny", "keys"],
+        &["plan", "presets/example.toml", "-q"],
         &["plan", "presets/example.toml", "presets/tour-d21x.toml"],
         &["plan", "presets/example.toml", "--app"],
         &["listing"],

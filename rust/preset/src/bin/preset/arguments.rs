@@ -2,12 +2,22 @@
 use preset::shown;
 use std::ffi::{OsStr, OsString};
 
+/// How `check` speaks of what the rules accept.
+#[derive(Clone, Copy, Debug, Default, PartialEq, Eq)]
+pub struct Manner {
+    /// Not at all.
+    pub quiet: bool,
+    /// A note is a failure, and is told even so.
+    pub deny: bool,
+}
+
 #[derive(Debug, PartialEq, Eq)]
 pub enum Command {
     Help,
     Version,
     Check {
         files: Vec<OsString>,
+        manner: Manner,
     },
     Plan {
         file: OsString,
@@ -26,13 +36,17 @@ pub enum Command {
     },
 }
 
+// The one option with nothing after it.
+const QUIET: &str = "--quiet";
+
 /// What is asked for, or what is wrong with the words.
 pub fn parse(mut words: impl Iterator<Item = OsString>) -> Result<Command, String> {
     let first = words.next().ok_or("no command")?;
     let options: &[&str] = match first.to_str() {
         Some("-h" | "--help" | "help") => return Ok(Command::Help),
         Some("-V" | "--version") => return Ok(Command::Version),
-        Some("check" | "listing" | "explain") => &[],
+        Some("check") => &["--deny", QUIET],
+        Some("listing" | "explain") => &[],
         Some("plan") => &["--app"],
         Some("map") => &["--app", "--svg"],
         _ => return Err(format!("no command {}", name(&first))),
@@ -47,6 +61,10 @@ fn asked(command: &str, mut sorted: Sorted) -> Result<Command, String> {
     let app = sorted.app.take().map(key).transpose()?;
     match command {
         "check" => Ok(Command::Check {
+            manner: Manner {
+                quiet: sorted.quiet,
+                deny: denied(sorted.deny)?,
+            },
             files: several(sorted.files)?,
         }),
         "explain" => Ok(Command::Explain {
@@ -76,6 +94,8 @@ struct Sorted {
     files: Vec<OsString>,
     app: Option<OsString>,
     svg: Option<OsString>,
+    deny: Option<OsString>,
+    quiet: bool,
 }
 
 impl Sorted {
@@ -90,6 +110,7 @@ impl Sorted {
     fn option(&mut self, option: &str) -> &mut Option<OsString> {
         match option {
             "--app" => &mut self.app,
+            "--deny" => &mut self.deny,
             _ => &mut self.svg,
         }
     }
@@ -110,7 +131,8 @@ fn sort(
         match option {
             "-h" | "--help" => return Ok(None),
             "--" => sorted.files.extend(words.by_ref()),
-            _ if options.contains(&option) => {
+            "-q" | QUIET if own.is_none() && options.contains(&QUIET) => sorted.quiet = true,
+            _ if options.contains(&option) && option != QUIET => {
                 let value = own.or_else(|| words.next());
                 let value = value.ok_or(format!("{option}: nothing stands after it"))?;
                 if sorted.option(option).replace(value).is_some() {
@@ -132,6 +154,18 @@ fn key(word: OsString) -> Result<String, String> {
         .map_err(|word| format!("--app: {} is not UTF-8", name(&word)))
 }
 
+// Notes are the one thing that can be denied.
+fn denied(word: Option<OsString>) -> Result<bool, String> {
+    match word {
+        None => Ok(false),
+        Some(word) if word == "notes" => Ok(true),
+        Some(word) => Err(format!(
+            "--deny: {} cannot be denied, but notes can",
+            name(&word)
+        )),
+    }
+}
+
 // At least one; standard input has one text.
 fn several(files: Vec<OsString>) -> Result<Vec<OsString>, String> {
     match files.iter().filter(|file| *file == "-").count() {
@@ -143,7 +177,7 @@ fn several(files: Vec<OsString>) -> Result<Vec<OsString>, String> {
 
 #[cfg(test)]
 mod tests {
-    use super::{Command, parse};
+    use super::{Command, Manner, parse};
     use std::ffi::OsString;
 
     fn parsed(line: &str) -> Result<Command, String> {
@@ -160,10 +194,19 @@ mod tests {
         assert_eq!(parsed("map a.toml --app k --svg -"), want);
         assert_eq!(parsed("map --app=k a.toml --svg=-"), want);
         assert_eq!(parsed("map --svg - --app k -- a.toml"), want);
-        let odd = Ok(Command::Check {
-            files: vec!["--app".into(), "-".into()],
-        });
-        assert_eq!(parsed("check -- --app -"), odd);
+        let odd = |quiet, deny| {
+            Ok(Command::Check {
+                files: vec!["--app".into(), "-".into()],
+                manner: Manner { quiet, deny },
+            })
+        };
+        assert_eq!(parsed("check -- --app -"), odd(false, false));
+        assert_eq!(parsed("check --quiet -- --app -"), odd(true, false));
+        assert_eq!(parsed("check --deny notes -- --app -"), odd(false, true));
+        assert_eq!(
+            parsed("check -q --deny=notes -q -- --app -"),
+            odd(true, true)
+        );
         assert_eq!(parsed("plan a --app k --help"), Ok(Command::Help));
     }
 
@@ -175,6 +218,24 @@ mod tests {
             ("check", "check: no file is named"),
             ("check --app k f", "no option \"--app\""),
             ("check - -", "check: `-` stands there twice"),
+            ("check f --deny", "--deny: nothing stands after it"),
+            (
+                "check f --deny note",
+                "--deny: \"note\" cannot be denied, but notes can",
+            ),
+            (
+                "check --deny f",
+                "--deny: \"f\" cannot be denied, but notes can",
+            ),
+            (
+                "check f --deny notes --deny=notes",
+                "--deny stands there twice",
+            ),
+            ("check f --quiet=yes", "no option \"--quiet=yes\""),
+            ("check f -qq", "no option \"-qq\""),
+            ("plan f --quiet", "no option \"--quiet\""),
+            ("plan f --deny notes", "no option \"--deny\""),
+            ("listing f -q", "no option \"-q\""),
             ("plan", "plan: no file is named"),
             ("plan a b", "plan: more than one file is named"),
             ("plan a --app", "--app: nothing stands after it"),

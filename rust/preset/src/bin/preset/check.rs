@@ -1,61 +1,101 @@
-//! `preset check`: what each preset is, or why it is refused.
+//! `preset check`: what each preset is, or why it is refused, and slips that the rules accept.
 use crate::answer::{ACCEPTED, Answer, REFUSED};
+use crate::arguments::Manner;
 use crate::input::{self, Input};
-use preset::unknown::unknown;
+use preset::notes::{Notes, notes};
 use preset::{Fault, Preset, Refusal};
 use std::ffi::OsString;
 
-// A file with more unknown keys than these is mostly of another sort.
-const NOTES: usize = 10;
+/// What came of all files.
+#[derive(Default)]
+struct Sum {
+    ok: usize,
+    /// Numbers of refusals.
+    refused: Vec<u32>,
+    unread: usize,
+    notes: usize,
+}
 
-pub fn check(files: &[OsString]) -> Answer {
-    let mut all = Answer::default();
-    let mut numbers = Vec::new();
+pub fn check(files: &[OsString], manner: Manner) -> Answer {
+    let (mut all, mut sum) = (Answer::default(), Sum::default());
     for file in files {
         match input::read(file) {
-            Ok(input) => all.then(checked(&input, &mut numbers)),
-            Err(why) => all.then(Answer::failed(why)),
+            Ok(input) => all.then(checked(&input, manner, &mut sum)),
+            Err(why) => {
+                sum.unread += 1;
+                all.then(Answer::failed(why));
+            }
         }
     }
-    all.err += &advice(numbers);
+    let last = sum.said(files.len());
+    all.err += &advice(sum.refused);
+    if files.len() > 1 && !manner.quiet {
+        all.err += &last;
+    }
     all
 }
 
-fn checked(input: &Input, numbers: &mut Vec<u32>) -> Answer {
+fn checked(input: &Input, manner: Manner, sum: &mut Sum) -> Answer {
     let judged = Preset::validate(&input.text, input.board.as_bytes());
+    let noted = match manner {
+        Manner {
+            quiet: true,
+            deny: false,
+        } => Notes::default(),
+        _ => notes(&input.text, input.board.as_bytes()),
+    };
+    let denied = manner.deny && noted.count() > 0;
+    sum.notes += noted.count();
     let (line, status) = match judged {
+        Ok(_) if manner.quiet => (String::new(), ACCEPTED),
         Ok(preset) => (
             format!("{}: ok: {}\n", input.file, counted(&preset)),
             ACCEPTED,
         ),
         Err(refusal) => {
-            numbers.push(refusal.number);
+            sum.refused.push(refusal.number);
             (
                 told(input, &Fault::find(&input.text, refusal, None)),
                 REFUSED,
             )
         }
     };
+    sum.ok += usize::from(status == ACCEPTED);
     Answer {
         out: line.into(),
-        err: notes(input),
-        status,
+        err: said(input, &noted),
+        status: if denied { REFUSED } else { status },
         ..Answer::default()
     }
 }
 
-// Keys that the rules do not know; they change neither the result nor the status.
-fn notes(input: &Input) -> String {
-    let mut found = unknown(&input.text);
-    let first = found.by_ref().take(NOTES);
-    let told = first.map(|key| format!("{}: note: {key}\n", place(input, key.line)));
-    let told: String = told.collect();
-    let more = match found.len() {
-        0 => return told,
-        1 => "1 more key is".into(),
-        n => format!("{n} more keys are"),
-    };
-    format!("{told}{}: note: {more} passed over\n", input.file)
+// Notes change neither the result nor, unless they are denied, the status.
+fn said(input: &Input, notes: &Notes) -> String {
+    let told = notes.told.iter();
+    let told = told.map(|note| format!("{}: note: {note}\n", place(input, note.line)));
+    let more = notes.more.iter();
+    let more = more.map(|more| format!("{}: note: {more}\n", input.file));
+    told.chain(more).collect()
+}
+
+impl Sum {
+    // The last line: only what is there.
+    fn said(&self, files: usize) -> String {
+        let parts = [
+            (self.ok, "ok"),
+            (self.refused.len(), "refused"),
+            (self.unread, "not read"),
+        ];
+        let parts = parts.into_iter().filter(|(count, _)| *count > 0);
+        let parts: Vec<String> = parts
+            .map(|(count, what)| format!("{count} {what}"))
+            .collect();
+        let notes = match self.notes {
+            0 => String::new(),
+            count => format!("; {}", many(count, "note")),
+        };
+        format!("{}: {}{notes}\n", many(files, "file"), parts.join(", "))
+    }
 }
 
 // The file, and the line where there is one.
@@ -66,14 +106,17 @@ fn place(input: &Input, line: Option<usize>) -> String {
 
 fn counted(preset: &Preset) -> String {
     let (chip, media) = (preset.board.chip.name(), preset.image.media.name());
-    let many = |count: usize, word: &str| match count {
-        1 => format!("1 {word}"),
-        _ => format!("{count} {word}s"),
-    };
     let partitions = many(preset.partitions.len(), "partition");
     let components = many(preset.components.len(), "component");
     let apps = many(preset.apps.len(), "application");
     format!("{chip}, {media}, {partitions}, {components}, {apps}")
+}
+
+fn many(count: usize, word: &str) -> String {
+    match count {
+        1 => format!("1 {word}"),
+        _ => format!("{count} {word}s"),
+    }
 }
 
 /// A fault in the form that editors jump to, and below it the line's text.

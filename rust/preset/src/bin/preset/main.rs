@@ -27,7 +27,7 @@ fn run(command: Command) -> Answer {
     match command {
         Command::Help => Answer::result(HELP),
         Command::Version => Answer::result(concat!("preset ", env!("CARGO_PKG_VERSION"), "\n")),
-        Command::Check { files } => check::check(&files),
+        Command::Check { files, manner } => check::check(&files, manner),
         Command::Plan { file, app } => plan::plan(&file, app),
         Command::Listing { file } => plan::listing(&file),
         Command::Map { file, app, svg } => draw::map(&file, app, svg),
