@@ -21,16 +21,18 @@ pub(crate) struct Clash<'a>(Use<'a>, Use<'a>);
 impl Clash<'_> {
     pub fn said(&self, tree: &Tree) -> String {
         let Clash(later, earlier) = self;
-        let list = |features: &[String]| {
-            if features.is_empty() {
-                "none".into()
-            } else {
-                plain(&features.join(", "))
-            }
-        };
         let place = called(tree, earlier.section, earlier.place);
         let (own, other) = (list(later.features), list(earlier.features));
         format!("{}: {own} here, {other} in {place}", quoted(later.package))
+    }
+}
+
+/// A feature set in a message.
+pub(crate) fn list(features: &[String]) -> String {
+    if features.is_empty() {
+        "none".into()
+    } else {
+        plain(&features.join(", "))
     }
 }
 

@@ -73,7 +73,8 @@ fn strange(tree: &Tree, table: Table) -> Found {
         let unknown = Unknown {
             line: None,
             entry: table.entry.clone(),
-            near: near(&key, known),
+            // case is no slip
+            near: near(&key.to_lowercase(), known),
             key,
         };
         Some((value, unknown))
@@ -119,7 +120,7 @@ impl fmt::Display for Unknown {
             }
             Some(near) => write!(f, "unknown key {key} is passed over ({near}?)"),
             None => {
-                let known = self.elsewhere().join(" and ");
+                let known = self.elsewhere().join(", ");
                 let known = match known.as_str() {
                     "" => known,
                     _ => format!(" (a key of {known})"),

@@ -17,6 +17,7 @@ mod names;
 mod planned;
 mod repeated;
 pub(crate) mod tables;
+mod values;
 
 use crate::lines::Lines;
 use crate::schema::Preset;

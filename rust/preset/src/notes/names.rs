@@ -13,64 +13,78 @@ struct Name {
     at: usize,
     entry: String,
     what: &'static str,
+    /// Whether messages call the entry by it.
+    called: bool,
 }
 
 pub(crate) fn found(preset: &Preset, tree: &Tree) -> Vec<Pair> {
     let entries = Entries::of(tree);
-    let name = |section, what: &'static str, keys: &[&str], place: usize, text: &str| {
+    let name = |section, what: &'static str, place: usize, text: &str| {
+        let keys: &[&str] = if what == "name" { &["name"] } else { &[] };
+        let entry = entries.entry(section, place)?;
         Some(Name {
             text: text.into(),
             at: entries.value(section, place, keys)?,
             entry: entries.called(section, place),
             what,
+            called: tree.called(section, entry).as_deref() == Some(text),
         })
     };
     let partitions = preset.partitions.iter().enumerate();
-    let partitions =
-        partitions.filter_map(|(n, p)| name(Section::Partition, "name", &["name"], n, &p.name));
     let components = preset.components.iter().enumerate();
-    let components =
-        components.filter_map(|(n, c)| name(Section::Component, "name", &["name"], n, &c.name));
     let apps = || preset.apps.values().enumerate();
-    let keys = apps().filter_map(|(n, a)| name(Section::Application, "key", &[], n, &a.package));
-    // a name that is the key is told as a key
-    let named = apps().filter(|(_, a)| a.name != a.package);
-    let named =
-        named.filter_map(|(n, a)| name(Section::Application, "name", &["name"], n, &a.name));
-    let kinds: [Vec<Name>; 4] = [
-        partitions.collect(),
-        components.collect(),
-        keys.collect(),
-        named.collect(),
-    ];
-    let mut out: Vec<Pair> = kinds.into_iter().flat_map(odd).collect();
+    let partitions = partitions.filter_map(|(n, p)| name(Section::Partition, "name", n, &p.name));
+    let components = components.filter_map(|(n, c)| name(Section::Component, "name", n, &c.name));
+    let keys = apps().filter_map(|(n, a)| name(Section::Application, "key", n, &a.package));
+    let names = apps().filter_map(|(n, a)| name(Section::Application, "name", n, &a.name));
+    let mut out = odd(partitions.collect(), false);
+    out.extend(odd(components.collect(), false));
+    out.extend(odd(keys.collect(), false));
+    out.extend(odd(names.collect(), true));
     out.extend(booted(preset, tree, &entries));
     out
 }
 
-fn odd(mut names: Vec<Name>) -> Vec<Pair> {
+// Among names of one kind. Where keys were looked at before, names that are keys are told.
+fn odd(mut names: Vec<Name>, keyed: bool) -> Vec<Pair> {
     names.sort_by_key(|name| name.at);
     let each = names.iter().enumerate().filter_map(|(n, own)| {
-        let alike = |earlier: &&Name| differs(&own.text, &earlier.text).is_some();
-        let other = names[..n].iter().find(alike);
-        let (entry, what, text) = (&own.entry, own.what, quoted(&own.text));
-        let said = match other {
-            Some(other) => {
-                let how = differs(&own.text, &other.text)?;
-                let (entry, text) = (&other.entry, quoted(&other.text));
-                format!("differs only in {how} from {text}, the {what} of {entry}")
-            }
+        let mut earlier = names[..n].iter();
+        let alike = earlier.find_map(|other| Some((other, differs(&own.text, &other.text)?)));
+        let known = alike.is_none_or(|(other, _)| other.called);
+        if keyed && own.called && known {
+            return None;
+        }
+        let (entry, what) = (&own.entry, own.what);
+        let text = if own.called {
+            String::new()
+        } else {
+            format!(" {}", quoted(&own.text))
+        };
+        let said = match alike {
+            Some((other, how)) => format!("differs only in {how} from {}", other.said()),
             None if own.text.trim() != own.text => "has white space at its ends".into(),
             None => return None,
         };
         Some(Pair {
             sort: Sort::Name,
             at: own.at,
-            said: format!("{entry}: its {what} {text} {said}"),
-            other: other.map(|other| other.at),
+            said: format!("{entry}: its {what}{text} {said}"),
+            other: alike.map(|(other, _)| other.at),
         })
     });
     each.collect()
+}
+
+impl Name {
+    fn said(&self) -> String {
+        let (what, entry) = (self.what, &self.entry);
+        if self.called {
+            format!("the {what} of {entry}")
+        } else {
+            format!("{}, the {what} of {entry}", quoted(&self.text))
+        }
+    }
 }
 
 // In what two other names differ, where they are easily taken for one another.
@@ -94,20 +108,27 @@ fn booted(preset: &Preset, tree: &Tree, entries: &Entries) -> Option<Pair> {
     if own.is_empty() || preset.apps.is_empty() || apps().any(|(_, app)| app.name == *own) {
         return None;
     }
-    let alike = apps().find_map(|(n, app)| Some((n, &app.name, differs(own, &app.name)?)));
-    let text = quoted(own);
-    let said = match alike {
-        Some((n, name, how)) => {
-            let (name, entry) = (quoted(name), entries.called(Section::Application, n));
-            format!("its app {text} differs only in {how} from {name}, the name of {entry}")
+    let called = |n| entries.called(Section::Application, n);
+    let alike = apps().find_map(|(n, app)| Some((n, app, differs(own, &app.name)?)));
+    let key = apps().find(|(_, app)| app.package == *own);
+    let (said, place) = match (alike, key) {
+        (Some((n, app, how)), _) => {
+            let (name, entry) = (quoted(&app.name), called(n));
+            let said = format!("differs only in {how} from {name}, the name of {entry}");
+            (said, Some(n))
         }
-        None => format!("its app {text} is the name of no application"),
+        (None, Some((n, app))) => {
+            let (name, entry) = (quoted(&app.name), called(n));
+            let said = format!("is the key of {entry}, and not its name {name}");
+            (said, Some(n))
+        }
+        (None, None) => ("is the name of no application".into(), None),
     };
-    let other = alike.and_then(|(n, ..)| entries.value(Section::Application, n, &["name"]));
+    let text = quoted(own);
     Some(Pair {
         sort: Sort::Reference,
         at: tree.field(tree.whole(Section::Image)?, "app")?,
-        said: format!("image: {said}"),
-        other,
+        said: format!("image: its app {text} {said}"),
+        other: place.and_then(|n| entries.value(Section::Application, n, &["name"])),
     })
 }

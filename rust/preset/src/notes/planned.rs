@@ -1,13 +1,14 @@
 //! What planning makes of an accepted preset that its writer may not expect: the library is asked for the plan of the
 //! boot chain and of every application.
 use super::Sort;
+use crate::clash::list;
 use crate::entry::named;
 use crate::lines::Lines;
 use crate::refusal::Section;
 use crate::schema::{
     AppSpec, ImagePlan, PartitionSpec, PlannedComponent, Preset, Selection, Source,
 };
-use crate::shown::{plain, quoted};
+use crate::shown::quoted;
 use crate::tree::Tree;
 
 /// Two places of a text that do not go together.
@@ -47,7 +48,7 @@ impl<'a> Entries<'a> {
         }
     }
 
-    fn entry(&self, section: Section, place: usize) -> Option<usize> {
+    pub fn entry(&self, section: Section, place: usize) -> Option<usize> {
         let list = match section {
             Section::Partition => &self.partitions,
             Section::Component => &self.components,
@@ -141,8 +142,8 @@ fn elsewhere(
         sort: Sort::Reference,
         at: entries.value(Section::Application, place, &["partition"])?,
         said: format!(
-            "{entry}: it is planned {into}: a reference is cut at `;` and trimmed, \
-             so it is {looked} and not {meant_called}"
+            "{entry}: it is planned {into}: its reference is cut at `;` and trimmed, \
+             and that leaves {looked}, not {meant_called}"
         ),
         other: entries.value(Section::Partition, meant, &["name"]),
     })
@@ -198,18 +199,16 @@ impl Use {
             return None;
         }
         let first = uses.iter().find(|first| first.package == self.package)?;
-        let list = |features: &[String]| match features.len() {
-            0 => "no features".into(),
-            _ => format!("features {}", plain(&features.join(", "))),
-        };
         let (own, built) = (list(&self.features), list(&build.features));
         let [entry, other] = [self, first].map(|u| entries.called(u.section, u.place));
+        let [key, first_key] = [self, first].map(|u| u.keys[0]);
         let package = quoted(&self.package);
         Some(Pair {
             sort: Sort::Features,
             at: entries.value(self.section, self.place, &self.keys)?,
             said: format!(
-                "{entry}: it asks for package {package} with {own}, which is built with {built} as {other} asks"
+                "{entry}: its `{key}` for package {package} are {own}; \
+                 it is built with {built}, the `{first_key}` of {other}"
             ),
             other: entries.value(first.section, first.place, &first.keys),
         })

@@ -8,11 +8,12 @@
 //! No slip, and so not noted: a header after a longer one (`[apps]` after `[apps.k]`), one whose table was so far made
 //! by dotted keys alone, and `[[partition]]` after `partition = []`, where nothing is lost.
 use super::tables::{Table, tables};
+use super::values::{lists, said, same};
 use crate::lines::Lines;
 use crate::refusal::Section;
 use crate::shown::{plain, quoted};
 use crate::tree::{Kind, Tree, roots};
-use std::collections::BTreeMap;
+use std::collections::{BTreeMap, BTreeSet};
 
 pub(crate) struct Again {
     pub keys: Vec<Run>,
@@ -49,12 +50,13 @@ struct Repeat {
 
 /// Both sorts in the order of their lines.
 pub(crate) fn found(tree: &Tree, lines: &Lines) -> Again {
-    let tables = tables(tree);
+    let tables = tables(tree).into_iter();
+    let tables: Vec<(Vec<Repeat>, Table)> = tables.map(|t| (repeats(tree, &t), t)).collect();
     let mut later = headers(tree, lines, &tables);
     let (mut keys, mut headers) = (Vec::new(), Vec::new());
-    for table in &tables {
+    for (repeats, table) in tables {
         let own = table.value.and_then(|value| later.remove(&value));
-        let (headed, rest) = runs(tree, lines, table, own.unwrap_or_default());
+        let (headed, rest) = runs(lines, &table, repeats, own.unwrap_or_default());
         headers.extend(headed);
         keys.extend(rest);
     }
@@ -72,7 +74,11 @@ pub(crate) fn found(tree: &Tree, lines: &Lines) -> Again {
 }
 
 // Header lines by the table that they go on with.
-fn headers(tree: &Tree, lines: &Lines, tables: &[Table]) -> BTreeMap<usize, Vec<Header>> {
+fn headers(
+    tree: &Tree,
+    lines: &Lines,
+    tables: &[(Vec<Repeat>, Table)],
+) -> BTreeMap<usize, Vec<Header>> {
     let mut named: BTreeMap<Vec<String>, Vec<(usize, usize)>> = BTreeMap::new();
     for line in lines.each() {
         if let Some(path) = path(line.text) {
@@ -80,22 +86,31 @@ fn headers(tree: &Tree, lines: &Lines, tables: &[Table]) -> BTreeMap<usize, Vec<
             own.push((line.number, line.at));
         }
     }
+    let repeats = tables.iter().flat_map(|(repeats, _)| repeats);
+    let newer: BTreeSet<usize> = repeats.map(|repeat| repeat.new).collect();
+    let root = tables.first().map(|(_, root)| root);
     let several = named.into_iter().filter(|(_, own)| own.len() > 1);
     let each = several.filter_map(|(path, own)| {
-        let value = named_table(tree, tables, &path)?;
-        // earlier ones named a table that was replaced
-        let made = lines.making(value)?;
-        let mut own = own.into_iter().filter(|(_, at)| *at >= made);
-        let first = own.next()?.1;
-        let later = own.map(|(number, at)| Header {
-            number,
-            at,
-            first,
-            path: path.clone(),
-        });
-        Some((value, later.collect()))
+        let (value, above) = named_table(tree, root?, &path)?;
+        // before the line that made it they named a table that was replaced
+        let again = newer.contains(&value) || newer.contains(&above);
+        let made = again.then(|| lines.making(value)).flatten().unwrap_or(0);
+        Some((value, after(made, &path, own)?))
     });
     each.collect()
+}
+
+// Of the lines with a header, from one on, all but the first.
+fn after(made: usize, path: &[String], own: Vec<(usize, usize)>) -> Option<Vec<Header>> {
+    let mut own = own.into_iter().filter(|(_, at)| *at >= made);
+    let first = own.next()?.1;
+    let later = own.map(|(number, at)| Header {
+        number,
+        at,
+        first,
+        path: path.to_vec(),
+    });
+    Some(later.collect())
 }
 
 // What a line's header names, in one pair of brackets. The line is read as a text of its own: an assignment's path ends
@@ -111,19 +126,29 @@ fn path(line: &[u8]) -> Option<Vec<String>> {
     (tree.kind(at) == Kind::Table).then_some(path)
 }
 
-// The table that a path names in the end, where the rules know it.
-fn named_table(tree: &Tree, tables: &[Table], path: &[String]) -> Option<usize> {
-    let value = match path {
-        [key] => tree.root(key).filter(|_| tables[0].knows(key)),
-        [apps, key] if apps == "apps" => tree.field(tree.root(apps)?, key),
-        _ => None,
+// The table that a path names in the end, where the rules know it, and the one above it, if any.
+fn named_table(tree: &Tree, root: &Table, path: &[String]) -> Option<(usize, usize)> {
+    let (value, above) = match path {
+        [key] => {
+            let value = tree.root(key).filter(|_| root.knows(key))?;
+            (value, value)
+        }
+        [apps, key] if apps == "apps" => {
+            let apps = tree.root(apps)?;
+            (tree.field(apps, key)?, apps)
+        }
+        _ => return None,
     };
-    value.filter(|value| tree.kind(*value) == Kind::Table)
+    (tree.kind(value) == Kind::Table).then_some((value, above))
 }
 
 // A table's notes: its headers, each with the keys after it, and the other keys.
-fn runs(tree: &Tree, lines: &Lines, table: &Table, own: Vec<Header>) -> (Vec<Run>, Vec<Run>) {
-    let repeats = repeats(tree, table);
+fn runs(
+    lines: &Lines,
+    table: &Table,
+    repeats: Vec<Repeat>,
+    own: Vec<Header>,
+) -> (Vec<Run>, Vec<Run>) {
     // without repeats nobody asks for them
     let asked = own.iter().filter(|_| !repeats.is_empty());
     let bounds: Vec<usize> = asked.map(|header| lines.before(header.number)).collect();
@@ -147,25 +172,24 @@ fn runs(tree: &Tree, lines: &Lines, table: &Table, own: Vec<Header>) -> (Vec<Run
 }
 
 fn repeats(tree: &Tree, table: &Table) -> Vec<Repeat> {
-    let mut newest: BTreeMap<String, (usize, usize)> = BTreeMap::new();
-    let mut out = Vec::new();
-    for (place, new) in tree.ever(table.value).into_iter().enumerate() {
-        let known = tree.key(new).filter(|key| table.knows(key));
-        let Some(key) = known else { continue };
-        if let Some((old, before)) = newest.insert(key.clone(), (new, place)) {
-            out.push(Repeat {
-                key,
-                new,
-                old,
-                newest: new,
-                places: (place, before),
-            });
-        }
-    }
-    for repeat in &mut out {
-        repeat.newest = newest.get(&repeat.key).map_or(repeat.new, |(new, _)| *new);
-    }
-    out
+    let mut last: BTreeMap<String, (usize, usize)> = BTreeMap::new();
+    let newest = |key: &str| match table.value {
+        None => tree.root(key),
+        Some(table) => tree.field(table, key),
+    };
+    let values = tree.ever(table.value).into_iter().enumerate();
+    let each = values.filter_map(|(place, new)| {
+        let key = tree.key(new).filter(|key| table.knows(key))?;
+        let (old, before) = last.insert(key.clone(), (new, place))?;
+        Some(Repeat {
+            newest: newest(&key)?,
+            key,
+            new,
+            old,
+            places: (place, before),
+        })
+    });
+    each.collect()
 }
 
 // Those that follow one another, so far as they are one slip.
@@ -201,7 +225,8 @@ impl Run {
         let headed = self.header.as_ref().map(Header::said);
         let said = [headed, again].into_iter().flatten();
         let values = first.map(|first| first.values(tree, lines));
-        let rest = [self.asked(tree, at), values].into_iter().flatten();
+        let asked = self.asked(tree, lines, at);
+        let rest = [asked, values].into_iter().flatten();
         let said: Vec<String> = said.collect();
         let rest: Vec<String> = rest.collect();
         let between = if rest.is_empty() { "" } else { ": " };
@@ -221,14 +246,24 @@ impl Run {
     }
 
     // What is likely meant.
-    fn asked(&self, tree: &Tree, at: Option<usize>) -> Option<String> {
+    fn asked(&self, tree: &Tree, lines: &Lines, at: Option<usize>) -> Option<String> {
         match (&self.header, self.section) {
-            (Some(_), Some(Section::Application)) => Some("is another key meant?".into()),
+            (Some(_), Some(Section::Application)) => Some("is another [apps.KEY] meant?".into()),
             (Some(header), None) => header.list().map(|list| format!("is {list} meant?")),
             (Some(_), Some(_)) => None,
+            (None, None) if self.entry.is_some() => None,
             (None, None) => self.repeats.first()?.list(tree),
+            (None, Some(_)) if !self.plain(lines, at?) => None,
             (None, Some(section)) => self.lost(tree, section, at?),
         }
+    }
+
+    // Whether its first line assigns its key without dots: only such a line stands below its own header.
+    fn plain(&self, lines: &Lines, at: usize) -> bool {
+        let line = lines.each().find(|line| line.at == at);
+        let alone = line.and_then(|line| Tree::read(line.text));
+        let first = self.repeats.first();
+        first.is_some_and(|first| alone.is_some_and(|tree| tree.root(&first.key).is_some()))
     }
 
     fn lost(&self, tree: &Tree, section: Section, at: usize) -> Option<String> {
@@ -247,11 +282,13 @@ impl Run {
         };
         let lost = format!("is a header{such} lost before line {at}?");
         let same = self.repeats.iter().all(|repeat| repeat.same(tree));
-        Some(match (same, named) {
-            (true, _) => "are lines there twice?".into(),
-            (_, true) => lost,
-            (_, false) => format!("are lines there twice, or {lost}"),
-        })
+        if same {
+            Some("are lines there twice?".into())
+        } else if named {
+            Some(lost)
+        } else {
+            Some(format!("are lines there twice, or {lost}"))
+        }
     }
 }
 
@@ -274,11 +311,11 @@ impl Header {
 
 impl Repeat {
     fn again(&self, tree: &Tree) -> String {
-        let plain = |value| !matches!(tree.kind(value), Kind::Table) && !lists(tree, value);
-        let word = if plain(self.new) && plain(self.old) {
-            "assigned again"
-        } else {
+        let made = |value| tree.kind(value) == Kind::Table || lists(tree, value);
+        let word = if made(self.new) || made(self.old) {
             "replaced"
+        } else {
+            "assigned again"
         };
         format!("key {} is {word}", quoted(&self.key))
     }
@@ -290,9 +327,7 @@ impl Repeat {
     }
 
     fn same(&self, tree: &Tree) -> bool {
-        let table = |value| tree.kind(value) == Kind::Table || lists(tree, value);
-        let [new, old] = [self.new, self.old].map(|value| said(tree, value));
-        new == old && !table(self.new)
+        same(tree, self.new, self.old)
     }
 
     // Both values with their lines, and which one counts.
@@ -313,37 +348,4 @@ impl Repeat {
 fn line(lines: &Lines, value: usize) -> String {
     let line = lines.making(value);
     line.map_or("no line".into(), |line| format!("line {line}"))
-}
-
-// Whether a value is an array of tables alone, as headers make them.
-fn lists(tree: &Tree, value: usize) -> bool {
-    let items = tree.items(value);
-    !items.is_empty() && items.into_iter().all(|item| tree.kind(item) == Kind::Table)
-}
-
-// A value in short.
-fn said(tree: &Tree, value: usize) -> String {
-    let integer = |n: i128| match u64::try_from(n) {
-        Ok(n) => format!("{n:#X}"),
-        Err(_) => n.to_string(),
-    };
-    match tree.kind(value) {
-        Kind::Text => quoted(&tree.text(value).unwrap_or_default()),
-        Kind::Integer => tree.integer(value).map_or(String::new(), integer),
-        Kind::Boolean => tree.boolean(value).unwrap_or_default().to_string(),
-        Kind::Table => Kind::Table.name().into(),
-        Kind::Array => array(tree, tree.items(value)),
-    }
-}
-
-fn array(tree: &Tree, items: Vec<usize>) -> String {
-    let tables = |item: &usize| tree.kind(*item) == Kind::Table;
-    match items.len() {
-        1 if items.iter().all(tables) => "an array of 1 table".into(),
-        many @ 2.. if items.iter().all(tables) => format!("an array of {many} tables"),
-        _ => {
-            let items: Vec<String> = items.into_iter().map(|item| said(tree, item)).collect();
-            plain(&format!("[{}]", items.join(", ")))
-        }
-    }
 }
