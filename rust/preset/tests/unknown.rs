@@ -86,7 +86,7 @@ fn fields_in_the_wrong_table() {
         "1: unknown key \"chip\" is passed over (a key of [board])",
         "3: board: unknown key \"media\" is passed over (a key of [image])",
         "5: image: unknown key \"chip\" is passed over (a key of [board])",
-        "7: partition 0: unknown key \"filename\" is passed over (a key of [[component]] and [apps.KEY])",
+        "7: partition 0: unknown key \"filename\" is passed over (a key of [[component]], [apps.KEY])",
         "9: application 0 \"k\": unknown key \"kind\" is passed over (a key of [[component]])",
     ];
     assert_eq!(told(text), want);
@@ -118,6 +118,19 @@ fn every_field_misspelled() {
         }
     }
     assert!(met > 100, "{met}");
+}
+
+// Case is no slip: it may be all that is wrong, or be wrong beside a slip.
+#[test]
+fn keys_in_another_case() {
+    let text = "[Board]\n[APPS.k]\n[image]\nMEDIA_DEV_ID = 0\nProdcut = \"x\"\n";
+    let want = [
+        "1: unknown key \"Board\" is passed over (board?)",
+        "2: unknown key \"APPS\" is passed over (apps?)",
+        "4: image: unknown key \"MEDIA_DEV_ID\" is passed over (media_dev_id?)",
+        "5: image: unknown key \"Prodcut\" is passed over (product?)",
+    ];
+    assert_eq!(told(text), want);
 }
 
 #[test]

@@ -24,7 +24,7 @@ pub(crate) struct Table {
     pub known: Option<Vec<&'static str>>,
 }
 
-/// All of them; what stands below an unknown key is not among them.
+/// All of them, the root first; what stands below an unknown key is not among them.
 pub(crate) fn tables(tree: &Tree) -> Vec<Table> {
     let root = Table {
         value: None,
