@@ -459,10 +459,14 @@ fn bad_usage() {
 fn help_and_version() {
     let help = preset(&["--help"]);
     assert_eq!((help.status, help.err.as_str()), (0, ""));
-    for order in ["check", "plan", "listing", "map", "explain"] {
-        assert!(help.out.contains(&format!("preset {order} ")), "{order}");
+    let orders = ["check", "plan", "listing", "map", "explain"];
+    let orders = orders.map(|order| format!("preset {order} "));
+    let options = ["--app KEY", "--svg OUT", "--deny notes", "--quiet", "-q"].map(String::from);
+    for word in orders.into_iter().chain(options) {
+        assert!(help.out.contains(&word), "{word}");
     }
     assert_eq!(preset(&["map", "--help"]), help);
+    assert!(help.out.lines().all(|line| line.len() < 80));
     assert_eq!(preset(&["--version"]), accepted("preset 0.1.0\n"));
 }
 

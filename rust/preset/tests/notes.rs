@@ -687,25 +687,23 @@ mod built {
     #[test]
     fn what_comes_again_is_noted_once() {
         let mut r = Rng::new(31);
-        let mut met = 0;
-        for _ in 0..turns(2_000) {
-            let built = built(&mut r);
-            let found = notes(built.text.as_bytes(), b"");
-            if !found.more.is_empty() {
-                continue;
-            }
-            let (mut repeats, mut headers) = (built.repeats(), built.later_headers());
-            for note in found.told.iter().filter(|note| note.sort <= Sort::Header) {
-                spent(note, &built.text, &mut repeats, &mut headers);
-                met += 1;
-            }
-            assert!(
-                repeats.is_empty() && headers.is_empty(),
-                "{repeats:?} {headers:?} in\n{}",
-                built.text
-            );
-        }
+        let met: usize = (0..turns(2_000)).map(|_| noted(&built(&mut r))).sum();
         assert!(met > turns(1_000), "{met}");
+    }
+
+    // How many notes there are, where all of them are told.
+    fn noted(built: &Built) -> usize {
+        let found = notes(built.text.as_bytes(), b"");
+        if !found.more.is_empty() {
+            return 0;
+        }
+        let (mut repeats, mut headers) = (built.repeats(), built.later_headers());
+        for note in &found.told {
+            spent(note, &built.text, &mut repeats, &mut headers);
+        }
+        let rest = format!("{repeats:?} {headers:?} in\n{}", built.text);
+        assert!(repeats.is_empty() && headers.is_empty(), "{rest}");
+        found.told.len()
     }
 
     fn spent(

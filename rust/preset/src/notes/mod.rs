@@ -48,7 +48,8 @@ pub enum Sort {
 /// are long.
 #[derive(Clone, Debug, PartialEq, Eq)]
 pub struct Note {
-    /// The line, from 1, of the later one of what is held together; of a value over many lines the first.
+    /// The line, from 1, that it is told at: of two places that are held together the later, of a reference and of an
+    /// application that is never planned their own; of a value over many lines the first.
     pub line: Option<usize>,
     pub sort: Sort,
     said: String,
