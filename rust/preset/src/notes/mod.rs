@@ -1,16 +1,5 @@
 //! Slips that the rules accept, found so that somebody speaks of them: they change no answer.
 //!
-//! | [`Sort`] | what is noted | of which texts |
-//! |---|---|---|
-//! | `Unknown` | a key that is passed over ([`crate::unknown`]) | all with a tree |
-//! | `Key` | a key that is assigned again, or a value that is replaced | all with a tree |
-//! | `Header` | a header that goes on with the table of an earlier one | all with a tree |
-//! | `Unplanned` | an application that can never be planned (81) | accepted ones |
-//! | `Reference` | a reference that leads elsewhere than it says, or nowhere | accepted ones |
-//! | `Features` | a package that is asked for with other features than it is built with | accepted ones |
-//! | `Shared` | a component that is not alone in its partition | accepted ones |
-//! | `Name` | a name that differs from another only in case or outer white space, or has such space | accepted ones |
-//!
 //! A text without a tree (1 to 16) has none. What is repeated below an unknown key, or is one, is not looked into: the
 //! key is noted as unknown. Of a table that is replaced later only the replacing is noted.
 mod names;
@@ -29,16 +18,24 @@ use std::fmt;
 /// No more of one sort than these are found with their lines: a text that has more is mostly of another sort.
 pub const MOST: usize = 10;
 
-/// What sort of slip a note is about.
+/// What sort of slip a note is about: the first three of any text with a tree, the others of accepted ones.
 #[derive(Clone, Copy, Debug, PartialEq, Eq, PartialOrd, Ord, Hash)]
 pub enum Sort {
+    /// A key that is passed over ([`crate::unknown`]).
     Unknown,
+    /// A key that is assigned again, or a value that is replaced.
     Key,
+    /// A header that goes on with the table of an earlier one.
     Header,
+    /// An application that can never be planned (81).
     Unplanned,
+    /// A reference that leads elsewhere than it says, or nowhere.
     Reference,
+    /// A package that is asked for with other features than it is built with.
     Features,
+    /// A component that is not alone in its partition.
     Shared,
+    /// A name that differs from another only in case or outer white space, or has such space.
     Name,
 }
 
@@ -51,6 +48,7 @@ pub struct Note {
     /// The line, from 1, that it is told at: of two places that are held together the later, of a reference and of an
     /// application that is never planned their own; of a value over many lines the first.
     pub line: Option<usize>,
+    /// What sort of slip it is.
     pub sort: Sort,
     said: String,
 }
@@ -60,7 +58,9 @@ pub struct Note {
 /// Its `Display` is what stands after `FILE: note: `.
 #[derive(Clone, Copy, Debug, PartialEq, Eq)]
 pub struct More {
+    /// What sort of slip they are.
     pub sort: Sort,
+    /// How many.
     pub count: usize,
 }
 
