@@ -118,10 +118,10 @@ fn lost_headers() {
     let entry = |name: &str| format!("name = \"{name}\"\noffset = 0\nsize = 1\n\n");
     let text = format!("[[partition]]\n{}{}{}", entry("a"), entry("b"), entry("c"));
     let want = [
-        "6: partition 0 \"c\": key \"name\" is assigned again, and 2 more up to line 8: is a header such as \
-         [[partition]] lost before line 6? \"b\" (line 6) replaces \"a\" (line 2), and line 10 counts",
-        "10: partition 0 \"c\": key \"name\" is assigned again, and 2 more up to line 12: is a header such as \
-         [[partition]] lost before line 10? \"c\" (line 10) counts, not \"b\" (line 6)",
+        "6: partition 0 \"c\": key \"name\" is assigned again, and 2 more up to line 8 (offset, size): is \
+         a header such as [[partition]] lost before line 6? \"b\" (line 6) replaces \"a\" (line 2), and line 10 counts",
+        "10: partition 0 \"c\": key \"name\" is assigned again, and 2 more up to line 12 (offset, size): \
+         is a header such as [[partition]] lost before line 10? \"c\" (line 10) counts, not \"b\" (line 6)",
     ];
     assert_eq!(told(&text), want);
     assert_eq!(
@@ -132,8 +132,8 @@ fn lost_headers() {
                 kind = \"app\"\nfile = \"f\"\nname = \"b\"\npartition = \"p\"\nattr = \"y\"\n";
     let want = [
         "5: component 0 \"b\": key \"kind\" is assigned again: \"app\" (line 5) counts, not \"raw\" (line 3)",
-        "7: component 0 \"b\": key \"name\" is assigned again, and 1 more up to line 9: is a header such as \
-         [[component]] lost before line 7? \"b\" (line 7) counts, not \"a\" (line 2)",
+        "7: component 0 \"b\": key \"name\" is assigned again, and 1 more up to line 9 (attr): is a header \
+         such as [[component]] lost before line 7? \"b\" (line 7) counts, not \"a\" (line 2)",
     ];
     assert_eq!(told(text), want);
     let text = "[apps.k]\nname = \"a\"\nfilename = \"f\"\nname = \"b\"\n";
@@ -146,12 +146,12 @@ fn lost_headers() {
 #[test]
 fn doubled_lines() {
     let text = "[[partition]]\noffset = 1\nsize = 2\noffset = 3\nsize = 4\n";
-    let want = "4: partition 0: key \"offset\" is assigned again, and 1 more up to line 5: are lines there twice, \
-                or is a header such as [[partition]] lost before line 4? 0x3 (line 4) counts, not 0x1 (line 2)";
+    let want = "4: partition 0: key \"offset\" is assigned again, and 1 more up to line 5 (size): are \
+                lines there twice, or is a header such as [[partition]] lost before line 4? 0x3 (line 4) counts, not 0x1 (line 2)";
     assert_eq!(told(text), [want]);
     let text = text.replace("3\nsize = 4", "1\nsize = 2");
-    let want = "4: partition 0: key \"offset\" is assigned again, and 1 more up to line 5: are lines there twice? \
-                0x1 (line 4) counts, the same as before (line 2)";
+    let want = "4: partition 0: key \"offset\" is assigned again, and 1 more up to line 5 (size): are \
+                lines there twice? 0x1 (line 4) counts, the same as before (line 2)";
     assert_eq!(told(&text), [want]);
     let text =
         "[[partition]]\noffset = 1\noffset = 2\nsize = 3\nsize = 4\nname = \"a\"\nname = \"b\"\n";
@@ -167,7 +167,7 @@ fn headers_that_come_again() {
         "4: [board] comes again and goes on with the table of line 1",
         "8: [apps.k] comes again and goes on with the table of line 6: is another [apps.KEY] meant?",
         "10: [board] comes again and goes on with the table of line 1; key \"name\" is assigned again, \
-         and 1 more up to line 12: \"b\" (line 11) counts, not \"a\" (line 2)",
+         and 1 more up to line 12 (chip): \"b\" (line 11) counts, not \"a\" (line 2)",
     ];
     assert_eq!(told(text), want);
     // what comes again once more after it is another slip
@@ -262,7 +262,7 @@ fn no_slips() {
 #[test]
 fn dotted_keys() {
     let text = "[apps.k]\nname = \"a\"\nfilename = \"f\"\n[apps]\nk.name = \"b\"\n\"k\".\"filename\" = \"g\"\n";
-    let want = "5: application 0 \"k\": key \"name\" is assigned again, and 1 more up to line 6: \
+    let want = "5: application 0 \"k\": key \"name\" is assigned again, and 1 more up to line 6 (filename): \
                 \"b\" (line 5) counts, not \"a\" (line 2)";
     assert_eq!(told(text), [want]);
 }

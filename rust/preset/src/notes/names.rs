@@ -101,11 +101,14 @@ fn differs(a: &str, b: &str) -> Option<&'static str> {
     }
 }
 
-// The image's `app` names an application, and no rule looks for it; without applications none can be meant.
+// The image's `app` names an application, or so a component, and no rule looks for it; without applications none can be
+// meant.
 fn booted(preset: &Preset, tree: &Tree, entries: &Entries) -> Option<Pair> {
     let own = &preset.image.boot_app;
     let apps = || preset.apps.values().enumerate();
-    if own.is_empty() || preset.apps.is_empty() || apps().any(|(_, app)| app.name == *own) {
+    let component = preset.components.iter().any(|c| c.name == *own);
+    if own.is_empty() || preset.apps.is_empty() || component || apps().any(|(_, a)| a.name == *own)
+    {
         return None;
     }
     let called = |n| entries.called(Section::Application, n);

@@ -239,7 +239,9 @@ impl Run {
         match (self.repeats.len(), self.repeats.last()) {
             (count @ 2.., Some(last)) => {
                 let line = line(lines, last.new);
-                format!(", and {} more up to {line}", count - 1)
+                let keys: Vec<&str> = self.repeats.iter().map(|own| own.key.as_str()).collect();
+                let keys = plain(&keys[1..].join(", "));
+                format!(", and {} more up to {line} ({keys})", count - 1)
             }
             _ => String::new(),
         }

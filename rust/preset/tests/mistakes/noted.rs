@@ -11,9 +11,9 @@ pub const ALL: &[Mistake] = &[
         )],
         told: &[
             "ok: d13x, spi-nor, 6 partitions, 3 components, 7 applications",
-            "92: note: component 2 \"gobo wheels\": key \"name\" is assigned again, and 2 more up to line 96: \
-             is a header such as [[component]] lost before line 92? \"gobo wheels\" (line 92) counts, not \
-             \"env\" (line 87)",
+            "92: note: component 2 \"gobo wheels\": key \"name\" is assigned again, and 2 more up to line 96 \
+             (file, partition): is a header such as [[component]] lost before line 92? \"gobo wheels\" (line \
+             92) counts, not \"env\" (line 87)",
         ],
     },
     Mistake {
@@ -24,9 +24,9 @@ pub const ALL: &[Mistake] = &[
         )],
         told: &[
             "ok: d13x, spi-nor, 6 partitions, 3 components, 7 applications",
-            "93: note: component 2 \"gobo wheels\": key \"name\" is assigned again, and 2 more up to line 97: \
-             is a header such as [[component]] lost before line 93? \"gobo wheels\" (line 93) counts, not \
-             \"env\" (line 87)",
+            "93: note: component 2 \"gobo wheels\": key \"name\" is assigned again, and 2 more up to line 97 \
+             (file, partition): is a header such as [[component]] lost before line 93? \"gobo wheels\" (line \
+             93) counts, not \"env\" (line 87)",
         ],
     },
     Mistake {
@@ -37,9 +37,9 @@ pub const ALL: &[Mistake] = &[
         )],
         told: &[
             "ok: d13x, spi-nor, 5 partitions, 4 components, 7 applications",
-            "35: note: partition 2 \"profiles\": key \"name\" is assigned again, and 2 more up to line 37: is a \
-             header such as [[partition]] lost before line 35? \"profiles\" (line 35) counts, not \
-             \"calibration\" (line 31)",
+            "35: note: partition 2 \"profiles\": key \"name\" is assigned again, and 2 more up to line 37 \
+             (offset, size): is a header such as [[partition]] lost before line 35? \"profiles\" (line 35) \
+             counts, not \"calibration\" (line 31)",
         ],
     },
     Mistake {
@@ -48,8 +48,8 @@ pub const ALL: &[Mistake] = &[
         told: &[
             "ok: d13x, spi-nor, 6 partitions, 4 components, 6 applications",
             "114: note: application 5 \"profile-wash\": key \"name\" is assigned again, and 3 more up to line \
-             117: is a header such as [apps.KEY] lost before line 114? \"beams\" (line 114) counts, not \
-             \"washes\" (line 109)",
+             117 (partition, features, load_address): is a header such as [apps.KEY] lost before line 114? \
+             \"beams\" (line 114) counts, not \"washes\" (line 109)",
         ],
     },
     Mistake {
@@ -57,10 +57,9 @@ pub const ALL: &[Mistake] = &[
         edits: &[("[apps.profile-spot]\n", "")],
         told: &[
             "ok: d13x, spi-nor, 6 partitions, 4 components, 6 applications",
-            "16: note: image: its app \"spots\" is the name of no application",
-            "101: note: component 3 \"spots\": key \"name\" is assigned again, and 2 more up to line 103: is a \
-             header such as [[component]] lost before line 101? \"spots\" (line 101) counts, not \"gobo wheels\" \
-             (line 93)",
+            "101: note: component 3 \"spots\": key \"name\" is assigned again, and 2 more up to line 103 \
+             (partition, filename): is a header such as [[component]] lost before line 101? \"spots\" (line \
+             101) counts, not \"gobo wheels\" (line 93)",
             "109: note: application 5 \"profile-wash\": it and 4 more applications share partition \"profiles\" \
              with component 3 \"spots\" (line 102)",
         ],
@@ -72,8 +71,8 @@ pub const ALL: &[Mistake] = &[
             "ok: d13x, spi-nor, 6 partitions, 4 components, 6 applications",
             "16: note: image: its app \"spots\" is the name of no application",
             "108: note: application 4 \"profile-spot\": key \"name\" is assigned again, and 3 more up to line \
-             111: is a header such as [apps.KEY] lost before line 108? \"washes\" (line 108) counts, not \
-             \"spots\" (line 102)",
+             111 (partition, features, load_address): is a header such as [apps.KEY] lost before line 108? \
+             \"washes\" (line 108) counts, not \"spots\" (line 102)",
         ],
     },
     Mistake {
@@ -82,8 +81,8 @@ pub const ALL: &[Mistake] = &[
         told: &[
             "ok: d13x, spi-nor, 6 partitions, 4 components, 6 applications",
             "135: note: application 2 \"profile-par\": key \"name\" is assigned again, and 1 more up to line \
-             136: is a header such as [apps.KEY] lost before line 135? \"lamp hours\" (line 135) counts, not \
-             \"PAR cans\" (line 132)",
+             136 (partition): is a header such as [apps.KEY] lost before line 135? \"lamp hours\" (line 135) \
+             counts, not \"PAR cans\" (line 132)",
         ],
     },
     Mistake {
@@ -93,11 +92,11 @@ pub const ALL: &[Mistake] = &[
             "ok: d13x, spi-nor, 6 partitions, 4 components, 5 applications",
             "16: note: image: its app \"spots\" is the name of no application",
             "108: note: application 3 \"profile-spot\": key \"name\" is assigned again, and 3 more up to line \
-             111: is a header such as [apps.KEY] lost before line 108? \"washes\" (line 108) replaces \"spots\" \
-             (line 102), and line 113 counts",
+             111 (partition, features, load_address): is a header such as [apps.KEY] lost before line 108? \
+             \"washes\" (line 108) replaces \"spots\" (line 102), and line 113 counts",
             "113: note: application 3 \"profile-spot\": key \"name\" is assigned again, and 3 more up to line \
-             116: is a header such as [apps.KEY] lost before line 113? \"beams\" (line 113) counts, not \
-             \"washes\" (line 108)",
+             116 (partition, features, load_address): is a header such as [apps.KEY] lost before line 113? \
+             \"beams\" (line 113) counts, not \"washes\" (line 108)",
         ],
     },
     Mistake {
@@ -253,8 +252,8 @@ pub const ALL: &[Mistake] = &[
         )],
         told: &[
             "ok: d13x, spi-nor, 6 partitions, 4 components, 7 applications",
-            "91: note: component 2 \"env\": key \"partition\" is assigned again, and 1 more up to line 92: are \
-             lines there twice? \"env\" (line 91) counts, the same as before (line 89)",
+            "91: note: component 2 \"env\": key \"partition\" is assigned again, and 1 more up to line 92 \
+             (attr): are lines there twice? \"env\" (line 91) counts, the same as before (line 89)",
         ],
     },
     Mistake {
@@ -265,9 +264,9 @@ pub const ALL: &[Mistake] = &[
         )],
         told: &[
             "ok: d13x, spi-nor, 6 partitions, 4 components, 7 applications",
-            "49: note: partition 5 \"logs\": key \"offset\" is assigned again, and 1 more up to line 50: are \
-             lines there twice, or is a header such as [[partition]] lost before line 49? 0x7E0000 (line 49) \
-             counts, not 0x7F0000 (line 47)",
+            "49: note: partition 5 \"logs\": key \"offset\" is assigned again, and 1 more up to line 50 (size): \
+             are lines there twice, or is a header such as [[partition]] lost before line 49? 0x7E0000 (line \
+             49) counts, not 0x7F0000 (line 47)",
         ],
     },
     Mistake {
@@ -278,9 +277,9 @@ pub const ALL: &[Mistake] = &[
         )],
         told: &[
             "ok: d13x, spi-nor, 6 partitions, 4 components, 7 applications",
-            "34: note: partition 2 \"spare\": key \"name\" is assigned again, and 2 more up to line 36: is a \
-             header such as [[partition]] lost before line 34? \"spare\" (line 34) counts, not \"calibration\" \
-             (line 31)",
+            "34: note: partition 2 \"spare\": key \"name\" is assigned again, and 2 more up to line 36 (offset, \
+             size): is a header such as [[partition]] lost before line 34? \"spare\" (line 34) counts, not \
+             \"calibration\" (line 31)",
         ],
     },
     Mistake {
@@ -328,8 +327,8 @@ pub const ALL: &[Mistake] = &[
         told: &[
             "ok: d13x, spi-nor, 6 partitions, 4 components, 7 applications",
             "126: note: [apps.profile-bar] comes again and goes on with the table of line 121; key \"name\" is \
-             assigned again, and 2 more up to line 129: is another [apps.KEY] meant? \"LED rings\" (line 127) \
-             counts, not \"LED bars\" (line 122)",
+             assigned again, and 2 more up to line 129 (partition, features): is another [apps.KEY] meant? \
+             \"LED rings\" (line 127) counts, not \"LED bars\" (line 122)",
         ],
     },
     Mistake {
@@ -353,8 +352,8 @@ pub const ALL: &[Mistake] = &[
         told: &[
             "ok: d13x, spi-nor, 6 partitions, 4 components, 7 applications",
             "131: note: [apps.profile-strobe] comes again and goes on with the table of line 126; key \"name\" \
-             is assigned again, and 2 more up to line 134: is another [apps.KEY] meant? \"strobes\" (line 132) \
-             counts, the same as before (line 127)",
+             is assigned again, and 2 more up to line 134 (partition, features): is another [apps.KEY] meant? \
+             \"strobes\" (line 132) counts, the same as before (line 127)",
         ],
     },
     // Keys that are misspelled.
