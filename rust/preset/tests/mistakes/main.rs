@@ -2,7 +2,7 @@
 mod noted;
 mod refused;
 
-use std::path::Path;
+use std::path::{Path, PathBuf};
 use std::process::Command;
 
 /// What a person did to the example, and what the person should be told.
@@ -31,17 +31,23 @@ fn at_least_a_hundred_are_asked() {
     assert!(refused::ALL.len() + noted::ALL.len() >= 100);
 }
 
-// All mistakes are tried before one that is told otherwise fails the test.
+// All mistakes are tried, by one call, before one that is told otherwise fails the test.
 fn asked(table: &str, mistakes: &[Mistake]) {
-    let folder = std::env::temp_dir().join(format!("preset-{table}-{}", std::process::id()));
-    std::fs::create_dir_all(&folder).expect("a folder for the edited example");
-    let wrong = mistakes.iter().filter_map(|mistake| {
-        let told = told(&folder.join("stage.toml"), &edited(mistake));
+    let folder = Path::new(env!("CARGO_TARGET_TMPDIR")).join(table);
+    std::fs::create_dir_all(&folder).expect("target/ can be written");
+    let files = mistakes.iter().enumerate().map(|(n, mistake)| {
+        let file = folder.join(format!("{n}.toml"));
+        std::fs::write(&file, edited(mistake)).expect("target/ can be written");
+        file
+    });
+    let files: Vec<PathBuf> = files.collect();
+    let said = said(&files);
+    let wrong = mistakes.iter().zip(&files).filter_map(|(mistake, file)| {
+        let told = told(&said, file);
         let said = (told != mistake.told).then_some(told)?;
         Some(format!("{}\n{}\n", mistake.what, said.join("\n")))
     });
     let wrong: Vec<_> = wrong.collect();
-    std::fs::remove_dir_all(&folder).expect("the folder is removed");
     assert!(wrong.is_empty(), "told otherwise:\n\n{}", wrong.join("\n"));
 }
 
@@ -55,14 +61,22 @@ fn edited(mistake: &Mistake) -> String {
     text
 }
 
-// Lines that only repeat the preset's own line, or lead to `explain`, are left out.
-fn told(file: &Path, text: &str) -> Vec<String> {
-    std::fs::write(file, text).expect("the edited example is written");
-    let mut check = Command::new(env!("CARGO_BIN_EXE_preset"));
-    let answer = check.arg("check").arg(file).output().expect("it runs");
+// Standard output, then standard error; elsewhere than on x86-64 `rust/cross` names an emulator.
+fn said(files: &[PathBuf]) -> String {
+    let runner = std::env::var("CARGO_TARGET_X86_64_UNKNOWN_LINUX_GNU_RUNNER");
+    let mut check = Command::new(runner.as_deref().unwrap_or("env"));
+    check
+        .arg(env!("CARGO_BIN_EXE_preset"))
+        .arg("check")
+        .args(files);
+    let answer = check.output().expect("it runs");
     let both = [answer.stdout, answer.stderr].concat();
-    let both = String::from_utf8(both).expect("its words are UTF-8");
+    String::from_utf8(both).expect("its words are UTF-8")
+}
+
+// What is told of a file. Lines that only repeat the preset's own line, or lead to `explain`, are left out.
+fn told(said: &str, file: &Path) -> Vec<String> {
     let name = format!("{}:", file.display());
-    let lines = both.lines().filter_map(|line| line.strip_prefix(&name));
+    let lines = said.lines().filter_map(|line| line.strip_prefix(&name));
     lines.map(|line| line.trim_start().to_string()).collect()
 }
