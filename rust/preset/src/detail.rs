@@ -1,30 +1,26 @@
 //! What a refusal's words leave open: the name, the number, and what it was held against.
 use crate::clash;
 use crate::entry::{called, of_whole};
-use crate::fields::{self, FEATURES_MAX};
+use crate::fields::{self, FEATURES_MAX, Want};
+use crate::lines;
+use crate::near::near;
 use crate::refusal::{Refusal, Section};
-use crate::schema::{NAME_MAX, PartitionSpec, Preset};
+use crate::schema::{EXT_ALIGNMENT, NAME_MAX, PartitionSpec, Preset};
 use crate::shown::{plain, quoted};
 use crate::tree::{Kind, Tree};
-use port::text::TEXT_MAX;
-
-/// Of the text as a whole.
-pub(crate) fn of_text(refusal: &Refusal) -> Option<String> {
-    match refusal.number {
-        1 => Some(format!("more than {TEXT_MAX} bytes")),
-        _ => None,
-    }
-}
+use crate::wanted;
+use crate::written;
 
 /// Of a section or an entry.
 pub(crate) fn of(text: &[u8], tree: &Tree, refusal: &Refusal, app: Option<&str>) -> Option<String> {
     if refusal.number < 30 {
-        return of_records(tree, refusal);
+        return of_records(text, tree, refusal);
     }
     // What is refused by a rule has records; the board's name is in none of the details.
     let preset = Preset::read(text, b"").ok()?;
     let place = refusal.place as usize;
     match refusal.section {
+        _ if refusal.number == 40 => of_none(text),
         Section::Text => None,
         Section::Board | Section::Image => of_board(&preset, refusal.number),
         Section::Partition => of_partition(&preset, tree, refusal.number, place),
@@ -33,7 +29,18 @@ pub(crate) fn of(text: &[u8], tree: &Tree, refusal: &Refusal, app: Option<&str>)
     }
 }
 
-fn of_records(tree: &Tree, refusal: &Refusal) -> Option<String> {
+// A text without partitions that has nothing at all, or ends no line.
+fn of_none(text: &[u8]) -> Option<String> {
+    if text.trim_ascii().is_empty() {
+        Some("the text is empty".into())
+    } else if text.contains(&b'\r') && !text.contains(&b'\n') {
+        Some("no line ends: a CR alone ends none, LF or CRLF does".into())
+    } else {
+        None
+    }
+}
+
+fn of_records(text: &[u8], tree: &Tree, refusal: &Refusal) -> Option<String> {
     let (section, number) = (refusal.section, refusal.number);
     if of_whole(tree, refusal) {
         return not_whole(tree, section);
@@ -45,11 +52,12 @@ fn of_records(tree: &Tree, refusal: &Refusal) -> Option<String> {
     }
     let entry = tree.entry(section, refusal.place as usize)?;
     if number == 23 {
-        return Some(format!("it is {}", tree.kind(entry).name()));
+        let (is, header) = (tree.kind(entry).name(), headed(tree, section, entry));
+        return Some(format!("it is {is}; its header is {header}"));
     }
     let key = fields::meant(tree, refusal, entry)?;
     match tree.field(entry, key) {
-        Some(value) => of_field(tree, refusal, key, value),
+        Some(value) => of_field(text, tree, refusal, (key, value)),
         None => Some(format!("no `{key}`")),
     }
 }
@@ -61,25 +69,43 @@ fn not_whole(tree: &Tree, section: Section) -> Option<String> {
         _ => Kind::Table.name(),
     };
     let is = tree.kind(is).name();
-    Some(format!("`{key}` is {is}, not {need}"))
+    let headers = match section {
+        Section::Board | Section::Image => format!("its header is [{key}]"),
+        Section::Application => "its headers are [apps.KEY]".into(),
+        _ => format!("its headers are [[{key}]]"),
+    };
+    Some(format!("`{key}` is {is}, not {need}; {headers}"))
 }
 
-fn of_field(tree: &Tree, refusal: &Refusal, key: &str, value: usize) -> Option<String> {
-    let want = fields::fields(refusal.section).iter();
-    let want = want.clone().find(|(own, _)| *own == key)?.1;
+// The header that an entry has to have.
+fn headed(tree: &Tree, section: Section, entry: usize) -> String {
+    let name = tree.called(section, entry).unwrap_or_default();
+    match section {
+        Section::Application => format!("[apps.{}]", plain(&name)),
+        _ => format!("[[{}]]", section.name()),
+    }
+}
+
+fn of_field(
+    text: &[u8],
+    tree: &Tree,
+    refusal: &Refusal,
+    (key, value): (&'static str, usize),
+) -> Option<String> {
+    let mut own = fields::fields(refusal.section).iter();
+    let field = *own.find(|(own, _)| *own == key)?;
+    let written = || in_its_line(text, value).unwrap_or_default();
     match refusal.number {
-        20 if want == fields::Want::List && tree.kind(value) == Kind::Array => {
-            Some(format!("`{key}` has an item that is no string"))
-        }
+        20 if field.1 == Want::List && tree.kind(value) == Kind::Array => Some(format!(
+            "`{key}` has an item that is no string; it wants {}",
+            wanted::said(field, &written())
+        )),
         20 => {
-            let (is, want) = (tree.kind(value).name(), want.name());
-            Some(format!("`{key}` is {is}, not {want}"))
+            let (is, wants) = (tree.kind(value).name(), wanted::said(field, &written()));
+            Some(format!("`{key}` is {is}; it wants {wants}"))
         }
-        21 => Some(format!("`{key}` is {}", tree.integer(value)?)),
-        22 => {
-            let (word, choices) = (quoted(&tree.text(value)?), fields::choices(key));
-            Some(format!("`{key}` is {word}; there are {choices}"))
-        }
+        21 => ranged(tree, (key, value), &written()),
+        22 => Some(unknown_word(key, &tree.text(value)?)),
         25 => {
             let items = fields::count(tree, value);
             Some(format!(
@@ -88,6 +114,44 @@ fn of_field(tree: &Tree, refusal: &Refusal, key: &str, value: usize) -> Option<S
         }
         _ => None,
     }
+}
+
+// A value as it is written in the line that makes it.
+fn in_its_line(text: &[u8], value: usize) -> Option<String> {
+    let line = written::line(text, lines::making(text, value)?)?;
+    written::assigned(&line).map(|(_, value)| value.to_string())
+}
+
+// A number out of range, as the file has it, and its limits in the same base.
+fn ranged(tree: &Tree, (key, value): (&str, usize), written: &str) -> Option<String> {
+    let number = tree.integer(value)?;
+    let own = i128::from(port::value::int(written.as_bytes()).value);
+    let is = if own == number {
+        plain(written)
+    } else {
+        number.to_string()
+    };
+    let most = if is.contains(['x', 'X']) {
+        format!("{:#X}", u32::MAX)
+    } else {
+        u32::MAX.to_string()
+    };
+    Some(format!("`{key}` is {is}; it is from 0 to {most}"))
+}
+
+fn unknown_word(key: &str, word: &str) -> String {
+    let choices = fields::words(key);
+    let (near, all) = (near(word, &choices), choices.join(", "));
+    format!(
+        "`{key}` is {}{}; there are {all}",
+        quoted(word),
+        meant(near)
+    )
+}
+
+// What a word is most likely meant to be, where there is such a one.
+fn meant(near: Option<&str>) -> String {
+    near.map_or(String::new(), |near| format!(" ({}?)", quoted(near)))
 }
 
 fn of_board(preset: &Preset, number: u32) -> Option<String> {
@@ -104,8 +168,10 @@ fn of_board(preset: &Preset, number: u32) -> Option<String> {
             chip.name()
         )),
         33 => Some(long(&image.boot_app)),
-        34 => Some(quoted(&board.target)),
-        35 => Some(format!("{} for {}", quoted(&board.target), chip.name())),
+        34 | 35 => {
+            let (own, takes) = (quoted(&board.target), quoted(chip.default_target()));
+            Some(format!("{own}; {} takes {takes}", chip.name()))
+        }
         _ => None,
     }
 }
@@ -122,16 +188,15 @@ fn of_partition(preset: &Preset, tree: &Tree, number: u32, place: usize) -> Opti
     let partitions = &preset.partitions;
     let own = partitions.get(place)?;
     let (offset, size) = (own.offset, own.size);
+    let chip = preset.board.chip;
+    let (media, block) = (chip.default_media().name(), chip.erase_size());
     let off = |what: &str, n: u32| {
-        let (media, block) = (
-            preset.board.chip.default_media(),
-            preset.board.chip.erase_size(),
-        );
-        let media = media.name();
-        format!("`{what}` is {n:#X}; the erase block of {media} is {block:#X}")
+        let fit = fitting(n, block);
+        format!("`{what}` is {n:#X}; the erase block of {media} is {block:#X}, so {fit} fits")
     };
     match number {
-        41 => Some(format!("`offset` is {offset:#X}")),
+        41 => Some(first_at(tree, partitions, offset)),
+        44 => Some(format!("the erase block of {media} is {block:#X}")),
         43 => {
             let earlier = partitions.iter().position(|p| p.name == own.name)?;
             Some(twin(tree, Section::Partition, &own.name, earlier))
@@ -146,8 +211,31 @@ fn of_partition(preset: &Preset, tree: &Tree, number: u32, place: usize) -> Opti
                 "it starts at {offset:#X}, {before} ends at {end:#X}"
             ))
         }
-        48 => Some(format!("it ends at {:#X}", end(own))),
+        48 => Some(format!(
+            "it ends at {:#X}; the most is {:#X}",
+            end(own),
+            u32::MAX
+        )),
         _ => None,
+    }
+}
+
+// Where the first partition starts, and which one starts where it should.
+fn first_at(tree: &Tree, partitions: &[PartitionSpec], offset: u32) -> String {
+    let other = partitions.iter().position(|p| p.offset == 0);
+    let other = other.map(|place| called(tree, Section::Partition, place));
+    let other = other.map_or(String::new(), |other| format!("; {other} starts at 0"));
+    format!("`offset` is {offset:#X}{other}")
+}
+
+// The multiples of a step on both sides of a number, but 0.
+fn fitting(n: u32, step: u32) -> String {
+    let below = u64::from(n - n % step);
+    let above = format!("{:#X}", below + u64::from(step));
+    if below == 0 {
+        above
+    } else {
+        format!("{below:#X} or {above}")
     }
 }
 
@@ -177,8 +265,15 @@ fn of_component(preset: &Preset, tree: &Tree, refusal: &Refusal, place: usize) -
             Some(twin(tree, Section::Component, &own.name, earlier))
         }
         52 => Some(long(&own.name)),
-        58 => Some(quoted(PartitionSpec::name_of(&own.partition))),
-        59 => Some(format!("`ext_reserve` is {:#X}", own.ext_reserve)),
+        58 => {
+            let name = PartitionSpec::name_of(&own.partition);
+            Some(unknown_partition(preset, name, ""))
+        }
+        59 => {
+            let reserve = u32::try_from(own.ext_reserve).ok()?;
+            let fit = fitting(reserve, u32::try_from(EXT_ALIGNMENT).ok()?);
+            Some(format!("`ext_reserve` is {reserve:#X}; {fit} fits"))
+        }
         60 => clash::of(preset, refusal).map(|clash| clash.said(tree)),
         _ => None,
     }
@@ -197,12 +292,18 @@ fn of_application(
     match refusal.number {
         60 => clash::of(preset, refusal).map(|clash| clash.said(tree)),
         62 => Some(long(&own.name)),
-        64 => Some(absent(tree, refusal, &own.partition)),
+        64 => Some(absent(preset, tree, refusal, &own.partition)),
         65 => {
             let earlier = preset.apps.values().position(|a| a.name == own.name)?;
             Some(twin(tree, Section::Application, &own.name, earlier))
         }
-        66 => Some(format!("`load_address` is {:#X}", own.load_address?)),
+        66 => {
+            let at = own.load_address?;
+            Some(format!(
+                "`load_address` is {at:#X}; {} fits",
+                fitting(at, 4)
+            ))
+        }
         81 => {
             let component = preset.components.iter().position(|c| c.name == own.name)?;
             Some(twin(tree, Section::Component, &own.name, component))
@@ -211,23 +312,37 @@ fn of_application(
     }
 }
 
-// A partition that is not there; the default's name stands nowhere in the text, so it is told to be one.
-fn absent(tree: &Tree, refusal: &Refusal, partition: &str) -> String {
+// A partition that is not there: which one is likely meant, and which there are.
+fn unknown_partition(preset: &Preset, name: &str, taken: &str) -> String {
+    let there: Vec<&str> = preset.partitions.iter().map(|p| p.name.as_str()).collect();
+    // an application's reference is not cut at a semicolon, though one may think so
+    let cut = PartitionSpec::name_of(name);
+    let near = near(cut, &there);
+    let there = plain(&there.join(", "));
+    format!("{}{}{taken}; there are {there}", quoted(name), meant(near))
+}
+
+// The default's name stands nowhere in the text, so it is told to be one.
+fn absent(preset: &Preset, tree: &Tree, refusal: &Refusal, partition: &str) -> String {
     let entry = tree.entry(refusal.section, refusal.place as usize);
     let written = entry.and_then(|entry| tree.field(entry, "partition"));
     let taken = match written {
         Some(_) => "",
         None => ", which is taken where no `partition` is written",
     };
-    format!("{}{taken}", quoted(partition))
+    unknown_partition(preset, partition, taken)
 }
 
+// An application that is not there: it may be asked for by its name, or be misspelled.
 fn undeclared(preset: &Preset, key: &str) -> String {
     let declared: Vec<&str> = preset.apps.keys().map(String::as_str).collect();
+    let named = preset.apps.values().find(|app| app.name == key);
+    let named = named.map(|app| app.package.as_str());
+    let near = meant(named.or_else(|| near(key, &declared)));
     let declared = if declared.is_empty() {
         "none".into()
     } else {
         plain(&declared.join(", "))
     };
-    format!("{}; declared: {declared}", quoted(key))
+    format!("{}{near}; declared: {declared}", quoted(key))
 }

@@ -13,17 +13,6 @@ pub(crate) enum Want {
     List,
 }
 
-impl Want {
-    pub fn name(self) -> &'static str {
-        match self {
-            Want::Text => Kind::Text.name(),
-            Want::Integer => Kind::Integer.name(),
-            Want::Boolean => Kind::Boolean.name(),
-            Want::List => "a string or an array of strings",
-        }
-    }
-}
-
 type Fields = &'static [(&'static str, Want)];
 
 const BOARD: Fields = &[
@@ -177,14 +166,14 @@ fn word(tree: &Tree, section: Section) -> &'static str {
     }
 }
 
-/// The words that a field of 22 may have.
-pub(crate) fn choices(key: &str) -> String {
-    let words: Vec<&str> = match key {
+/// The words that a field may have, where it takes no others.
+pub(crate) fn words(key: &str) -> Vec<&'static str> {
+    match key {
+        "chip" | "platform" => Chip::ALL.map(Chip::name).into(),
         "media" => Media::ALL.map(Media::name).into(),
         "kind" => ComponentKind::ALL.map(ComponentKind::name).into(),
-        _ => Chip::ALL.map(Chip::name).into(),
-    };
-    words.join(", ")
+        _ => Vec::new(),
+    }
 }
 
 // The field that a rule is about; of two that must not stand together, the second.

@@ -46,6 +46,7 @@ mod near;
 pub mod notes;
 pub mod owned;
 pub mod picture;
+mod reading;
 mod refusal;
 mod rooms;
 mod schema;
@@ -53,7 +54,9 @@ pub mod shown;
 pub mod svg;
 mod tree;
 pub mod unknown;
+mod wanted;
 mod ways;
+mod written;
 
 pub use fault::Fault;
 pub use port::text::TEXT_MAX;

@@ -102,6 +102,18 @@ fn joined(text: &[u8]) -> Vec<usize> {
     out
 }
 
+/// The text before a physical line.
+pub(crate) fn before(text: &[u8], line: usize) -> &[u8] {
+    let ends = text.iter().enumerate().filter(|(_, b)| **b == b'\n');
+    match line {
+        0 | 1 => &[],
+        _ => {
+            let end = ends.map(|(at, _)| at + 1).nth(line - 2);
+            &text[..end.unwrap_or(text.len())]
+        }
+    }
+}
+
 /// What stands in a physical line, without its end.
 pub(crate) fn standing(text: &[u8], line: usize) -> Option<&[u8]> {
     let found = text.split(|&b| b == b'\n').nth(line.checked_sub(1)?)?;

@@ -3,19 +3,34 @@
 // Words with more slips between them than these are two words.
 const SLIPS: usize = 2;
 
+// In longer words slips are not counted: that takes the product of their lengths.
+const LONGEST: usize = 100;
+
 /// The first of the known words with the fewest slips, where they are few and less than half of the word's length.
-pub(crate) fn near(word: &str, known: &[&'static str]) -> Option<&'static str> {
-    let word: Vec<char> = word.chars().collect();
+/// Capitals, `-` and `_` make no other word.
+pub(crate) fn near<'a>(word: &str, known: &[&'a str]) -> Option<&'a str> {
+    let word = alike(word);
     let few = |slips: &usize| *slips <= SLIPS && 2 * slips < word.len();
     let each = known.iter().filter_map(|&own| {
-        let letters: Vec<char> = own.chars().collect();
-        // each letter more is a slip, so that long words need no counting
-        let long = word.len().abs_diff(letters.len()) > SLIPS;
-        let slips = (!long).then(|| slips(&word, &letters)).filter(few)?;
-        Some((slips, own))
+        let letters = alike(own);
+        // each letter more is a slip, so that most words need no counting
+        let apart = word.len().abs_diff(letters.len()) > SLIPS;
+        let long = word.len().max(letters.len()) > LONGEST;
+        let slips = if apart || long {
+            (word == letters).then_some(0)
+        } else {
+            Some(slips(&word, &letters))
+        };
+        Some((slips.filter(few)?, own))
     });
     let best = each.min_by_key(|(slips, _)| *slips)?;
     Some(best.1)
+}
+
+// The letters that make a word, whatever their size.
+fn alike(word: &str) -> Vec<char> {
+    let own = word.chars().filter(|c| !['-', '_'].contains(c));
+    own.flat_map(char::to_lowercase).collect()
 }
 
 // How many letters are left out, put in, mistaken or swapped with the next: the edit distance of Damerau, in which no
@@ -69,11 +84,24 @@ mod tests {
         assert_eq!(near("filenmae", &known), Some("filename"));
         assert_eq!(near("nam", &known), Some("name"));
         assert_eq!(near("filenames_", &known), Some("filename"));
-        assert_eq!(near("filenames__", &known), None);
+        assert_eq!(near("filenames__", &known), Some("filename"));
+        assert_eq!(near("filenamesss", &known), None);
         // of two the first
         assert_eq!(near("cat", &["rat", "hat"]), Some("rat"));
         assert_eq!(near("cat", &["dog", "at"]), Some("at"));
         assert_eq!(near("cat", &[]), None);
+    }
+
+    // A word that only capitals and dashes part from a known one is that one, before any other.
+    #[test]
+    fn capitals_and_dashes_are_no_slips() {
+        assert_eq!(near("SPI_NOR", &["spi-nand", "spi-nor"]), Some("spi-nor"));
+        assert_eq!(near("spinor", &["spi-nor"]), Some("spi-nor"));
+        assert_eq!(near("D13X", &["d21x", "d13x"]), Some("d13x"));
+        assert_eq!(near("Boot", &["boat", "boot"]), Some("boot"));
+        assert_eq!(near("É", &["é"]), Some("é"));
+        assert_eq!(near("--", &["-"]), None);
+        assert_eq!(near("", &[""]), None);
     }
 
     // In a short word one letter more or less makes another word.
@@ -87,6 +115,9 @@ mod tests {
         assert_eq!(near("xxame", &["name"]), Some("name"));
         assert_eq!(near("xaxme", &["name"]), Some("name"));
         assert_eq!(near("xame", &["name"]), Some("name"));
-        assert_eq!(near(&"x".repeat(30_000), &["name"]), None);
+        let long = "x".repeat(30_000);
+        assert_eq!(near(&long, &["name"]), None);
+        assert_eq!(near(&long, &[&format!("{long}y")]), None);
+        assert_eq!(near(&long.to_uppercase(), &[&long]), Some(long.as_str()));
     }
 }

@@ -20,6 +20,15 @@ pub enum Section {
 }
 
 impl Section {
+    /// Those that have fields, in the order of reading.
+    pub(crate) const READ: [Section; 5] = [
+        Section::Board,
+        Section::Image,
+        Section::Partition,
+        Section::Component,
+        Section::Application,
+    ];
+
     /// 01's number of it.
     pub fn number(self) -> u32 {
         self as u32

@@ -1,6 +1,7 @@
 //! `preset check`: what each preset is, or why it is refused, and slips that the rules accept.
 use crate::answer::{ACCEPTED, Answer, REFUSED};
 use crate::arguments::Manner;
+use crate::called::called;
 use crate::input::{self, Input};
 use preset::notes::{Notes, notes};
 use preset::{Fault, Preset, Refusal};
@@ -131,9 +132,10 @@ pub fn told(input: &Input, fault: &Fault) -> String {
 pub fn advice(mut numbers: Vec<u32>) -> String {
     numbers.sort();
     numbers.dedup();
+    let called = called();
     let each: Vec<_> = numbers
         .iter()
-        .map(|n| format!("preset explain {n}"))
+        .map(|n| format!("{called} explain {n}"))
         .collect();
     if each.is_empty() {
         String::new()

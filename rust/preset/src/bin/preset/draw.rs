@@ -66,7 +66,7 @@ fn drawn(drawing: &Drawing, out: Option<OsString>) -> Answer {
     match std::fs::write(&file, svg::svg(drawing)) {
         Ok(()) => Answer::default(),
         Err(why) => {
-            let file = shown::file(&file);
+            let (file, why) = (shown::file(&file), input::said(&why));
             Answer::failed(format!("{file}: cannot be written: {why}"))
         }
     }

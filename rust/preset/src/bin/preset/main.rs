@@ -3,6 +3,7 @@
 
 mod answer;
 mod arguments;
+mod called;
 mod check;
 mod draw;
 mod explain;
@@ -18,7 +19,10 @@ const HELP: &str = include_str!("help.txt");
 fn main() -> ExitCode {
     let answer = match arguments::parse(std::env::args_os().skip(1)) {
         Ok(command) => run(command),
-        Err(wrong) => Answer::failed(format!("{wrong}\npreset --help says how it is called")),
+        Err(wrong) => {
+            let called = called::called();
+            Answer::failed(format!("{wrong}\n{called} --help says how it is called"))
+        }
     };
     answer.given()
 }

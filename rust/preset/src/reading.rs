@@ -1,0 +1,325 @@
+//! What the refusals of reading (1 to 16) leave open: what is there, and how it would be read.
+use crate::fields::{Want, fields};
+use crate::lines;
+use crate::near::near;
+use crate::refusal::{Refusal, Section};
+use crate::shown::{plain, quoted};
+use crate::tree::{Tree, roots};
+use crate::wanted::{self, ANY, unquoted};
+use crate::written::{self, PLACES, Spot, assigned, in_string, is_value, kept, trimmed};
+use port::text::{self, TEXT_MAX, scan};
+use port::value::{self, ARRAYS_MAX, SEGMENTS_MAX, STORE_MIN, VALUES_MAX};
+
+const MARK: char = '\u{feff}';
+const REMARK: &str = "a remark begins with `#`";
+
+/// What is to be said of a refusal of the text.
+pub(crate) fn of(text: &[u8], refusal: &Refusal) -> Option<String> {
+    let place = refusal.place as usize;
+    match refusal.number {
+        1 => Some(format!("more than {TEXT_MAX} bytes")),
+        2 => encoded(text),
+        3 => closed(text, place),
+        4 => open(text, place),
+        _ => of_line(text, refusal.number, place, &written::line(text, place)?),
+    }
+}
+
+fn of_line(text: &[u8], number: u32, place: usize, line: &str) -> Option<String> {
+    let at = At { text, place };
+    match number {
+        5 => Some(at.neither(line)),
+        6 => at.keyless(),
+        7 => Some(unnamed(line)),
+        8 => escape(line),
+        9 => Some("a dot parts a key, also between quotes".into()),
+        10 => at.after_string(line),
+        11 => after_list(line),
+        12 => at.no_value(line),
+        13 => at.in_the_way(line),
+        14 => Some(format!(
+            "the most is {ARRAYS_MAX}, and no field takes a list of lists"
+        )),
+        15 => Some(format!(
+            "the most is {SEGMENTS_MAX}, and no header needs more than two"
+        )),
+        16 => Some(format!(
+            "the most is {VALUES_MAX}, and each item of a list is one"
+        )),
+        _ => None,
+    }
+}
+
+fn encoded(text: &[u8]) -> Option<String> {
+    let at = std::str::from_utf8(text).err()?.valid_up_to();
+    let byte = *text.get(at)?;
+    if text.starts_with(&[0xFF, 0xFE]) || text.starts_with(&[0xFE, 0xFF]) {
+        return Some("it is UTF-16; save the file as UTF-8".into());
+    }
+    let latin = match byte {
+        0xA0.. => format!(", in Latin-1 `{}`", plain(&char::from(byte).to_string())),
+        _ => String::new(),
+    };
+    Some(format!("byte 0x{byte:X}{latin}; save the file as UTF-8"))
+}
+
+// How the header of a table of that name is written, where the rules know it.
+fn header(name: &str) -> String {
+    let (first, rest) = name.split_once('.').unwrap_or((name, ""));
+    let own = |section: &Section| near(first, roots(*section)).is_some();
+    match Section::READ.into_iter().find(own) {
+        Some(Section::Application) if rest.is_empty() => "[apps.KEY]".into(),
+        Some(Section::Application) => format!("[apps.{}]", plain(rest)),
+        Some(list @ (Section::Partition | Section::Component)) => format!("[[{}]]", list.name()),
+        Some(table) => format!("[{}]", table.name()),
+        None => format!("[{}]", plain(name)),
+    }
+}
+
+fn is_header(line: &str) -> bool {
+    assigned(line).is_none() && line.contains(['[', ']'])
+}
+
+fn header_is(line: &str) -> String {
+    let name = line.trim_matches(['[', ']', ' ', ',', ';']);
+    format!(
+        "a header is written {}",
+        header(name.split(']').next().unwrap_or(name))
+    )
+}
+
+// A bracket too many.
+fn closed(text: &[u8], place: usize) -> Option<String> {
+    let line = kept(lines::standing(text, place)?);
+    let value = assigned(&line).map(|(_, value)| format!("[{value}"));
+    match value.filter(|value| is_value(value)) {
+        Some(list) => Some(format!("a list begins with `[`: {}", plain(&list))),
+        None if line.trim_matches([']', ',', ' ']).is_empty() => {
+            Some("no list is open here".into())
+        }
+        None if is_header(&line) => Some(header_is(&line)),
+        None => None,
+    }
+}
+
+// The first line from that one on with a string that is not closed there, else the brackets of the line itself.
+fn open(text: &[u8], place: usize) -> Option<String> {
+    let own = lines::standing(text, place)?;
+    let line = kept(own);
+    let each = text.split(|b| *b == b'\n').map(kept).zip(1..);
+    let mut each = each.skip(place.saturating_sub(1));
+    match each.find(|(line, _)| in_string(line)) {
+        Some((line, at)) if at == place => Some(unclosed(&line)),
+        Some((line, at)) => Some(format!("line {at}: {}", unclosed(&line))),
+        None if is_header(&line) => Some(header_is(&line)),
+        None if own[text::kept(own).min(own.len())..].contains(&b']') => {
+            Some("a `]` after `#` is a remark".into())
+        }
+        None => Some("a list ends with `]`".into()),
+    }
+}
+
+// A line's string that goes on: what stands after its last quote.
+fn unclosed(line: &str) -> String {
+    let (before, after) = line.rsplit_once('"').unwrap_or((line, ""));
+    let own = trimmed(after.trim_end_matches([',', ';', ']', '\'', '”']));
+    let word = own
+        .chars()
+        .all(|c| c.is_alphanumeric() || " -_./;".contains(c));
+    if in_string(before) || own.is_empty() || !word {
+        "a `\"` has no second one".into()
+    } else {
+        format!("a `\"` has no second one: {}", quoted(own))
+    }
+}
+
+// A key or a header with a part that is none.
+fn unnamed(line: &str) -> String {
+    let key = assigned(line).map_or(line, |(key, _)| key);
+    let name = key.trim_matches(['[', ']', ' ']);
+    if name.is_empty() {
+        "no name stands between the brackets".into()
+    } else if name.contains('"') {
+        format!("a key needs no quotes: {}", plain(&name.replace('"', "")))
+    } else {
+        format!("`{}` has an empty part", plain(name))
+    }
+}
+
+// The first backslash in a string with something else behind it than there may be.
+fn escape(line: &str) -> Option<String> {
+    let known = |at: usize| line[at + 1..].starts_with(['n', 't', 'r', '"', '\\']);
+    let hides = |at: usize| scan(line[..at].as_bytes()).state == 1;
+    let mut each = line.match_indices('\\').map(|(at, _)| at).take(PLACES);
+    let at = each.find(|at| hides(*at) && !known(*at))?;
+    let next = line[at + 1..].chars().next().unwrap_or(' ');
+    let next = plain(&next.to_string());
+    let whole = assigned(line).map(|(_, value)| value.replace('\\', "/"));
+    let whole = whole.filter(|value| value.contains('/') && is_value(value));
+    let path = whole.map_or(String::new(), |value| format!(": {}", plain(&value)));
+    Some(format!(
+        "`\\{next}`; a backslash is written `\\\\`, and in paths `/`{path}"
+    ))
+}
+
+// What stands after a string or a list, of which other languages have some.
+fn behind(rest: &str, before: &str) -> String {
+    if rest.starts_with("//") || rest.starts_with("/*") || rest.starts_with("--") {
+        REMARK.into()
+    } else {
+        format!("`{}` stands after {before}", plain(rest))
+    }
+}
+
+fn after_list(line: &str) -> Option<String> {
+    let (_, value) = assigned(line)?;
+    let mut each = value.rmatch_indices(']').take(PLACES);
+    let (at, _) = each.find(|(at, _)| !in_string(&value[..*at]))?;
+    Some(behind(trimmed(&value[at + 1..]), "the list"))
+}
+
+// A string and what stands behind it.
+fn parted(value: &str) -> Option<(&str, &str)> {
+    let inner = value.strip_prefix('"')?;
+    let mut store = vec![0; STORE_MIN];
+    let read = value::string(inner.as_bytes(), &mut store);
+    let at = (read.number == 0).then_some(1 + read.used)?;
+    let rest = trimmed(value.get(at..)?);
+    (!rest.is_empty()).then_some((&value[..at], rest))
+}
+
+// A line of a text; the tables that it stands in are asked of the text before it.
+struct At<'a> {
+    text: &'a [u8],
+    place: usize,
+}
+
+impl At<'_> {
+    fn field(&self, key: &str) -> Option<(&'static str, Want)> {
+        Spot::of(self.text, self.place, key)?.field()
+    }
+
+    fn neither(&self, line: &str) -> String {
+        let remarks = ["//", "/*", "--", ";", "%", "!"];
+        if line.starts_with(MARK) {
+            "a UTF-8 byte order mark at the start of the file; save it without".into()
+        } else if line.contains('\0') {
+            "it has zero bytes, as UTF-16 has; save the file as UTF-8".into()
+        } else if remarks.iter().any(|mark| line.starts_with(mark)) {
+            REMARK.into()
+        } else if line.starts_with('[') {
+            format!("{}, alone in its line", header_is(line))
+        } else {
+            self.unassigned(line)
+        }
+    }
+
+    // A key without its `=`, perhaps with `:` in its place.
+    fn unassigned(&self, line: &str) -> String {
+        let (key, value) = line.split_once([':', ' ', '\t']).unwrap_or((line, ""));
+        let (key, value) = (trimmed(key), trimmed(value.trim_start_matches([':', ' '])));
+        let value = trimmed(value.trim_end_matches([',', ';']));
+        let key = unquoted(key);
+        let field = self.field(key);
+        if is_value(value) && !key.is_empty() {
+            format!("`=` is missing: {} = {}", plain(key), plain(value))
+        } else if let Some(field) = field {
+            let wanted = wanted::said(field, value);
+            format!("`=` is missing after `{}`, which wants {wanted}", field.0)
+        } else {
+            "a line is a header in brackets, or key = value".into()
+        }
+    }
+
+    fn keyless(&self) -> Option<String> {
+        let section = Spot::of(self.text, self.place, "x")?.section?;
+        let keys: Vec<_> = fields(section).iter().map(|(key, _)| *key).collect();
+        let (name, keys) = (section.name(), keys.join(", "));
+        Some(plain(&format!("keys of {name} are {keys}")))
+    }
+
+    fn after_string(&self, line: &str) -> Option<String> {
+        let (key, value) = assigned(line)?;
+        let list = format!("[{value}]");
+        let is_list = self.field(key).is_some_and(|(_, want)| want == Want::List);
+        let mut items = value.trim_matches(['[', ']']).split(',').map(trimmed);
+        if value.contains("\"\"\"") {
+            let own = wanted::string(unquoted(value)).unwrap_or_default();
+            let own = if own.is_empty() {
+                own
+            } else {
+                format!(": {own}")
+            };
+            Some(format!("there are no strings in three quotes{own}"))
+        } else if is_list && value.starts_with('"') && is_value(&list) {
+            Some(format!("a list stands in brackets: {}", plain(&list)))
+        } else if value.starts_with('[') {
+            let (own, rest) = items.find_map(parted)?;
+            Some(format!(
+                "a comma is missing between {} and {}",
+                plain(own),
+                plain(rest)
+            ))
+        } else {
+            let (own, rest) = parted(value)?;
+            Some(behind(rest, &plain(own)))
+        }
+    }
+
+    fn no_value(&self, line: &str) -> Option<String> {
+        let (key, value) = assigned(line)?;
+        let cut = ["//", "/*", "--"]
+            .iter()
+            .filter_map(|mark| value.find(mark));
+        let (own, remark) = value.split_at(cut.min().unwrap_or(value.len()));
+        let own = trimmed(own);
+        let more = if remark.is_empty() { "" } else { REMARK };
+        if is_value(own) && !remark.is_empty() {
+            return Some(more.into());
+        }
+        if let Some(sign) = value.chars().next().filter(|c| ['=', '>'].contains(c)) {
+            return Some(format!("`={sign}` is written `=`"));
+        }
+        let said = match self.field(key) {
+            Some(field) => format!("`{}` wants {}", field.0, wanted::said(field, own)),
+            None if own.contains('{') => braces(key),
+            None => ANY.into(),
+        };
+        let nothing = if value.is_empty() {
+            "nothing stands after `=`; "
+        } else {
+            ""
+        };
+        Some(format!("{nothing}{said}"))
+    }
+
+    // What bears the name of a list, and the line that made it.
+    fn in_the_way(&self, line: &str) -> Option<String> {
+        let before = lines::before(self.text, self.place);
+        let tree = Tree::read(before)?;
+        let name = line.strip_prefix("[[")?.strip_suffix("]]")?;
+        let path = path(name)?;
+        let (first, rest) = path.split_first()?;
+        let down = |table, key: &String| tree.field(table, key);
+        let value = rest.iter().try_fold(tree.root(first)?, down)?;
+        let at = lines::making(before, value)?;
+        let stands = plain(&kept(lines::standing(before, at)?));
+        let (name, kind) = (plain(trimmed(name)), tree.kind(value).name());
+        Some(format!("`{name}` is {kind} since line {at}: {stands}"))
+    }
+}
+
+// The parts of a header's name, as the library reads it.
+fn path(name: &str) -> Option<Vec<String>> {
+    let tree = Tree::read(format!("[{name}]").as_bytes())?;
+    let below = |table: &usize| tree.entries(*table).first().copied();
+    let each = std::iter::successors(tree.top().first().copied(), below);
+    each.map(|table| tree.key(table)).collect()
+}
+
+fn braces(key: &str) -> String {
+    format!(
+        "a table has a header of its own, {}, and its fields below",
+        header(key)
+    )
+}
