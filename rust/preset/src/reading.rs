@@ -119,17 +119,19 @@ fn open(text: &[u8], place: usize) -> Option<String> {
     }
 }
 
-// A line's string that goes on: what stands after its last quote.
+// A line with a quote too few: the word beside the only one, where that is certain to be meant.
 fn unclosed(line: &str) -> String {
-    let (before, after) = line.rsplit_once('"').unwrap_or((line, ""));
-    let own = trimmed(after.trim_end_matches([',', ';', ']', '\'', '”']));
-    let word = own
-        .chars()
-        .all(|c| c.is_alphanumeric() || " -_./;".contains(c));
-    if in_string(before) || own.is_empty() || !word {
-        "a `\"` has no second one".into()
+    let said = "a `\"` has no second one";
+    let value = assigned(line).map_or(line, |(_, value)| value);
+    // a string that is open hides what begins a remark
+    let value = value.split(" #").next().unwrap_or(value);
+    let own = value.trim_matches(['[', ']', ',', ';', ' ', '\t']);
+    let word = unquoted(own).trim_end_matches('"');
+    let plain = |c: char| c.is_alphanumeric() || " -_./;".contains(c);
+    if word.is_empty() || !word.chars().all(plain) {
+        said.into()
     } else {
-        format!("a `\"` has no second one: {}", quoted(own))
+        format!("{said}: {}", quoted(word))
     }
 }
 
@@ -153,12 +155,17 @@ fn escape(line: &str) -> Option<String> {
     let mut each = line.match_indices('\\').map(|(at, _)| at).take(PLACES);
     let at = each.find(|at| hides(*at) && !known(*at))?;
     let next = line[at + 1..].chars().next().unwrap_or(' ');
-    let next = plain(&next.to_string());
+    let shown = plain(&next.to_string());
+    if ['u', 'U', 'x'].contains(&next) {
+        return Some(format!(
+            "`\\{shown}`; a backslash is written `\\\\`, and characters as they are"
+        ));
+    }
     let whole = assigned(line).map(|(_, value)| value.replace('\\', "/"));
     let whole = whole.filter(|value| value.contains('/') && is_value(value));
     let path = whole.map_or(String::new(), |value| format!(": {}", plain(&value)));
     Some(format!(
-        "`\\{next}`; a backslash is written `\\\\`, and in paths `/`{path}"
+        "`\\{shown}`; a backslash is written `\\\\`, and in paths `/`{path}"
     ))
 }
 
@@ -217,9 +224,11 @@ impl At<'_> {
     // A key without its `=`, perhaps with `:` in its place.
     fn unassigned(&self, line: &str) -> String {
         let (key, value) = line.split_once([':', ' ', '\t']).unwrap_or((line, ""));
-        let (key, value) = (trimmed(key), trimmed(value.trim_start_matches([':', ' '])));
-        let value = trimmed(value.trim_end_matches([',', ';']));
-        let key = unquoted(key);
+        let mut signs = [":", "->", "<-", "- "].iter();
+        let value = trimmed(value);
+        let value = signs.find_map(|s| value.strip_prefix(s)).unwrap_or(value);
+        let value = trimmed(trimmed(value).trim_end_matches([',', ';']));
+        let key = unquoted(trimmed(key));
         let field = self.field(key);
         if is_value(value) && !key.is_empty() {
             format!("`=` is missing: {} = {}", plain(key), plain(value))
@@ -262,35 +271,32 @@ impl At<'_> {
             ))
         } else {
             let (own, rest) = parted(value)?;
-            Some(behind(rest, &plain(own)))
+            let inside = value[own.len()..].starts_with(char::is_alphanumeric);
+            let quote = if inside && rest.ends_with('"') {
+                "; a quote inside a string is written `\\\"`"
+            } else {
+                ""
+            };
+            Some(behind(rest, &plain(own)) + quote)
         }
     }
 
     fn no_value(&self, line: &str) -> Option<String> {
         let (key, value) = assigned(line)?;
-        let cut = ["//", "/*", "--"]
-            .iter()
-            .filter_map(|mark| value.find(mark));
-        let (own, remark) = value.split_at(cut.min().unwrap_or(value.len()));
-        let own = trimmed(own);
-        let more = if remark.is_empty() { "" } else { REMARK };
-        if is_value(own) && !remark.is_empty() {
-            return Some(more.into());
+        if let Some(simple) = other_ways(value) {
+            return Some(simple);
         }
-        if let Some(sign) = value.chars().next().filter(|c| ['=', '>'].contains(c)) {
-            return Some(format!("`={sign}` is written `=`"));
-        }
-        let said = match self.field(key) {
-            Some(field) => format!("`{}` wants {}", field.0, wanted::said(field, own)),
-            None if own.contains('{') => braces(key),
+        let spot = Spot::of(self.text, self.place, key);
+        let said = match spot.as_ref().and_then(Spot::field) {
+            Some(field) => format!("`{}` wants {}", field.0, wanted::said(field, value)),
+            None if value.contains('{') => braces(spot, key),
             None => ANY.into(),
         };
-        let nothing = if value.is_empty() {
-            "nothing stands after `=`; "
+        if value.is_empty() {
+            Some(format!("nothing stands after `=`; {said}"))
         } else {
-            ""
-        };
-        Some(format!("{nothing}{said}"))
+            Some(said)
+        }
     }
 
     // What bears the name of a list, and the line that made it.
@@ -317,9 +323,29 @@ fn path(name: &str) -> Option<Vec<String>> {
     each.map(|table| tree.key(table)).collect()
 }
 
-fn braces(key: &str) -> String {
-    format!(
-        "a table has a header of its own, {}, and its fields below",
-        header(key)
-    )
+// A value with more in its line than belongs there.
+fn other_ways(value: &str) -> Option<String> {
+    let sign = value.chars().next().filter(|c| ['=', '>'].contains(c));
+    let remark = ["//", "/*", "--"]
+        .iter()
+        .filter_map(|mark| value.find(mark));
+    let before = remark.min().map(|at| trimmed(&value[..at]));
+    let next = value.split_once([' ', '\t']);
+    let next = next.filter(|(own, rest)| is_value(own) && assigned(rest).is_some());
+    match (sign, next) {
+        (Some(sign), _) => Some(format!("`={sign}` is written `=`")),
+        (_, Some((_, rest))) => Some(format!(
+            "`{}` stands in a line of its own",
+            plain(trimmed(rest))
+        )),
+        _ => before.filter(|own| is_value(own)).map(|_| REMARK.into()),
+    }
+}
+
+fn braces(spot: Option<Spot>, key: &str) -> String {
+    let header = match spot {
+        Some(Spot { app: true, key, .. }) => format!("[apps.{}]", plain(&key)),
+        _ => header(key),
+    };
+    format!("a table has a header of its own, {header}, and its fields below")
 }

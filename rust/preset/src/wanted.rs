@@ -121,6 +121,7 @@ fn list(word: &str) -> String {
     let items = word.strip_prefix('[').and_then(|w| w.strip_suffix(']'));
     let own = match items {
         Some(items) => each(items),
+        None if is_value(word) => None,
         None => string(word),
     };
     match own {
@@ -129,7 +130,7 @@ fn list(word: &str) -> String {
     }
 }
 
-/// A list whose items are put into quotes, where that is certain to be meant.
+// A list whose items are put into quotes, where that is certain to be meant.
 fn each(items: &str) -> Option<String> {
     let items = items
         .split(',')
@@ -202,7 +203,7 @@ mod tests {
         for word in ["[pan, tilt]", "['pan', \"tilt\"]", "[\n pan,\n tilt,\n]"] {
             assert_eq!(list(word), both, "{word}");
         }
-        for word in ["", "[[pan, tilt]]", "{pan}", "[pan // x]"] {
+        for word in ["", "true", "2", "[[pan, tilt]]", "{pan}", "[pan // x]"] {
             assert_eq!(list(word), "\"a b\" or [\"a\", \"b\"]", "{word}");
         }
     }

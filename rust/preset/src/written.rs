@@ -55,6 +55,8 @@ pub(crate) fn is_value(part: &str) -> bool {
 pub(crate) struct Spot {
     pub section: Option<Section>,
     pub key: String,
+    /// Whether the key is an application's.
+    pub app: bool,
 }
 
 impl Spot {
@@ -69,8 +71,12 @@ impl Spot {
             let mut tables = tables(&tree, *section).into_iter();
             tables.any(|table| tree.field(table, &key) == Some(value))
         };
-        let section = Section::READ.into_iter().find(holds);
-        Some(Spot { section, key })
+        let apps = tree.whole(Section::Application);
+        Some(Spot {
+            section: Section::READ.into_iter().find(holds),
+            app: apps.is_some_and(|apps| tree.field(apps, &key) == Some(value)),
+            key,
+        })
     }
 
     /// The field that it is, and what it has to be.
