@@ -4,8 +4,11 @@
 //! let entry = preset::explain::entry(58).unwrap();
 //! assert_eq!(entry.words, "unknown partition");
 //! assert!(entry.preset.contains("partition = \"bot\""));
-//! assert!(entry.to_string().contains("Told: `refused 58 4 0`"));
+//! let told = "preset.toml:8: component 0 \"loader\": refused 58: unknown partition \"bot\"";
+//! assert!(entry.to_string().contains(told));
 //! ```
+use crate::fault::Fault;
+use crate::schema::{Preset, Selection};
 use std::fmt;
 
 const PAPER: &str = include_str!("../../../docs/REFUSALS.md");
@@ -24,7 +27,57 @@ pub struct Example {
     pub told: &'static str,
 }
 
-/// What the document says of a number; it shows itself as `preset explain` prints it.
+impl Example {
+    /// The bytes that it stands for: in the notation for made texts a line may stand for many, and `\x` and two digits
+    /// for a byte.
+    pub fn text(&self) -> Vec<u8> {
+        match self.tag {
+            "made" => self.preset.lines().flat_map(made).collect(),
+            _ => self.preset.into(),
+        }
+    }
+
+    /// The application that a plan was asked for with.
+    pub fn app(&self) -> Option<&'static str> {
+        let (_, rest) = self.told.split_once(" with --app ")?;
+        rest.split(' ').next()
+    }
+
+    /// What the command says of it where it is the file `preset.toml`: `check`, or where an application is asked for,
+    /// `plan`. None where less was lent than the command lends.
+    pub fn said(&self) -> Option<String> {
+        let (text, app) = (self.text(), self.app());
+        (!self.told.contains(" with a store of ")).then_some(())?;
+        let selection = app.map_or(Selection::Bootloader, |key| Selection::App(key.into()));
+        let refusal = Preset::plan(&text, b"preset", &selection).err()?;
+        let fault = Fault::find(&text, refusal, app);
+        let line = fault.line.map_or(String::new(), |line| format!(":{line}"));
+        Some(format!("preset.toml{line}: {fault}"))
+    }
+}
+
+// A line of a made text, as often as it says itself.
+fn made(line: &str) -> Vec<u8> {
+    let noted = line.strip_suffix(" times");
+    let noted = noted.and_then(|line| line.rsplit_once(" # "));
+    let (line, count) = noted.unwrap_or((line, "1"));
+    let own = [bytes(line.trim_end()), vec![b'\n']].concat();
+    own.repeat(count.parse().unwrap_or(1))
+}
+
+fn bytes(line: &str) -> Vec<u8> {
+    let mut parts = line.split("\\x");
+    let first = parts.next().unwrap_or_default().as_bytes().to_vec();
+    parts.fold(first, |mut out, part| {
+        let (digits, after) = part.split_at_checked(2).unwrap_or((part, ""));
+        out.extend(u8::from_str_radix(digits, 16));
+        out.extend(after.as_bytes());
+        out
+    })
+}
+
+/// What the document says of a number; it shows itself as `preset explain` prints it, with what the command says of
+/// each example.
 #[derive(Clone, Debug, PartialEq, Eq)]
 pub struct Entry {
     /// The refusal's number.
@@ -103,7 +156,7 @@ impl fmt::Display for Entry {
         paragraphs(f, self.meaning)?;
         for example in &self.examples {
             indented(f, example.preset)?;
-            paragraphs(f, &format!("Told: {}", example.told))?;
+            told(f, example)?;
         }
         let mend = format!("Mend: {}", self.mending);
         let Some(mended) = self.mended else {
@@ -112,6 +165,18 @@ impl fmt::Display for Entry {
         paragraphs(f, &mend)?;
         writeln!(f, "Mended:\n")?;
         f.write_str(block(mended).trim_end())
+    }
+}
+
+// What the command says of it, unbroken as there, and the numbers.
+fn told(f: &mut fmt::Formatter, example: &Example) -> fmt::Result {
+    match example.said() {
+        None => paragraphs(f, &format!("Told: {}", example.told)),
+        Some(said) => {
+            writeln!(f, "Told:\n")?;
+            indented(f, &said)?;
+            paragraphs(f, &format!("In numbers: {}", example.told))
+        }
     }
 }
 

@@ -27,6 +27,7 @@ fn command(words: &[&str]) -> Command {
     };
     let root = Path::new(env!("CARGO_MANIFEST_DIR")).join("../..");
     command.args(words).current_dir(root).stdin(Stdio::null());
+    command.env("PRESET_CALLED", "preset");
     command
 }
 
@@ -100,7 +101,7 @@ fn check_takes_standard_input() {
     assert_eq!(got.status, 1);
     assert_eq!(
         got.out,
-        "-:2: refused 12: not an integer\n    chip = d13x\n"
+        "-:2: refused 12: not an integer: `chip` wants text in double quotes: \"d13x\"\n    chip = d13x\n"
     );
     assert_eq!(got.err, advice(12));
 }
@@ -111,13 +112,13 @@ const FAULTS: [(&str, &str, &str, &str); 12] = [
         "size   = 0x040000",
         "size   = 256K",
         "size   = 256K",
-        "refused 12: not an integer",
+        "refused 12: not an integer: `size` wants a number: 256 KiB is 262144 or 0x40000",
     ),
     (
         "chip    = \"d13x\"",
         "chip    = 13",
         "chip    = 13",
-        "board: refused 20: wrong kind of value: `chip` is an integer, not a string",
+        "board: refused 20: wrong kind of value: `chip` is an integer; it wants text in double quotes: \"d13x\" or \"d21x\"",
     ),
     (
         "media        = \"spi-nor\"",
@@ -142,7 +143,7 @@ const FAULTS: [(&str, &str, &str, &str); 12] = [
         "size   = 0x00E010",
         "size   = 0x00E010",
         "partition 2 \"calibration\": refused 46: size off the erase block: \
-         `size` is 0xE010; the erase block of spi-nor is 0x1000",
+         `size` is 0xE010; the erase block of spi-nor is 0x1000, so 0xE000 or 0xF000 fits",
     ),
     (
         "offset = 0x550000",
@@ -155,7 +156,8 @@ const FAULTS: [(&str, &str, &str, &str); 12] = [
         "partition = \" gobos ;mtd\"",
         "partition = \" gobo ;mtd\"",
         "partition = \" gobo ;mtd\"",
-        "component 3 \"gobo wheels\": refused 58: unknown partition \"gobo\"",
+        "component 3 \"gobo wheels\": refused 58: unknown partition \"gobo\" (\"gobos\"?); \
+         there are boot, env, calibration, profiles, gobos, logs",
     ),
     (
         "ram          = 0x3004_3000",
@@ -180,7 +182,8 @@ const FAULTS: [(&str, &str, &str, &str); 12] = [
         "partition = \"logs\"",
         "partition = \"log\"",
         "partition = \"log\"",
-        "application 0 \"lamp-log\": refused 64: unknown partition of an application: \"log\"",
+        "application 0 \"lamp-log\": refused 64: unknown partition of an application: \"log\" (\"logs\"?); \
+         there are boot, env, calibration, profiles, gobos, logs",
     ),
 ];
 
@@ -215,13 +218,16 @@ fn check_leads_to_the_fault() {
     assert_eq!(got.err, format!("{advice}12 files: 12 refused\n"));
 }
 
+// What is told of a line that nobody can guess.
+const LINE: &str = "a line is a header in brackets, or key = value";
+
 // The worst counts, each file has its line, and only what cannot be read is told beside them.
 #[test]
 fn check_goes_on() {
     let bad = written("mixed", "bad.toml", "x\n");
     let (good, gone) = ("presets/example.toml", "presets/none.toml");
     let refused = format!(
-        "{0}:1: refused 5: neither a header nor an assignment\n    x\n",
+        "{0}:1: refused 5: neither a header nor an assignment: {LINE}\n    x\n",
         word(&bad)
     );
     let ok = preset(&["check", good]).out;
@@ -315,13 +321,13 @@ fn check_notes_after_each_file() {
         "{} {program} check {files} 2>&1",
         runner.unwrap_or_default()
     );
-    shell.args(["-c", &call]);
+    shell.args(["-c", &call]).env("PRESET_CALLED", "preset");
     let got = said(shell, b"");
     let ok = "ok: d13x, spi-nor, 2 partitions, 1 component, 1 application";
     let noted =
         |file: &str| format!("{file}: {ok}\n{file}:1: note: unknown key \"nmae\" is passed over\n");
     let want = format!(
-        "{}{}:1: refused 5: neither a header nor an assignment\n    x\n{}{}3 files: 2 ok, 1 refused; 2 notes\n",
+        "{}{}:1: refused 5: neither a header nor an assignment: {LINE}\n    x\n{}{}3 files: 2 ok, 1 refused; 2 notes\n",
         noted(word(&one)),
         word(&bad),
         noted(word(&two)),
@@ -391,7 +397,7 @@ fn texts_that_are_none() {
     let got = preset(&["check", word(&full), word(&latin)]);
     let lines = format!(
         "{}: partitions: refused 40: no partitions\n\
-         {}:2: refused 2: not UTF-8\n    name = \"caf\\xe9\"\n",
+         {}:2: refused 2: not UTF-8: byte 0xE9, in Latin-1 `é`; save the file as UTF-8\n    name = \"caf\\xe9\"\n",
         word(&full),
         word(&latin)
     );
@@ -403,7 +409,10 @@ fn what_cannot_be_read() {
     let whys = [
         ("presets", "cannot be read: it is a directory\n"),
         ("presets/none.toml", "cannot be read: there is no such file"),
-        ("presets/example.toml/x", "cannot be read: Not a directory"),
+        (
+            "presets/example.toml/x",
+            "cannot be read: a part of its path is no directory\n",
+        ),
     ];
     for (file, why) in whys {
         for order in ["check", "plan", "listing", "map"] {
@@ -527,7 +536,7 @@ fn plans_refused() {
     assert_eq!(preset(&["plan", word(&file)]).status, 0);
     let file = written("plans", "open.toml", "a = [1,\n");
     let told = format!(
-        "{}:1: refused 4: bracket or quote never closed\n    a = [1,\n",
+        "{}:1: refused 4: bracket or quote never closed: a list ends with `]`\n    a = [1,\n",
         word(&file)
     );
     refused(&["plan", word(&file)], told.clone(), 4);
@@ -670,7 +679,7 @@ fn what_is_printed_is_escaped() {
     let got = said(command(&["check", "-"]), text.as_bytes());
     let plain = "\\u{1b}[2J\\u{202e}";
     let want = format!(
-        "-:15: component 0 \"first\": refused 58: unknown partition \"{plain}\"\n    partition = \"{plain}\"\n"
+        "-:15: component 0 \"first\": refused 58: unknown partition \"{plain}\"; there are boot, profiles\n    partition = \"{plain}\"\n"
     );
     assert_eq!((got.status, got.out), (1, want));
     for order in ["plan", "map", "check"] {
@@ -728,6 +737,7 @@ fn the_readme_is_true() {
         shell.args(["-c", &format!("exec 2>&1; {own}")]);
         shell
             .env("PROGRAM", &program)
+            .env("PRESET_CALLED", "./preset")
             .current_dir(folder.with_file_name(""));
         let told = said(shell, b"").out;
         got.push(format!("$ {line}"));

@@ -165,8 +165,7 @@ fn every_example_has_its_line() {
     for entry in explain::entries() {
         for example in entry.examples.iter().filter(|e| e.tag.is_empty()) {
             let text = example.preset.as_bytes();
-            let app = example.told.split_once("with --app ").map(|(_, rest)| rest);
-            let app = app.and_then(|rest| rest.split(' ').next());
+            let app = example.app();
             let selection = app.map_or(Selection::Bootloader, |key| Selection::App(key.into()));
             let Err(refusal) = Preset::plan(text, b"board", &selection) else {
                 // 17 is a matter of rooms, and these are large enough
@@ -324,11 +323,11 @@ fn a_default_is_told_to_be_one() {
         let fault = fault((preset.to_owned() + rest).as_bytes());
         (fault.refusal.number, fault.line, fault.detail.expect("one"))
     };
-    let taken = "\"app\", which is taken where no `partition` is written".to_string();
+    let taken = "\"app\", which is taken where no `partition` is written; there are a".to_string();
     assert_eq!(detail("partiton = \"a\"\n"), (64, Some(9), taken));
     assert_eq!(
         detail("partition = \"app\"\n"),
-        (64, Some(10), "\"app\"".into())
+        (64, Some(10), "\"app\"; there are a".into())
     );
 }
 

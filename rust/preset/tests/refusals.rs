@@ -71,34 +71,10 @@ fn told(number: u32, example: &Example) -> Told {
 
 // The lines that an example stands for.
 fn lines(example: &Example) -> Vec<Vec<u8>> {
-    let written = example.preset.lines();
-    match example.tag {
-        "" => written.map(|l| l.as_bytes().to_vec()).collect(),
-        "made" => written.flat_map(repeated).collect(),
-        other => panic!("a fence says {other}"),
-    }
-}
-
-fn repeated(line: &str) -> Vec<Vec<u8>> {
-    let noted = line
-        .strip_suffix(" times")
-        .and_then(|l| l.rsplit_once(" # "));
-    match noted {
-        Some((line, count)) => vec![decoded(line.trim_end()); count.parse().expect("a count")],
-        None => vec![decoded(line)],
-    }
-}
-
-// `\x` and two digits are a byte.
-fn decoded(line: &str) -> Vec<u8> {
-    let mut parts = line.split("\\x");
-    let mut out = parts.next().unwrap_or_default().as_bytes().to_vec();
-    for part in parts {
-        let (digits, after) = part.split_at(2);
-        out.push(u8::from_str_radix(digits, 16).expect("two digits"));
-        out.extend(after.as_bytes());
-    }
-    out
+    assert!(["", "made"].contains(&example.tag), "{}", example.tag);
+    let text = example.text();
+    let lines = text.split_inclusive(|b| *b == b'\n');
+    lines.map(|l| l[..l.len() - 1].to_vec()).collect()
 }
 
 fn text(lines: &[Vec<u8>]) -> Vec<u8> {
@@ -321,10 +297,19 @@ fn chapter(number: u32) -> Vec<&'static str> {
     plain.flat_map(str::split_whitespace).collect()
 }
 
+// What is printed without what the command says of examples.
+fn without_words(entry: &Entry) -> String {
+    let said = entry.examples.iter().filter_map(Example::said);
+    said.fold(entry.to_string(), |printed, said| {
+        let words = format!("Told:\n\n    {said}\n\nIn numbers:");
+        printed.replacen(&words, "Told:", 1)
+    })
+}
+
 #[test]
 fn explain_prints_the_document_word_by_word() {
     for entry in explain::entries() {
-        let printed = entry.to_string();
+        let printed = without_words(&entry);
         let words: Vec<_> = printed.split_whitespace().collect();
         assert_eq!(words, chapter(entry.number), "{}", entry.number);
         for part in [entry.meaning, entry.told, entry.mending, entry.words] {
@@ -352,10 +337,45 @@ fn explain_keeps_the_lines_of_presets() {
     }
 }
 
+// Each example in a file of its own: the command's line about it is what `explain` shows.
+#[test]
+fn explain_says_what_the_command_says() {
+    let folder = std::env::temp_dir().join(format!("preset-explain-{}", std::process::id()));
+    std::fs::create_dir_all(&folder).expect("a folder for examples");
+    let mut met = 0;
+    for (number, example) in examples() {
+        let Some(said) = example.said() else { continue };
+        std::fs::write(folder.join("preset.toml"), example.text()).expect("it is written");
+        let words = match example.app() {
+            Some(key) => vec!["plan", "preset.toml", "--app", key],
+            None => vec!["check", "preset.toml"],
+        };
+        let answer = command(&words)
+            .current_dir(&folder)
+            .output()
+            .expect("it runs");
+        let both = String::from_utf8([answer.stdout, answer.stderr].concat()).expect("UTF-8");
+        assert_eq!(both.lines().next(), Some(said.as_str()), "{number}");
+        met += 1;
+    }
+    std::fs::remove_dir_all(&folder).expect("the folder is removed");
+    // all but the one of 17, which the command never tells
+    assert_eq!(met, examples().len() - 1);
+}
+
+// Elsewhere than on x86-64 `rust/cross` names an emulator.
+fn command(words: &[&str]) -> std::process::Command {
+    let program = env!("CARGO_BIN_EXE_preset");
+    let runner = std::env::var("CARGO_TARGET_X86_64_UNKNOWN_LINUX_GNU_RUNNER");
+    let mut command = std::process::Command::new(runner.as_deref().unwrap_or(program));
+    command.args(runner.iter().map(|_| program)).args(words);
+    command
+}
+
 #[test]
 fn what_explain_prints_of_58() {
     let first = explain::entry(58).expect("an entry").to_string();
-    let lines: Vec<_> = first.lines().take(16).collect();
+    let lines: Vec<_> = first.lines().take(20).collect();
     let expected = "\
 58: unknown partition
 
@@ -372,6 +392,10 @@ capital letters count.
     package = \"loader\"
     partition = \"bot\"
 
-Told: `refused 58 4 0` (the first component)";
+Told:
+
+    preset.toml:8: component 0 \"loader\": refused 58: unknown partition \"bot\" (\"boot\"?); there are boot
+
+In numbers: `refused 58 4 0` (the first component)";
     assert_eq!(lines.join("\n"), expected);
 }

@@ -67,7 +67,7 @@ fn every_section() {
     let want = [
         "1: unknown key \"x\" is passed over",
         "3: board: unknown key \"chp\" is passed over (chip?)",
-        "5: image: unknown key \"media_dev\" is passed over",
+        "5: image: unknown key \"media_dev\" is passed over (media_dev_id?)",
         "6: unknown key \"bord\" is passed over (board?)",
         "10: partition 0 \"boot\": unknown key \"ofset\" is passed over (offset?)",
         "12: partition 1: unknown key \"siez\" is passed over (size?)",
