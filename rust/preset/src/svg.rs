@@ -26,6 +26,15 @@ const RED: &str = "#b3261e";
 const HUES: [&str; 6] = [
     "#4a7fb0", "#4f9a86", "#b98a3e", "#8470b8", "#b06a7c", "#6d9150",
 ];
+// Where the hues end they come again with white marks on them: slanted both ways, lying, standing, and checks. Some of
+// each is seen in a stretch of the least height and at the edge of a card.
+const MARKS: [&str; 5] = [
+    r##"d="M-2 2 L2 -2 M0 8 L8 0 M6 10 L10 6" stroke="#ffffff" stroke-width="2""##,
+    r##"d="M-2 6 L2 10 M0 0 L8 8 M6 -2 L10 2" stroke="#ffffff" stroke-width="2""##,
+    r##"d="M0 2 L8 2 M0 6 L8 6" stroke="#ffffff" stroke-width="1.5""##,
+    r##"d="M2 0 L2 8 M6 0 L6 8" stroke="#ffffff" stroke-width="1.5""##,
+    r##"d="M0 0 L4 0 L4 8 L8 8 L8 4 L0 4 Z" fill="#ffffff""##,
+];
 const SANS: &str = "system-ui, -apple-system, Segoe UI, Roboto, Helvetica, Arial, sans-serif";
 const EVEN: &str = "ui-monospace, SFMono-Regular, Menlo, Consolas, DejaVu Sans Mono, monospace";
 
@@ -36,6 +45,35 @@ const HATCHED: &str = r##"<defs>
 <line x1="0" y1="0" x2="0" y2="8" stroke="#b4bcc7" stroke-width="3"/>
 </pattern>
 </defs>"##;
+
+// The looks of partitions, as many as there may be and more.
+const LOOKS: usize = HUES.len() * (1 + MARKS.len());
+
+fn hue(look: usize) -> &'static str {
+    HUES[look % HUES.len()]
+}
+
+fn marks(look: usize) -> Option<&'static str> {
+    let again = (look % LOOKS) / HUES.len();
+    again.checked_sub(1).map(|n| MARKS[n])
+}
+
+// What fills an area of that number: its hue, or a pattern.
+fn fill(look: usize) -> String {
+    match marks(look) {
+        None => hue(look).into(),
+        Some(_) => format!("url(#preset-look-{})", look % LOOKS),
+    }
+}
+
+fn pattern(look: usize) -> Option<String> {
+    let (marks, hue) = (marks(look)?, hue(look));
+    let size = r#"width="8" height="8""#;
+    Some(format!(
+        "<pattern id=\"preset-look-{look}\" {size} patternUnits=\"userSpaceOnUse\">\n\
+         <rect {size} fill=\"{hue}\"/>\n<path {marks}/>\n</pattern>"
+    ))
+}
 
 // The chips in the order in which they stand on a card.
 const KINDS: [LandKind; 3] = [LandKind::Component, LandKind::Chosen, LandKind::Application];
@@ -83,6 +121,7 @@ struct Card {
     to: u64,
     faulty: bool,
     hue: &'static str,
+    fill: String,
     note: Option<String>,
     chips: Vec<Chip>,
     lane: Lane,
@@ -157,6 +196,11 @@ impl Page<'_> {
         sheet.line(&format!("<title>{title}</title>"));
         sheet.line(&format!("<desc>{}</desc>", escaped(&each.join("; "))));
         sheet.line(HATCHED);
+        let looks = 0..self.drawing.areas.len().min(LOOKS);
+        let patterns: Vec<_> = looks.filter_map(pattern).collect();
+        if !patterns.is_empty() {
+            sheet.line(&format!("<defs>\n{}\n</defs>", patterns.join("\n")));
+        }
         let look = r##"rx="10" fill="#ffffff" stroke="#d0d6de""##;
         sheet.rect([0.5, 0.5, WIDTH - 1.0, high - 1.0], look);
     }
@@ -207,8 +251,10 @@ impl Page<'_> {
             Row::Gap(..) => r#"fill="url(#preset-gap)""#.into(),
             _ if card.faulty => dashed(),
             // A seam between neighbours, but none that would hide a thin one.
-            _ if height > 6.0 && wide > 8.0 => format!(r##"fill="{}" stroke="#ffffff""##, card.hue),
-            _ => format!(r#"fill="{}""#, card.hue),
+            _ if height > 6.0 && wide > 8.0 => {
+                format!(r##"fill="{}" stroke="#ffffff""##, card.fill)
+            }
+            _ => format!(r#"fill="{}""#, card.fill),
         };
         sheet.line(&format!("<g><title>{}</title>", escaped(&card.words())));
         sheet.rect([x, y, wide, height], &look);
@@ -228,7 +274,7 @@ impl Page<'_> {
         let look = format!(r#"rx="5" {look}"#);
         sheet.rect([CARD, y, CARD_WIDTH, height], &look);
         if !gap {
-            let edge = format!(r#"rx="2" fill="{}""#, card.hue);
+            let edge = format!(r#"rx="2" fill="{}""#, card.fill);
             sheet.rect([CARD, y, 5.0, height], &edge);
         }
         card.headline(sheet, y, self.drawing.end());
@@ -274,10 +320,10 @@ impl Card {
             Row::Gap(..) => None,
         };
         let faulty = area.is_some_and(|(_, a)| a.faulty);
-        let hue = match area {
-            None => "#9aa4b1",
-            Some((_, area)) if area.faulty => RED,
-            Some((i, _)) => HUES[i % HUES.len()],
+        let (hue, fill) = match area {
+            None => ("#9aa4b1", String::new()),
+            Some((_, area)) if area.faulty => (RED, RED.into()),
+            Some((i, _)) => (hue(i), fill(i)),
         };
         let note = area.and_then(|(i, a)| note(drawing, i, a));
         let note = note.map(|n| clean(&n, 80));
@@ -291,6 +337,7 @@ impl Card {
             to,
             faulty,
             hue,
+            fill,
             note,
             chips,
             lane: area.map_or(Lane { number: 0, of: 1 }, |(i, _)| lanes[i]),

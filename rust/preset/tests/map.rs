@@ -2,7 +2,7 @@
 //! together whatever the names and numbers are.
 use preset::map::{Area, Drawing, Land, LandKind, size_words};
 use preset::svg::svg;
-use std::collections::BTreeMap;
+use std::collections::{BTreeMap, BTreeSet};
 
 fn area(name: &str, offset: u64, size: u64) -> Area {
     Area {
@@ -407,8 +407,13 @@ fn every_svg_is_well_formed() {
         ];
         assert!(tags.iter().all(|(name, _)| known.contains(name)));
         assert!(!picture.contains("NaN") && !picture.contains("inf\""));
-        let mut fills = tags.iter().filter_map(|(_, a)| a.get("fill"));
-        assert!(fills.all(|f| !f.contains("url") || *f == "url(#preset-gap)"));
+        let fills = tags.iter().filter_map(|(_, a)| a.get("fill"));
+        let mut urls = fills.filter(|f| f.contains("url"));
+        let patterns = tags.iter().filter(|(name, _)| *name == "pattern");
+        let known: Vec<_> = patterns
+            .map(|(_, a)| format!("url(#{})", a["id"]))
+            .collect();
+        assert!(urls.all(|f| known.iter().any(|k| k == f)));
     }
 }
 
@@ -448,13 +453,64 @@ fn svg_names_everything() {
 
 // The bar's part of an area: the line after its title.
 fn stretch(picture: &str, name: &str) -> BTreeMap<String, f64> {
+    let all = bar(picture, name);
+    let lengths = ["x", "y", "width", "height"];
+    lengths.map(|n| (n.into(), number(&all, n))).into()
+}
+
+fn bar<'a>(picture: &'a str, name: &str) -> BTreeMap<&'a str, &'a str> {
     let title = format!("<g><title>{name}: ");
     let mut lines = picture.lines().skip_while(|l| !l.starts_with(&title));
     let tag = lines.nth(1).and_then(|l| l.strip_prefix("<rect "));
     let tag = tag.and_then(|l| l.strip_suffix("/>")).expect("a rect");
-    let all = pairs(tag).expect("attributes");
-    let lengths = ["x", "y", "width", "height"];
-    lengths.map(|n| (n.into(), number(&all, n))).into()
+    pairs(tag).expect("attributes")
+}
+
+// What an area is filled with: a colour, or all that is in a pattern.
+fn look<'a>(picture: &'a str, fill: &'a str) -> &'a str {
+    let Some(id) = fill.strip_prefix("url(#").and_then(|f| f.strip_suffix(')')) else {
+        return fill;
+    };
+    let (_, rest) = picture
+        .split_once(&format!("<pattern id=\"{id}\""))
+        .expect("a pattern");
+    rest.split_once("</pattern>").expect("its end").0
+}
+
+// How bright a colour is, from 0 to 1, as the web's guidelines count.
+fn bright(colour: &str) -> f64 {
+    let part = |at: usize| {
+        let part = u8::from_str_radix(&colour[at..at + 2], 16).expect("a part");
+        let part = f64::from(part) / 255.0;
+        if part <= 0.04045 {
+            part / 12.92
+        } else {
+            ((part + 0.055) / 1.055).powf(2.4)
+        }
+    };
+    0.2126 * part(1) + 0.7152 * part(3) + 0.0722 * part(5)
+}
+
+// As many as a preset may have, at the edge of the card as in the bar.
+#[test]
+fn no_two_of_thirty_two_areas_look_the_same() {
+    let picture = svg(&thirty_two());
+    let fills: Vec<_> = (0..32)
+        .map(|i| bar(&picture, &format!("p{i}"))["fill"])
+        .collect();
+    let looks: BTreeSet<_> = fills.iter().map(|fill| look(&picture, fill)).collect();
+    assert_eq!(looks.len(), 32);
+    for fill in &fills {
+        let edge = format!("rx=\"2\" fill=\"{fill}\"");
+        assert_eq!(picture.matches(&edge).count(), 1, "{fill}");
+    }
+    // white marks are seen on each colour, and each colour on white
+    for colour in fills.iter().filter(|fill| fill.starts_with('#')) {
+        let contrast = 1.05 / (bright(colour) + 0.05);
+        assert!(contrast >= 3.0, "{colour}: {contrast}");
+    }
+    // six need no patterns
+    assert!(!svg(&refused()).contains("preset-look"));
 }
 
 #[test]
