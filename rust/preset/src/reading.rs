@@ -12,6 +12,8 @@ use port::value::{self, ARRAYS_MAX, SEGMENTS_MAX, STORE_MIN, VALUES_MAX};
 
 const MARK: char = '\u{feff}';
 const REMARK: &str = "a remark begins with `#`";
+// What it begins with in other languages.
+const REMARKS: [&str; 3] = ["//", "/*", "--"];
 
 /// What is to be said of a refusal of the text.
 pub(crate) fn of(text: &[u8], refusal: &Refusal) -> Option<String> {
@@ -151,7 +153,7 @@ fn unnamed(line: &str) -> String {
 // The first backslash in a string with something else behind it than there may be.
 fn escape(line: &str) -> Option<String> {
     let known = |at: usize| line[at + 1..].starts_with(['n', 't', 'r', '"', '\\']);
-    let hides = |at: usize| scan(line[..at].as_bytes()).state == 1;
+    let hides = |at: usize| scan(&line.as_bytes()[..at]).state == 1;
     let mut each = line.match_indices('\\').map(|(at, _)| at).take(PLACES);
     let at = each.find(|at| hides(*at) && !known(*at))?;
     let next = line[at + 1..].chars().next().unwrap_or(' ');
@@ -171,7 +173,7 @@ fn escape(line: &str) -> Option<String> {
 
 // What stands after a string or a list, of which other languages have some.
 fn behind(rest: &str, before: &str) -> String {
-    if rest.starts_with("//") || rest.starts_with("/*") || rest.starts_with("--") {
+    if is_remark(rest) {
         REMARK.into()
     } else {
         format!("`{}` stands after {before}", plain(rest))
@@ -207,12 +209,11 @@ impl At<'_> {
     }
 
     fn neither(&self, line: &str) -> String {
-        let remarks = ["//", "/*", "--", ";", "%", "!"];
         if line.starts_with(MARK) {
             "a UTF-8 byte order mark at the start of the file; save it without".into()
         } else if line.contains('\0') {
             "it has zero bytes, as UTF-16 has; save the file as UTF-8".into()
-        } else if remarks.iter().any(|mark| line.starts_with(mark)) {
+        } else if line.starts_with([';', '%', '!']) || is_remark(line) {
             REMARK.into()
         } else if line.starts_with('[') {
             format!("{}, alone in its line", header_is(line))
@@ -282,9 +283,13 @@ impl At<'_> {
     }
 
     fn no_value(&self, line: &str) -> Option<String> {
-        let (key, value) = assigned(line)?;
-        if let Some(simple) = other_ways(value) {
-            return Some(simple);
+        let (key, written) = assigned(line)?;
+        if let Some(more) = more_than_one(written) {
+            return Some(more);
+        }
+        let (value, remark) = unremarked(written);
+        if remark && is_value(value) {
+            return Some(REMARK.into());
         }
         let spot = Spot::of(self.text, self.place, key);
         let said = match spot.as_ref().and_then(Spot::field) {
@@ -294,6 +299,8 @@ impl At<'_> {
         };
         if value.is_empty() {
             Some(format!("nothing stands after `=`; {said}"))
+        } else if remark {
+            Some(format!("{said}; {REMARK}"))
         } else {
             Some(said)
         }
@@ -323,22 +330,33 @@ fn path(name: &str) -> Option<Vec<String>> {
     each.map(|table| tree.key(table)).collect()
 }
 
-// A value with more in its line than belongs there.
-fn other_ways(value: &str) -> Option<String> {
+// A sign or a field too many in a line.
+fn more_than_one(value: &str) -> Option<String> {
     let sign = value.chars().next().filter(|c| ['=', '>'].contains(c));
-    let remark = ["//", "/*", "--"]
-        .iter()
-        .filter_map(|mark| value.find(mark));
-    let before = remark.min().map(|at| trimmed(&value[..at]));
     let next = value.split_once([' ', '\t']);
     let next = next.filter(|(own, rest)| is_value(own) && assigned(rest).is_some());
     match (sign, next) {
         (Some(sign), _) => Some(format!("`={sign}` is written `=`")),
-        (_, Some((_, rest))) => Some(format!(
-            "`{}` stands in a line of its own",
-            plain(trimmed(rest))
-        )),
-        _ => before.filter(|own| is_value(own)).map(|_| REMARK.into()),
+        (_, Some((_, rest))) => {
+            let rest = plain(trimmed(rest));
+            Some(format!("`{rest}` stands in a line of its own"))
+        }
+        _ => None,
+    }
+}
+
+fn is_remark(rest: &str) -> bool {
+    REMARKS.iter().any(|mark| rest.starts_with(mark))
+}
+
+// A value without a remark of another language, and whether there was one.
+fn unremarked(value: &str) -> (&str, bool) {
+    let marks = REMARKS
+        .iter()
+        .filter_map(|mark| value.find(&format!(" {mark}")));
+    match marks.min() {
+        Some(at) => (trimmed(&value[..at]), true),
+        None => (value, is_remark(value)),
     }
 }
 

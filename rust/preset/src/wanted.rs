@@ -60,8 +60,7 @@ pub(crate) fn string(word: &str) -> Option<String> {
 fn bare(word: &str) -> Option<&str> {
     let own = unquoted(word);
     let other = |c: char| c.is_control() || "\"\\{}[]=<>".contains(c);
-    let remark = [" //", " /*", " --"].iter().any(|r| own.contains(r));
-    let plain = !own.is_empty() && !own.contains(other) && !remark;
+    let plain = !own.is_empty() && !own.contains(other);
     plain.then_some(own)
 }
 
@@ -137,7 +136,7 @@ fn each(items: &str) -> Option<String> {
         .map(trimmed)
         .filter(|item| !item.is_empty());
     let items: Option<Vec<_>> = items.map(string).collect();
-    Some(format!("[{}]", items?.join(", ")))
+    Some(plain(&format!("[{}]", items?.join(", "))))
 }
 
 #[cfg(test)]
@@ -157,7 +156,7 @@ mod tests {
         assert_eq!(said("2.4"), format!("{base}: \"2.4\""));
         assert_eq!(said("True"), format!("{base}: \"True\""));
         assert_eq!(said("a b/c.d"), format!("{base}: \"a b/c.d\""));
-        for word in ["", "{x}", "a\"b", "x // y", "[x, y]", "a\nb", "\\x"] {
+        for word in ["", "{x}", "a\"b", "[x, y]", "a\nb", "\\x"] {
             assert_eq!(said(word), base, "{word}");
         }
     }
@@ -203,7 +202,7 @@ mod tests {
         for word in ["[pan, tilt]", "['pan', \"tilt\"]", "[\n pan,\n tilt,\n]"] {
             assert_eq!(list(word), both, "{word}");
         }
-        for word in ["", "true", "2", "[[pan, tilt]]", "{pan}", "[pan // x]"] {
+        for word in ["", "true", "2", "[[pan, tilt]]", "{pan}"] {
             assert_eq!(list(word), "\"a b\" or [\"a\", \"b\"]", "{word}");
         }
     }

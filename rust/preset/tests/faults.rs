@@ -357,3 +357,169 @@ fn lines_as_editors_count() {
     assert_eq!(fault.text.as_deref(), Some("features = [ # nine"));
     assert_eq!(fault.refusal.section, Section::Component);
 }
+
+fn said(text: impl AsRef<[u8]>) -> String {
+    let fault = fault(text.as_ref());
+    let line = fault.line.map_or(String::new(), |line| format!("{line}: "));
+    format!("{line}{fault}")
+}
+
+// Files of other encodings, and such as have no lines.
+#[test]
+fn what_is_no_text_is_told_by_its_look() {
+    let wide = |mark: &[u8], bytes: fn(u16) -> [u8; 2]| {
+        let text = STAGE.encode_utf16().flat_map(bytes);
+        said([mark.to_vec(), text.collect()].concat())
+    };
+    let utf16 = "1: refused 2: not UTF-8: it is UTF-16; save the file as UTF-8";
+    assert_eq!(wide(&[0xFF, 0xFE], u16::to_le_bytes), utf16);
+    assert_eq!(wide(&[0xFE, 0xFF], u16::to_be_bytes), utf16);
+    let zeros = "refused 5: neither a header nor an assignment: \
+                 it has zero bytes, as UTF-16 has; save the file as UTF-8";
+    assert_eq!(wide(&[], u16::to_le_bytes), format!("2: {zeros}"));
+    assert_eq!(wide(&[], u16::to_be_bytes), format!("1: {zeros}"));
+    assert_eq!(
+        said(b"# \x93"),
+        "1: refused 2: not UTF-8: byte 0x93; save the file as UTF-8"
+    );
+    assert_eq!(
+        said(STAGE.replace('\n', "\r")),
+        "partitions: refused 40: no partitions: no line ends: a CR alone ends none, LF or CRLF does"
+    );
+    let empty = "partitions: refused 40: no partitions: the text is empty";
+    assert_eq!(said(" \n\r\n"), empty);
+    assert_eq!(said(""), empty);
+    assert_eq!(said("# x"), "partitions: refused 40: no partitions");
+}
+
+// Which table a line stands in is the library's to say, however its header is written.
+#[test]
+fn a_field_is_known_wherever_it_stands() {
+    let wants = "refused 12: not an integer: `chip` wants text in double quotes: \"d13x\"";
+    for (text, line) in [
+        ("[board]\nchip = d13x", 2),
+        ("board.chip = d13x", 1),
+        ("[\n board # x\n]\n\"chip\" = d13x # y", 4),
+        ("[\"board\"]\nx = [\n[1],\n]\nchip = d13x\n", 5),
+        ("[image]\n[board]\r\nx = \"\n[image]\n\"\r\n chip=d13x", 6),
+    ] {
+        assert_eq!(said(text), format!("{line}: {wants}"), "{text}");
+    }
+    let any = "refused 12: not an integer: a value is ";
+    for text in [
+        "chip = d13x",
+        "[x]\nchip = d13x",
+        "[board.x]\nchip = d13x",
+        "[image]\nchip = d13x",
+    ] {
+        assert!(said(text).contains(any), "{}", said(text));
+    }
+}
+
+#[test]
+fn numbers_are_told_as_they_are_written() {
+    let out = |number: &str| {
+        let text = format!("[[partition]]\nname = \"a\"\noffset = {number} # x\n");
+        said(text).split_once("range: ").expect("21").1.to_string()
+    };
+    assert_eq!(out("-1"), "`offset` is -1; it is from 0 to 4294967295");
+    assert_eq!(
+        out("0x1_0000_0000"),
+        "`offset` is 0x1_0000_0000; it is from 0 to 0xFFFFFFFF"
+    );
+    assert_eq!(
+        out("4_294_967_296"),
+        "`offset` is 4_294_967_296; it is from 0 to 4294967295"
+    );
+    assert_eq!(out("0X-5"), "`offset` is 0X-5; it is from 0 to 0xFFFFFFFF");
+}
+
+// What stands in the way of a list was made further up, by a header, a key or a longer header.
+#[test]
+fn the_line_in_the_way_is_told() {
+    let told = |text: &str| said(text).split_once("array: ").expect("13").1.to_string();
+    assert_eq!(
+        told("\n[a] # x\n[[ a ]]"),
+        "`a` is a table since line 2: [a]"
+    );
+    assert_eq!(
+        told("a = 1\na = [\n]\na = true\n[[a]]"),
+        "`a` is a boolean since line 4: a = true"
+    );
+    assert_eq!(
+        told("[[a]]\n[a.b]\nc = 1\n[[a]]"),
+        "`a` is a table since line 2: [a.b]"
+    );
+    assert_eq!(
+        told("[a]\nb.c = 1\n[[a.\"b\"]]"),
+        "`a.\"b\"` is a table since line 2: b.c = 1"
+    );
+}
+
+#[test]
+fn applications_are_found_by_key_and_by_name() {
+    let asked = |key: &str| {
+        let refusal = Preset::plan(STAGE.as_bytes(), b"", &Selection::App(key.into()));
+        let fault = Fault::find(STAGE.as_bytes(), refusal.expect_err("80"), Some(key));
+        let detail = fault.detail.expect("one");
+        detail
+            .split_once("; declared: lamp-log, profile-bar")
+            .expect("all")
+            .0
+            .to_string()
+    };
+    assert_eq!(
+        asked("Profile_Spot"),
+        "\"Profile_Spot\" (\"profile-spot\"?)"
+    );
+    assert_eq!(asked("lamplog"), "\"lamplog\" (\"lamp-log\"?)");
+    assert_eq!(asked("LED bars"), "\"LED bars\" (\"profile-bar\"?)");
+    assert_eq!(asked("x"), "\"x\"");
+}
+
+// Thirty-two long names, one of which is meant.
+#[test]
+fn what_is_long_is_cut_and_stays_in_one_line() {
+    let name = |i: usize| format!("{i}{}", "x".repeat(90));
+    let partition = |i: usize| {
+        let name = name(i);
+        format!(
+            "[[partition]]\nname = \"{name}\"\noffset = {}\nsize = 4096\n",
+            i * 4096
+        )
+    };
+    let all: String = (0..32).map(partition).collect();
+    let own = name(7).replacen('x', "y", 1);
+    let text = format!("{all}[[component]]\nname = \"a\"\nfile = \"f\"\npartition = \"{own}\"\n");
+    let told = said(&text);
+    assert!(
+        told.contains(&format!("(\"{}\"?); there are ", name(7))),
+        "{told}"
+    );
+    assert!(told.ends_with('…') && told.chars().count() < 500, "{told}");
+}
+
+// Every sign that means something, typed over or into a preset anywhere: what is told is one line.
+#[test]
+fn slips_of_the_hand_are_told_in_one_line() {
+    let signs = [
+        "\"", "'", "[", "]", "{", "=", "#", "\\", ".", ",", ":", " ", "\n", "\0", "é", "-", "“",
+    ];
+    let emulated = std::env::var("PRESET_EMULATED").is_ok();
+    let step = if emulated { 997 } else { 61 };
+    let places = (0..STAGE.len()).flat_map(|at| signs.iter().map(move |sign| (at, sign)));
+    for (at, sign) in places.step_by(step) {
+        for end in [at, at + 1] {
+            let text = [&STAGE[..at], sign, &STAGE[end..]].concat();
+            let Err(refusal) = Preset::validate(text.as_bytes(), b"board") else {
+                continue;
+            };
+            let told = Fault::find(text.as_bytes(), refusal, None).to_string();
+            let odd = |c: char| c.is_control() && c != '\t';
+            assert!(
+                !told.contains(odd) && told.chars().count() < 700,
+                "{told:?}"
+            );
+        }
+    }
+}

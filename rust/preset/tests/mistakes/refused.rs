@@ -208,6 +208,20 @@ pub const ALL: &[Mistake] = &[
         told: &["33: refused 12: not an integer: a remark begins with `#`"],
     },
     Mistake {
+        what: "a remark of C after a word without quotes",
+        edits: &[("chip    = \"d13x\"", "chip    = d13x // the chip")],
+        told: &[
+            "6: refused 12: not an integer: `chip` wants text in double quotes: \"d13x\"; a remark begins with `#`",
+        ],
+    },
+    Mistake {
+        what: "a remark of C after nothing",
+        edits: &[("media_dev_id = 0", "media_dev_id = // none")],
+        told: &[
+            "15: refused 12: not an integer: `media_dev_id` wants a number: 4096 or 0x1000; a remark begins with `#`",
+        ],
+    },
+    Mistake {
         what: "a remark of C after a list",
         edits: &[("\"gobo\"]", "\"gobo\"] // all")],
         told: &["105: refused 11: array not ended: a remark begins with `#`"],

@@ -6,6 +6,7 @@ use preset::map::Drawing;
 use preset::{Fault, Preset, Refusal, Selection, picture, shown, svg};
 use std::ffi::{OsStr, OsString};
 use std::fs::Metadata;
+use std::io::ErrorKind;
 use std::os::unix::fs::MetadataExt;
 
 pub fn map(file: &OsStr, app: Option<String>, out: Option<OsString>) -> Answer {
@@ -66,7 +67,12 @@ fn drawn(drawing: &Drawing, out: Option<OsString>) -> Answer {
     match std::fs::write(&file, svg::svg(drawing)) {
         Ok(()) => Answer::default(),
         Err(why) => {
-            let (file, why) = (shown::file(&file), input::said(&why));
+            let why = match why.kind() {
+                // the file itself would be made
+                ErrorKind::NotFound => "there is no such directory".into(),
+                _ => input::said(&why),
+            };
+            let file = shown::file(&file);
             Answer::failed(format!("{file}: cannot be written: {why}"))
         }
     }

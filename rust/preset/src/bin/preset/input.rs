@@ -1,9 +1,10 @@
 //! A preset's bytes and the name that its board has by default.
 use preset::{TEXT_MAX, board_name, shown};
 use std::ffi::OsStr;
-use std::fs::File;
-use std::io::{Error, ErrorKind, Read, stdin};
+use std::fs::{File, Metadata};
+use std::io::{Error, ErrorKind, Read, Write, stdin};
 use std::os::fd::AsFd;
+use std::os::unix::fs::{FileTypeExt, MetadataExt};
 use std::path::Path;
 
 pub struct Input {
@@ -34,10 +35,23 @@ pub fn read(file: &OsStr) -> Result<Input, String> {
     }
 }
 
-// The standard library reads an input that is not open for reading as an empty one.
+// An input that is closed, or not open for reading, is an empty one to the standard library; here it is a fault.
 fn standard() -> Result<Vec<u8>, String> {
     let own = stdin().as_fd().try_clone_to_owned();
-    limited(File::from(own.map_err(|why| said(&why))?))
+    let own = File::from(own.map_err(|why| said(&why))?);
+    if stands_in(&own) {
+        Err(said(&Error::from_raw_os_error(BAD_DESCRIPTOR)))
+    } else {
+        limited(own)
+    }
+}
+
+// What the standard library opens where there is no input: the null device, for writing too.
+fn stands_in(mut own: &File) -> bool {
+    let device = |found: Metadata| (found.file_type().is_char_device()).then_some(found.rdev());
+    let own_device = own.metadata().ok().and_then(device);
+    let null = std::fs::metadata("/dev/null").ok().and_then(device);
+    own_device.is_some() && own_device == null && own.write(&[]).is_ok()
 }
 
 fn opened(path: &Path) -> Result<Vec<u8>, String> {
