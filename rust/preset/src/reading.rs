@@ -34,7 +34,7 @@ fn of_line(text: &[u8], number: u32, place: usize, line: &str) -> Option<String>
         6 => at.keyless(),
         7 => Some(unnamed(line)),
         8 => escape(line),
-        9 => Some("a dot parts a key, also between quotes".into()),
+        9 => Some(dotted(line)),
         10 => at.after_string(line),
         11 => after_list(line),
         12 => at.no_value(line),
@@ -76,6 +76,11 @@ fn header(name: &str) -> String {
         Some(table) => format!("[{}]", table.name()),
         None => format!("[{}]", plain(name)),
     }
+}
+
+fn is_root(name: &str) -> bool {
+    let mut each = Section::READ.into_iter();
+    each.any(|section| roots(section).contains(&name))
 }
 
 fn is_header(line: &str) -> bool {
@@ -150,6 +155,18 @@ fn unnamed(line: &str) -> String {
     }
 }
 
+// A key in quotes with a dot in it, and how it would be without.
+fn dotted(line: &str) -> String {
+    let key = assigned(line).map_or(line, |(key, _)| key);
+    let parts = key.split('"').zip([false, true].into_iter().cycle());
+    let whole = parts.map(|(part, inside)| {
+        let dash = if inside { "-" } else { "." };
+        part.replace('.', dash)
+    });
+    let whole = plain(&whole.collect::<String>());
+    format!("a dot parts a key, also between quotes: {whole}")
+}
+
 // The first backslash in a string with something else behind it than there may be.
 fn escape(line: &str) -> Option<String> {
     let known = |at: usize| line[at + 1..].starts_with(['n', 't', 'r', '"', '\\']);
@@ -171,13 +188,28 @@ fn escape(line: &str) -> Option<String> {
     ))
 }
 
+// A character that is written but not seen, such as a blank without width.
+fn unseen(line: &str) -> Option<String> {
+    let shown = |c: char| plain(&c.to_string());
+    let hidden = |c: &char| !['\n', '\t'].contains(c) && shown(*c) != c.to_string();
+    let own = line.chars().find(hidden)?;
+    Some(format!("it has {}, which is not seen", shown(own)))
+}
+
 // What stands after a string or a list, of which other languages have some.
 fn behind(rest: &str, before: &str) -> String {
+    let field = rest.trim_start_matches([',', ';', ' ']);
     if is_remark(rest) {
         REMARK.into()
+    } else if is_field(field) {
+        format!("`{}` stands in a line of its own", plain(field))
     } else {
         format!("`{}` stands after {before}", plain(rest))
     }
+}
+
+fn is_field(line: &str) -> bool {
+    assigned(line).is_some_and(|(key, _)| !key.is_empty())
 }
 
 fn after_list(line: &str) -> Option<String> {
@@ -197,6 +229,18 @@ fn parted(value: &str) -> Option<(&str, &str)> {
     (!rest.is_empty()).then_some((&value[..at], rest))
 }
 
+// The first item of a list that has more than a string.
+fn no_comma(list: &str) -> String {
+    let mut items = list.trim_matches(['[', ']']).split(',').map(trimmed);
+    match items.find_map(parted) {
+        Some((own, rest)) => {
+            let (own, rest) = (plain(own), plain(rest));
+            format!("a comma is missing between {own} and {rest}")
+        }
+        None => "a comma stands between two items".into(),
+    }
+}
+
 // A line of a text; the tables that it stands in are asked of the text before it.
 struct At<'a> {
     text: &'a [u8],
@@ -213,6 +257,8 @@ impl At<'_> {
             "a UTF-8 byte order mark at the start of the file; save it without".into()
         } else if line.contains('\0') {
             "it has zero bytes, as UTF-16 has; save the file as UTF-8".into()
+        } else if let Some(unseen) = unseen(line) {
+            unseen
         } else if line.starts_with([';', '%', '!']) || is_remark(line) {
             REMARK.into()
         } else if line.starts_with('[') {
@@ -236,6 +282,8 @@ impl At<'_> {
         } else if let Some(field) = field {
             let wanted = wanted::said(field, value);
             format!("`=` is missing after `{}`, which wants {wanted}", field.0)
+        } else if value.is_empty() && is_root(key) {
+            format!("a header is written {}", header(key))
         } else {
             "a line is a header in brackets, or key = value".into()
         }
@@ -252,24 +300,14 @@ impl At<'_> {
         let (key, value) = assigned(line)?;
         let list = format!("[{value}]");
         let is_list = self.field(key).is_some_and(|(_, want)| want == Want::List);
-        let mut items = value.trim_matches(['[', ']']).split(',').map(trimmed);
-        if value.contains("\"\"\"") {
-            let own = wanted::string(unquoted(value)).unwrap_or_default();
-            let own = if own.is_empty() {
-                own
-            } else {
-                format!(": {own}")
-            };
-            Some(format!("there are no strings in three quotes{own}"))
+        if value.starts_with("\"\"") && value.ends_with("\"\"") {
+            let own = wanted::string(unquoted(value));
+            let own = own.map_or(String::new(), |own| format!(": {own}"));
+            Some(format!("one `\"` at each end is enough{own}"))
         } else if is_list && value.starts_with('"') && is_value(&list) {
             Some(format!("a list stands in brackets: {}", plain(&list)))
         } else if value.starts_with('[') {
-            let (own, rest) = items.find_map(parted)?;
-            Some(format!(
-                "a comma is missing between {} and {}",
-                plain(own),
-                plain(rest)
-            ))
+            Some(no_comma(value))
         } else {
             let (own, rest) = parted(value)?;
             let inside = value[own.len()..].starts_with(char::is_alphanumeric);
@@ -284,7 +322,7 @@ impl At<'_> {
 
     fn no_value(&self, line: &str) -> Option<String> {
         let (key, written) = assigned(line)?;
-        if let Some(more) = more_than_one(written) {
+        if let Some(more) = unseen(line).or_else(|| more_than_one(written)) {
             return Some(more);
         }
         let (value, remark) = unremarked(written);
@@ -334,7 +372,7 @@ fn path(name: &str) -> Option<Vec<String>> {
 fn more_than_one(value: &str) -> Option<String> {
     let sign = value.chars().next().filter(|c| ['=', '>'].contains(c));
     let next = value.split_once([' ', '\t']);
-    let next = next.filter(|(own, rest)| is_value(own) && assigned(rest).is_some());
+    let next = next.filter(|(own, rest)| is_value(own) && is_field(rest));
     match (sign, next) {
         (Some(sign), _) => Some(format!("`={sign}` is written `=`")),
         (_, Some((_, rest))) => {

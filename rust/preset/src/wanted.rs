@@ -94,17 +94,17 @@ fn whole(word: &str) -> Option<&str> {
 
 // A size with its unit, in bytes. In flash the units are powers of two.
 fn sized(word: &str) -> Option<String> {
-    let at = word.find(|c: char| c.is_ascii_alphabetic() || c == ' ')?;
-    let (count, unit) = word.split_at(at);
+    let at = word.rfind(|c: char| !c.is_ascii_alphabetic())? + 1;
+    let (count, unit) = word.split_at_checked(at)?;
+    let own = whole(trimmed(count))?;
     let (shift, name) = match trimmed(unit).to_ascii_lowercase().as_str() {
-        "b" | "byte" | "bytes" => (0, "B"),
+        "b" | "byte" | "bytes" => return Some(plain(own)),
         "k" | "kb" | "kib" => (10, "KiB"),
         "m" | "mb" | "mib" => (20, "MiB"),
         _ => return None,
     };
-    let own: u64 = whole(count)?.replace('_', "").parse().ok()?;
-    let bytes = own << shift;
-    Some(format!("{own} {name} is {bytes} or {bytes:#X}"))
+    let bytes = value::int(own.as_bytes()).value << shift;
+    Some(format!("{} {name} is {bytes} or {bytes:#X}", plain(own)))
 }
 
 fn flag(word: &str) -> String {
@@ -184,7 +184,8 @@ mod tests {
         }
         assert_eq!(said("256K"), "a number: 256 KiB is 262144 or 0x40000");
         assert_eq!(said("1 MiB"), "a number: 1 MiB is 1048576 or 0x100000");
-        assert_eq!(said("4_096 bytes"), "a number: 4096 B is 4096 or 0x1000");
+        assert_eq!(said("4_096 bytes"), "a number: 4_096");
+        assert_eq!(said("0x10K"), "a number: 0x10 KiB is 16384 or 0x4000");
         let large = "a number from 0 to 4294967295";
         assert_eq!(said("99999999999999999999"), large);
         assert_eq!(said("0x10000000000000000"), large);

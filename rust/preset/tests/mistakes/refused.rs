@@ -133,7 +133,7 @@ pub const ALL: &[Mistake] = &[
         what: "three double quotes",
         edits: &[("\"stage desk\"", "\"\"\"stage desk\"\"\"")],
         told: &[
-            "12: refused 10: text after a string: there are no strings in three quotes: \"stage desk\"",
+            "12: refused 10: text after a string: one `\"` at each end is enough: \"stage desk\"",
         ],
     },
     Mistake {
@@ -171,6 +171,35 @@ pub const ALL: &[Mistake] = &[
         told: &[
             "12: refused 8: unknown escape in a string: `\\u`; a backslash is written `\\\\`, and characters as they are",
         ],
+    },
+    Mistake {
+        what: "two quotes at each end",
+        edits: &[("chip    = \"d13x\"", "chip    = \"\"d13x\"\"")],
+        told: &["6: refused 10: text after a string: one `\"` at each end is enough: \"d13x\""],
+    },
+    Mistake {
+        what: "a quote too many",
+        edits: &[("chip    = \"d13x\"", "chip    = \"d13x\"\"")],
+        told: &["6: refused 4: bracket or quote never closed: a `\"` has no second one: \"d13x\""],
+    },
+    Mistake {
+        what: "a drive of Windows",
+        edits: &[("\"blobs/gobos-2.4.img\"", "\"C:\\blobs\\gobos-2.4.img\"")],
+        told: &[
+            "95: refused 8: unknown escape in a string: `\\b`; a backslash is written `\\\\`, and in paths `/`: \"C:/blobs/gobos-2.4.img\"",
+        ],
+    },
+    Mistake {
+        what: "a list in one string without its second quote",
+        edits: &[("\"pan tilt zoom rgbw\"", "\"pan tilt zoom rgbw")],
+        told: &[
+            "111: refused 4: bracket or quote never closed: a `\"` has no second one: \"pan tilt zoom rgbw\"",
+        ],
+    },
+    Mistake {
+        what: "a blank without width",
+        edits: &[("chip    = \"d13x\"", "chip    = \u{200b}\"d13x\"")],
+        told: &["6: refused 12: not an integer: it has \\u{200b}, which is not seen"],
     },
     Mistake {
         what: "a comma at the end",
@@ -245,6 +274,13 @@ pub const ALL: &[Mistake] = &[
         told: &["32: refused 12: not an integer: `size = 0x00E000` stands in a line of its own"],
     },
     Mistake {
+        what: "two fields in one line, with a comma",
+        edits: &[("\"calibration\" ", "\"calibration\", offset = 0x042000 ")],
+        told: &[
+            "31: refused 10: text after a string: `offset = 0x042000` stands in a line of its own",
+        ],
+    },
+    Mistake {
         what: "a colon for the equals sign",
         edits: &[("chip    = \"d13x\"", "chip: \"d13x\"")],
         told: &[
@@ -304,6 +340,18 @@ pub const ALL: &[Mistake] = &[
         told: &["6: refused 12: not an integer: `=>` is written `=`"],
     },
     Mistake {
+        what: "a header of YAML",
+        edits: &[("[image]", "image:")],
+        told: &["10: refused 5: neither a header nor an assignment: a header is written [image]"],
+    },
+    Mistake {
+        what: "a field of YAML",
+        edits: &[("version      = \"2.4.1\"", "version: 2.4.1")],
+        told: &[
+            "13: refused 5: neither a header nor an assignment: `=` is missing after `version`, which wants text in double quotes: \"2.4.1\"",
+        ],
+    },
+    Mistake {
         what: "no key",
         edits: &[("chip    = \"d13x\"", "        = \"d13x\"")],
         told: &[
@@ -333,6 +381,16 @@ pub const ALL: &[Mistake] = &[
         told: &[
             "43: partition 4 \"gobos\": refused 20: wrong kind of value: `size` is a string; it wants a number: 2 MiB is 2097152 or 0x200000",
         ],
+    },
+    Mistake {
+        what: "a size with its unit written out",
+        edits: &[("0x00E000", "0xE000 bytes")],
+        told: &["33: refused 12: not an integer: `size` wants a number: 0xE000"],
+    },
+    Mistake {
+        what: "a product",
+        edits: &[("0x00E000", "56 * 1024")],
+        told: &["33: refused 12: not an integer: `size` wants a number: 4096 or 0x1000"],
     },
     Mistake {
         what: "a decimal",
@@ -608,6 +666,13 @@ pub const ALL: &[Mistake] = &[
         ],
     },
     Mistake {
+        what: "an application's header as a list's",
+        edits: &[("[apps.lamp-log]", "[[apps]]")],
+        told: &[
+            "135: refused 13: [[..]] over something not an array: `apps` is a table since line 101: [apps.profile-spot]",
+        ],
+    },
+    Mistake {
         what: "something after a header",
         edits: &[("[image]", "[image];")],
         told: &[
@@ -634,7 +699,9 @@ pub const ALL: &[Mistake] = &[
     Mistake {
         what: "a dot in a key",
         edits: &[("[apps.profile-bar]", "[apps.\"profile.bar\"]")],
-        told: &["121: refused 9: string not ended: a dot parts a key, also between quotes"],
+        told: &[
+            "121: refused 9: string not ended: a dot parts a key, also between quotes: [apps.profile-bar]",
+        ],
     },
     Mistake {
         what: "a key half in quotes",
