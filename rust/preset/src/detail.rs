@@ -196,11 +196,11 @@ fn of_partition(preset: &Preset, tree: &Tree, number: u32, place: usize) -> Opti
     };
     match number {
         41 => Some(first_at(tree, partitions, offset)),
-        44 => Some(format!("the erase block of {media} is {block:#X}")),
         43 => {
             let earlier = partitions.iter().position(|p| p.name == own.name)?;
             Some(twin(tree, Section::Partition, &own.name, earlier))
         }
+        44 => Some(format!("the erase block of {media} is {block:#X}")),
         45 => Some(off("offset", offset)),
         46 => Some(off("size", size)),
         47 => {
@@ -228,15 +228,12 @@ fn first_at(tree: &Tree, partitions: &[PartitionSpec], offset: u32) -> String {
     format!("`offset` is {offset:#X}{other}")
 }
 
-// The multiples of a step on both sides of a number, but 0.
+// The multiples of a step on both sides of a number, but 0 and those out of range.
 fn fitting(n: u32, step: u32) -> String {
-    let below = u64::from(n - n % step);
-    let above = format!("{:#X}", below + u64::from(step));
-    if below == 0 {
-        above
-    } else {
-        format!("{below:#X} or {above}")
-    }
+    let below = n - n % step;
+    let both = [Some(below).filter(|n| *n > 0), below.checked_add(step)];
+    let both = both.into_iter().flatten().map(|n| format!("{n:#X}"));
+    both.collect::<Vec<_>>().join(" or ")
 }
 
 fn end(partition: &PartitionSpec) -> u64 {

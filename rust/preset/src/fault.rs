@@ -38,7 +38,7 @@ pub struct Fault {
     pub text: Option<String>,
     /// The section, the entry's number from 0 and its name, as far as there are any.
     pub entry: Option<String>,
-    /// What the refusal's words leave open: a name, a number, what else is there.
+    /// What the refusal's words leave open: a name, a number, what else is there, and what would be right.
     pub detail: Option<String>,
 }
 

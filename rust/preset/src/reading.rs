@@ -21,8 +21,8 @@ pub(crate) fn of(text: &[u8], refusal: &Refusal) -> Option<String> {
     match refusal.number {
         1 => Some(format!("more than {TEXT_MAX} bytes")),
         2 => encoded(text),
-        3 => closed(text, place),
-        4 => open(text, place),
+        3 => At { text, place }.closed(),
+        4 => At { text, place }.open(),
         _ => of_line(text, refusal.number, place, &written::line(text, place)?),
     }
 }
@@ -84,46 +84,13 @@ fn is_root(name: &str) -> bool {
 }
 
 fn is_header(line: &str) -> bool {
-    assigned(line).is_none() && line.contains(['[', ']'])
+    assigned(line).is_none() && line.contains(['[', ']']) && !line.contains(['"', ','])
 }
 
 fn header_is(line: &str) -> String {
-    let name = line.trim_matches(['[', ']', ' ', ',', ';']);
-    format!(
-        "a header is written {}",
-        header(name.split(']').next().unwrap_or(name))
-    )
-}
-
-// A bracket too many.
-fn closed(text: &[u8], place: usize) -> Option<String> {
-    let line = kept(lines::standing(text, place)?);
-    let value = assigned(&line).map(|(_, value)| format!("[{value}"));
-    match value.filter(|value| is_value(value)) {
-        Some(list) => Some(format!("a list begins with `[`: {}", plain(&list))),
-        None if line.trim_matches([']', ',', ' ']).is_empty() => {
-            Some("no list is open here".into())
-        }
-        None if is_header(&line) => Some(header_is(&line)),
-        None => None,
-    }
-}
-
-// The first line from that one on with a string that is not closed there, else the brackets of the line itself.
-fn open(text: &[u8], place: usize) -> Option<String> {
-    let own = lines::standing(text, place)?;
-    let line = kept(own);
-    let each = text.split(|b| *b == b'\n').map(kept).zip(1..);
-    let mut each = each.skip(place.saturating_sub(1));
-    match each.find(|(line, _)| in_string(line)) {
-        Some((line, at)) if at == place => Some(unclosed(&line)),
-        Some((line, at)) => Some(format!("line {at}: {}", unclosed(&line))),
-        None if is_header(&line) => Some(header_is(&line)),
-        None if own[text::kept(own).min(own.len())..].contains(&b']') => {
-            Some("a `]` after `#` is a remark".into())
-        }
-        None => Some("a list ends with `]`".into()),
-    }
+    let name = line.trim_matches(['[', ']', ' ', ';']);
+    let name = name.split(']').next().unwrap_or(name);
+    format!("a header is written {}", header(name))
 }
 
 // A line with a quote too few: the word beside the only one, where that is certain to be meant.
@@ -241,6 +208,10 @@ fn no_comma(list: &str) -> String {
     }
 }
 
+fn wants(field: (&str, Want), value: &str) -> String {
+    format!("`{}` wants {}", field.0, wanted::said(field, value))
+}
+
 // A line of a text; the tables that it stands in are asked of the text before it.
 struct At<'a> {
     text: &'a [u8],
@@ -252,8 +223,53 @@ impl At<'_> {
         Spot::of(self.text, self.place, key)?.field()
     }
 
+    // What a field wants that is no list and has a bracket.
+    fn bracketed(&self, line: &str) -> Option<String> {
+        let (key, value) = assigned(line)?;
+        let field = self.field(key).filter(|(_, want)| *want != Want::List)?;
+        let value = trimmed(value.trim_matches(['[', ']']));
+        Some(wants(field, value))
+    }
+
+    // A bracket too many.
+    fn closed(&self) -> Option<String> {
+        let line = kept(lines::standing(self.text, self.place)?);
+        let list = assigned(&line).map(|(_, value)| format!("[{value}"));
+        let list = list.filter(|list| is_value(list));
+        let list = list.map(|list| format!("a list begins with `[`: {}", plain(&list)));
+        self.bracketed(&line).or(list).or_else(|| {
+            let name = line.trim_matches([']', ' ']);
+            if is_header(&line) && !name.is_empty() {
+                Some(header_is(&line))
+            } else {
+                assigned(&line)
+                    .is_none()
+                    .then(|| "no list is open here".into())
+            }
+        })
+    }
+
+    // The first line from this one on with a string that is not closed there, else this line's brackets.
+    fn open(&self) -> Option<String> {
+        let (text, place) = (self.text, self.place);
+        let own = lines::standing(text, place)?;
+        let (line, remark) = (kept(own), own.get(text::kept(own)..)?);
+        let each = text.split(|b| *b == b'\n').map(kept).zip(1..);
+        let mut each = each.skip(place.saturating_sub(1));
+        match each.find(|(line, _)| in_string(line)) {
+            Some((line, at)) if at == place => Some(unclosed(&line)),
+            Some((line, at)) => Some(format!("line {at}: {}", unclosed(&line))),
+            None if is_header(&line) => Some(header_is(&line)),
+            None if remark.contains(&b']') => Some("a `]` after `#` is a remark".into()),
+            None => {
+                let list = || "a list ends with `]`".into();
+                Some(self.bracketed(&line).unwrap_or_else(list))
+            }
+        }
+    }
+
     fn neither(&self, line: &str) -> String {
-        if line.starts_with(MARK) {
+        if self.place == 1 && line.starts_with(MARK) {
             "a UTF-8 byte order mark at the start of the file; save it without".into()
         } else if line.contains('\0') {
             "it has zero bytes, as UTF-16 has; save the file as UTF-8".into()
@@ -331,7 +347,7 @@ impl At<'_> {
         }
         let spot = Spot::of(self.text, self.place, key);
         let said = match spot.as_ref().and_then(Spot::field) {
-            Some(field) => format!("`{}` wants {}", field.0, wanted::said(field, value)),
+            Some(field) => wants(field, value),
             None if value.contains('{') => braces(spot, key),
             None => ANY.into(),
         };

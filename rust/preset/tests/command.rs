@@ -118,7 +118,8 @@ const FAULTS: [(&str, &str, &str, &str); 12] = [
         "chip    = \"d13x\"",
         "chip    = 13",
         "chip    = 13",
-        "board: refused 20: wrong kind of value: `chip` is an integer; it wants text in double quotes: \"d13x\" or \"d21x\"",
+        "board: refused 20: wrong kind of value: `chip` is an integer; \
+         it wants text in double quotes: \"d13x\" or \"d21x\"",
     ),
     (
         "media        = \"spi-nor\"",
@@ -679,7 +680,8 @@ fn what_is_printed_is_escaped() {
     let got = said(command(&["check", "-"]), text.as_bytes());
     let plain = "\\u{1b}[2J\\u{202e}";
     let want = format!(
-        "-:15: component 0 \"first\": refused 58: unknown partition \"{plain}\"; there are boot, profiles\n    partition = \"{plain}\"\n"
+        "-:15: component 0 \"first\": refused 58: unknown partition \"{plain}\"; there are boot, profiles\n    \
+         partition = \"{plain}\"\n"
     );
     assert_eq!((got.status, got.out), (1, want));
     for order in ["plan", "map", "check"] {

@@ -604,6 +604,30 @@ pub const ALL: &[Mistake] = &[
         told: &["74: refused 3: closing bracket too many: no list is open here"],
     },
     Mistake {
+        what: "items below a list that is closed",
+        edits: &[("    \"watchdog\",\n]", "] # the rest:\n    \"watchdog\"]")],
+        told: &["73: refused 3: closing bracket too many: no list is open here"],
+    },
+    Mistake {
+        what: "a bracket after a number",
+        edits: &[("0x00E000", "0x00E000]")],
+        told: &["33: refused 3: closing bracket too many: `size` wants a number: 0x00E000"],
+    },
+    Mistake {
+        what: "a bracket before a string",
+        edits: &[("chip    = \"d13x\"", "chip    = [\"d13x\"")],
+        told: &[
+            "6: refused 4: bracket or quote never closed: `chip` wants text in double quotes: \"d13x\"",
+        ],
+    },
+    Mistake {
+        what: "a list where text belongs",
+        edits: &[("\"stage desk\"", "[\"stage desk\"]")],
+        told: &[
+            "12: image: refused 20: wrong kind of value: `product` is an array; it wants text in double quotes: \"stage desk\"",
+        ],
+    },
+    Mistake {
         what: "true for a list",
         edits: &[("\"pan tilt zoom rgbw\"", "true")],
         told: &[
