@@ -15,6 +15,9 @@ const REMARK: &str = "a remark begins with `#`";
 // What it begins with in other languages.
 const REMARKS: [&str; 3] = ["//", "/*", "--"];
 
+// Fields that hold the path of a file.
+const PATHS: [&str; 3] = ["file", "pbp", "private"];
+
 /// What is to be said of a refusal of the text.
 pub(crate) fn of(text: &[u8], refusal: &Refusal) -> Option<String> {
     let place = refusal.place as usize;
@@ -83,14 +86,23 @@ fn is_root(name: &str) -> bool {
     each.any(|section| roots(section).contains(&name))
 }
 
-fn is_header(line: &str) -> bool {
-    assigned(line).is_none() && line.contains(['[', ']']) && !line.contains(['"', ','])
+// A line with brackets too few or too many that is meant to be a header.
+fn header_of(line: &str) -> Option<String> {
+    let name = line.replace(['[', ']'], "");
+    let name = name.trim_matches('.');
+    let plain = |c: char| c.is_alphanumeric() || "-_.".contains(c);
+    let ends = line.starts_with('[') || line.ends_with(']');
+    let is = ends && !name.is_empty() && name.chars().all(plain);
+    is.then(|| format!("a header is written {}", header(name)))
 }
 
-fn header_is(line: &str) -> String {
-    let name = line.trim_matches(['[', ']', ' ', ';']);
-    let name = name.split(']').next().unwrap_or(name);
-    format!("a header is written {}", header(name))
+// A list whose brackets are not one at each end, where all of them are its own.
+fn list_of(value: &str) -> Option<String> {
+    let (list, scanned) = (value.replace(['[', ']'], ""), scan(value.as_bytes()));
+    let own = scanned.opens + scanned.closes == value.len() - list.len();
+    let list = format!("[{}]", trimmed(&list));
+    let said = || format!("a list has one `[` and one `]`: {}", plain(&list));
+    (own && is_value(&list)).then(said)
 }
 
 // A line with a quote too few: the word beside the only one, where that is certain to be meant.
@@ -102,7 +114,8 @@ fn unclosed(line: &str) -> String {
     let own = value.trim_matches(['[', ']', ',', ';', ' ', '\t']);
     let word = unquoted(own).trim_end_matches('"');
     let plain = |c: char| c.is_alphanumeric() || " -_./;".contains(c);
-    if word.is_empty() || !word.chars().all(plain) {
+    let header = assigned(line).is_none() && line.contains(['[', ']']);
+    if header || word.is_empty() || !word.chars().all(plain) {
         said.into()
     } else {
         format!("{said}: {}", quoted(word))
@@ -147,9 +160,13 @@ fn escape(line: &str) -> Option<String> {
             "`\\{shown}`; a backslash is written `\\\\`, and characters as they are"
         ));
     }
-    let whole = assigned(line).map(|(_, value)| value.replace('\\', "/"));
-    let whole = whole.filter(|value| value.contains('/') && is_value(value));
-    let path = whole.map_or(String::new(), |value| format!(": {}", plain(&value)));
+    let (key, value) = assigned(line).unwrap_or_default();
+    let path = value.replace('\\', "/");
+    let path = if PATHS.contains(&key) && is_value(&path) {
+        format!(": {}", plain(&path))
+    } else {
+        String::new()
+    };
     Some(format!(
         "`\\{shown}`; a backslash is written `\\\\`, and in paths `/`{path}"
     ))
@@ -223,9 +240,14 @@ impl At<'_> {
         Spot::of(self.text, self.place, key)?.field()
     }
 
-    // What a field wants that is no list and has a bracket.
+    // What a field wants that is no list and has a bracket, or a bracket in its key.
     fn bracketed(&self, line: &str) -> Option<String> {
         let (key, value) = assigned(line)?;
+        let name = key.replace(['[', ']'], "");
+        let name = trimmed(&name);
+        if name != key && !name.is_empty() {
+            return Some(format!("a key has no brackets: {}", plain(name)));
+        }
         let field = self.field(key).filter(|(_, want)| *want != Want::List)?;
         let value = trimmed(value.trim_matches(['[', ']']));
         Some(wants(field, value))
@@ -234,19 +256,10 @@ impl At<'_> {
     // A bracket too many.
     fn closed(&self) -> Option<String> {
         let line = kept(lines::standing(self.text, self.place)?);
-        let list = assigned(&line).map(|(_, value)| format!("[{value}"));
-        let list = list.filter(|list| is_value(list));
-        let list = list.map(|list| format!("a list begins with `[`: {}", plain(&list)));
-        self.bracketed(&line).or(list).or_else(|| {
-            let name = line.trim_matches([']', ' ']);
-            if is_header(&line) && !name.is_empty() {
-                Some(header_is(&line))
-            } else {
-                assigned(&line)
-                    .is_none()
-                    .then(|| "no list is open here".into())
-            }
-        })
+        let list = || assigned(&line).and_then(|(_, value)| list_of(value));
+        let said = self.bracketed(&line).or_else(list);
+        let said = said.or_else(|| header_of(&line));
+        Some(said.unwrap_or_else(|| "no list is open here".into()))
     }
 
     // The first line from this one on with a string that is not closed there, else this line's brackets.
@@ -257,14 +270,24 @@ impl At<'_> {
         let each = text.split(|b| *b == b'\n').map(kept).zip(1..);
         let mut each = each.skip(place.saturating_sub(1));
         match each.find(|(line, _)| in_string(line)) {
-            Some((line, at)) if at == place => Some(unclosed(&line)),
+            Some((line, at)) if at == place => Some(self.unclosed(&line)),
             Some((line, at)) => Some(format!("line {at}: {}", unclosed(&line))),
-            None if is_header(&line) => Some(header_is(&line)),
             None if remark.contains(&b']') => Some("a `]` after `#` is a remark".into()),
             None => {
                 let list = || "a list ends with `]`".into();
-                Some(self.bracketed(&line).unwrap_or_else(list))
+                let said = self.bracketed(&line).or_else(|| header_of(&line));
+                Some(said.unwrap_or_else(list))
             }
+        }
+    }
+
+    // A number or a flag has no quotes, so that none is missing.
+    fn unclosed(&self, line: &str) -> String {
+        let (key, value) = assigned(line).unwrap_or_default();
+        let plain = |field: &(&str, Want)| matches!(field.1, Want::Integer | Want::Boolean);
+        match self.field(key).filter(plain) {
+            Some(field) => wants(field, trimmed(value.trim_matches('"'))),
+            None => unclosed(line),
         }
     }
 
@@ -278,10 +301,23 @@ impl At<'_> {
         } else if line.starts_with([';', '%', '!']) || is_remark(line) {
             REMARK.into()
         } else if line.starts_with('[') {
-            format!("{}, alone in its line", header_is(line))
+            let name = line.trim_start_matches(['[', ' ']);
+            let name = name.split([']', ' ']).next().unwrap_or(name);
+            let header = header(name);
+            format!("a header is written {header}, alone in its line")
+        } else if self.hidden() {
+            "what stands after `#` is a remark".into()
         } else {
             self.unassigned(line)
         }
+    }
+
+    // Whether the line has its `=` in a remark.
+    fn hidden(&self) -> bool {
+        let own = lines::standing(self.text, self.place).unwrap_or_default();
+        let remark = own.get(text::kept(own)..).unwrap_or_default();
+        let key = kept(own);
+        remark.contains(&b'=') && self.field(&key).is_some()
     }
 
     // A key without its `=`, perhaps with `:` in its place.
@@ -301,7 +337,7 @@ impl At<'_> {
         } else if value.is_empty() && is_root(key) {
             format!("a header is written {}", header(key))
         } else {
-            "a line is a header in brackets, or key = value".into()
+            "a line is a header in brackets, key = value, or a remark after `#`".into()
         }
     }
 

@@ -49,11 +49,13 @@ pub(crate) fn string(word: &str) -> Option<String> {
     // a list of one item is that item
     let item = word.strip_prefix('[').and_then(|w| w.strip_suffix(']'));
     let item = item.filter(|w| !w.contains(',')).map_or(word, trimmed);
-    if item.starts_with('"') {
-        is_value(item).then(|| plain(item))
-    } else {
-        bare(item).map(quoted)
+    // a letter or a sign before a string is none of its own
+    let at = item.find('"').unwrap_or(item.len());
+    let (before, string) = item.split_at(at);
+    if before.trim_end().chars().count() < 2 && is_value(string) {
+        return Some(plain(string));
     }
+    bare(item).map(quoted)
 }
 
 // What stands between quotes of whatever sort, or without any.
@@ -149,7 +151,8 @@ mod tests {
         let said = |word| said(("name", Want::Text), word);
         let base = "text in double quotes";
         for word in [
-            "x", "'x'", "“x”", "„x“", "`x`", "'''x'''", "'x", "x;", "[\"x\"]", "[x]",
+            "x", "'x'", "“x”", "„x“", "`x`", "'''x'''", "'x", "x;", "[\"x\"]", "[x]", "r\"x\"",
+            "' \"x\"",
         ] {
             assert_eq!(said(word), format!("{base}: \"x\""), "{word}");
         }

@@ -220,7 +220,7 @@ fn check_leads_to_the_fault() {
 }
 
 // What is told of a line that nobody can guess.
-const LINE: &str = "a line is a header in brackets, or key = value";
+const LINE: &str = "a line is a header in brackets, key = value, or a remark after `#`";
 
 // The worst counts, each file has its line, and only what cannot be read is told beside them.
 #[test]

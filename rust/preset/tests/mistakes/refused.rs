@@ -330,6 +330,20 @@ pub const ALL: &[Mistake] = &[
         ],
     },
     Mistake {
+        what: "an equals sign in a remark",
+        edits: &[("chip    = \"d13x\"", "chip # = \"d13x\"")],
+        told: &[
+            "6: refused 5: neither a header nor an assignment: what stands after `#` is a remark",
+        ],
+    },
+    Mistake {
+        what: "a remark that goes on in the next line",
+        edits: &[("SPI-NOR with", "SPI-NOR\nwith")],
+        told: &[
+            "2: refused 5: neither a header nor an assignment: a line is a header in brackets, key = value, or a remark after `#`",
+        ],
+    },
+    Mistake {
         what: "two equals signs",
         edits: &[("chip    = \"d13x\"", "chip    == \"d13x\"")],
         told: &["6: refused 12: not an integer: `==` is written `=`"],
@@ -362,7 +376,7 @@ pub const ALL: &[Mistake] = &[
         what: "a line that is no field",
         edits: &[("# --- the flash, 8 MiB", "the flash, 8 MiB")],
         told: &[
-            "18: refused 5: neither a header nor an assignment: a line is a header in brackets, or key = value",
+            "18: refused 5: neither a header nor an assignment: a line is a header in brackets, key = value, or a remark after `#`",
         ],
     },
     Mistake {
@@ -569,7 +583,7 @@ pub const ALL: &[Mistake] = &[
             "\"pan\", \"tilt\"]",
         )],
         told: &[
-            "105: refused 3: closing bracket too many: a list begins with `[`: [\"pan\", \"tilt\"]",
+            "105: refused 3: closing bracket too many: a list has one `[` and one `]`: [\"pan\", \"tilt\"]",
         ],
     },
     Mistake {
@@ -607,6 +621,45 @@ pub const ALL: &[Mistake] = &[
         what: "items below a list that is closed",
         edits: &[("    \"watchdog\",\n]", "] # the rest:\n    \"watchdog\"]")],
         told: &["73: refused 3: closing bracket too many: no list is open here"],
+    },
+    Mistake {
+        what: "a list that is closed too early",
+        edits: &[(
+            "[\"pan\", \"tilt\", \"zoom\", \"iris\", \"gobo\"]",
+            "[\"pan\"], \"tilt\"]",
+        )],
+        told: &[
+            "105: refused 3: closing bracket too many: a list has one `[` and one `]`: [\"pan\", \"tilt\"]",
+        ],
+    },
+    Mistake {
+        what: "a bracket in a key",
+        edits: &[("entry_offset =", "entry_offset] =")],
+        told: &["119: refused 3: closing bracket too many: a key has no brackets: entry_offset"],
+    },
+    Mistake {
+        what: "a header's bracket in its middle",
+        edits: &[("[apps.profile-bar]", "[apps].profile-bar]")],
+        told: &["121: refused 3: closing bracket too many: a header is written [apps.profile-bar]"],
+    },
+    Mistake {
+        what: "a header's end in a remark",
+        edits: &[("[image]", "[image # ]")],
+        told: &["10: refused 4: bracket or quote never closed: a `]` after `#` is a remark"],
+    },
+    Mistake {
+        what: "a flag with one quote",
+        edits: &[("updater      = true", "updater      = \"true")],
+        told: &[
+            "57: refused 4: bracket or quote never closed: `updater` wants true or false: true",
+        ],
+    },
+    Mistake {
+        what: "a letter before a string",
+        edits: &[("\"blobs/env.bin\"", "r\"blobs/env.bin\"")],
+        told: &[
+            "88: refused 12: not an integer: `file` wants text in double quotes: \"blobs/env.bin\"",
+        ],
     },
     Mistake {
         what: "a bracket after a number",
