@@ -41,13 +41,7 @@ mod sys {
 
 /// Plans a preset's boot chain and writes its lines at the head of `out`, which stays as it is after
 /// them. A refusal leaves all three rooms zero.
-pub fn listing(
-    text: &[u8],
-    name: &[u8],
-    store: &mut [u8],
-    tree: &mut [u8],
-    out: &mut [u8],
-) -> Listed {
+pub fn list(text: &[u8], name: &[u8], store: &mut [u8], tree: &mut [u8], out: &mut [u8]) -> Listed {
     let (to, room) = (store.as_mut_ptr(), store.len());
     let (slots, places) = (tree.as_mut_ptr(), tree.len());
     let (page, length) = (out.as_mut_ptr(), out.len());

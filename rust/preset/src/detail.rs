@@ -52,8 +52,7 @@ fn of_records(text: &[u8], tree: &Tree, refusal: &Refusal) -> Option<String> {
     }
     let entry = tree.entry(section, refusal.place as usize)?;
     if number == 23 {
-        let (is, header) = (tree.kind(entry).name(), headed(tree, section, entry));
-        return Some(format!("it is {is}; its header is {header}"));
+        return Some(no_table(tree, section, entry));
     }
     let key = fields::meant(tree, refusal, entry)?;
     match tree.field(entry, key) {
@@ -77,12 +76,19 @@ fn not_whole(tree: &Tree, section: Section) -> Option<String> {
     Some(format!("`{key}` is {is}, not {need}; {headers}"))
 }
 
-// The header that an entry has to have.
-fn headed(tree: &Tree, section: Section, entry: usize) -> String {
-    let name = tree.called(section, entry).unwrap_or_default();
-    match section {
-        Section::Application => format!("[apps.{}]", plain(&name)),
-        _ => format!("[[{}]]", section.name()),
+// An entry that is no table, and its header; a field directly below `[apps]` lacks the key of its application.
+fn no_table(tree: &Tree, section: Section, entry: usize) -> String {
+    let is = tree.kind(entry).name();
+    let name = tree.called(section, entry);
+    let name = name.filter(|_| section == Section::Application);
+    let field = |name: &String| fields::fields(section).iter().any(|(key, _)| key == name);
+    let header = section.header();
+    match name {
+        Some(name) if field(&name) => {
+            format!("it is {is}; `{name}` is a field of an application, whose header is {header}")
+        }
+        Some(name) => format!("it is {is}; its header is [apps.{}]", plain(&name)),
+        None => format!("it is {is}; its header is {header}"),
     }
 }
 

@@ -51,7 +51,7 @@ mod refusal;
 mod rooms;
 mod schema;
 pub mod shown;
-pub mod svg;
+mod svg;
 mod tree;
 pub mod unknown;
 mod wanted;

@@ -73,10 +73,8 @@ fn header(name: &str) -> String {
     let (first, rest) = name.split_once('.').unwrap_or((name, ""));
     let own = |section: &Section| near(first, roots(*section)).is_some();
     match Section::READ.into_iter().find(own) {
-        Some(Section::Application) if rest.is_empty() => "[apps.KEY]".into(),
-        Some(Section::Application) => format!("[apps.{}]", plain(rest)),
-        Some(list @ (Section::Partition | Section::Component)) => format!("[[{}]]", list.name()),
-        Some(table) => format!("[{}]", table.name()),
+        Some(Section::Application) if !rest.is_empty() => format!("[apps.{}]", plain(rest)),
+        Some(section) => section.header().into(),
         None => format!("[{}]", plain(name)),
     }
 }

@@ -34,6 +34,18 @@ impl Section {
         self as u32
     }
 
+    /// The header that its table, or each of its entries, stands below.
+    pub(crate) fn header(self) -> &'static str {
+        match self {
+            Section::Text => "",
+            Section::Board => "[board]",
+            Section::Image => "[image]",
+            Section::Partition => "[[partition]]",
+            Section::Component => "[[component]]",
+            Section::Application => "[apps.KEY]",
+        }
+    }
+
     /// Its word in messages.
     pub fn name(self) -> &'static str {
         match self {

@@ -78,19 +78,21 @@ fn pattern(look: usize) -> Option<String> {
 // The chips in the order in which they stand on a card.
 const KINDS: [LandKind; 3] = [LandKind::Component, LandKind::Chosen, LandKind::Application];
 
-/// The map as an SVG document; it needs no other file and runs nothing.
-pub fn svg(drawing: &Drawing) -> String {
-    let page = Page::of(drawing);
-    let mut sheet = Sheet(String::new());
-    page.open(&mut sheet);
-    page.heading(&mut sheet);
-    page.cards.iter().for_each(|c| page.band(&mut sheet, c));
-    page.frame(&mut sheet);
-    page.cards.iter().for_each(|c| page.stretch(&mut sheet, c));
-    page.cards.iter().for_each(|c| page.card(&mut sheet, c));
-    page.foot(&mut sheet);
-    sheet.line("</svg>");
-    sheet.0
+impl Drawing {
+    /// The map as an SVG document; it needs no other file and runs nothing.
+    pub fn svg(&self) -> String {
+        let page = Page::of(self);
+        let mut sheet = Sheet(String::new());
+        page.open(&mut sheet);
+        page.heading(&mut sheet);
+        page.cards.iter().for_each(|c| page.band(&mut sheet, c));
+        page.frame(&mut sheet);
+        page.cards.iter().for_each(|c| page.stretch(&mut sheet, c));
+        page.cards.iter().for_each(|c| page.card(&mut sheet, c));
+        page.foot(&mut sheet);
+        sheet.line("</svg>");
+        sheet.0
+    }
 }
 
 // What is written so far.

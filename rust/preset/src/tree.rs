@@ -159,6 +159,14 @@ impl Tree {
         }
     }
 
+    /// What a section's fields are read from: its one table, or each entry of its list.
+    pub fn tables(&self, section: Section) -> Vec<usize> {
+        match section {
+            Section::Board | Section::Image => self.whole(section).into_iter().collect(),
+            _ => self.list(section),
+        }
+    }
+
     /// A list's entry, or the section's one table.
     pub fn entry(&self, section: Section, place: usize) -> Option<usize> {
         match section {

@@ -3,7 +3,7 @@
 use crate::fields::fields;
 use crate::lines;
 use crate::near::near;
-use crate::notes::tables::{SECTIONS, Table, tables};
+use crate::notes::tables::{Table, tables};
 use crate::refusal::Section;
 use crate::shown::quoted;
 use crate::tree::{Tree, roots};
@@ -33,10 +33,10 @@ pub struct Unknown {
 /// far longer than counting.
 ///
 /// ```
-/// use preset::unknown::unknown;
+/// use preset::unknown;
 ///
 /// let text = b"[board]\nchip = \"d13x\"\n[[componet]]\nname = \"x\"\n[[component]]\nnmae = \"y\"\n";
-/// let mut found = unknown(text);
+/// let mut found = unknown::keys(text);
 /// assert_eq!(found.len(), 2);
 ///
 /// let first = found.next().unwrap();
@@ -46,7 +46,7 @@ pub struct Unknown {
 /// let said = "component 0: unknown key \"nmae\" is passed over (name?)";
 /// assert_eq!(found.next().unwrap().to_string(), said);
 /// ```
-pub fn unknown(text: &[u8]) -> impl ExactSizeIterator<Item = Unknown> {
+pub fn keys(text: &[u8]) -> impl ExactSizeIterator<Item = Unknown> {
     let mut found = Tree::read(text).map_or(Vec::new(), |tree| all(&tree));
     // values are numbered as they are made, line by line
     found.sort_by_key(|(value, _)| *value);
@@ -73,8 +73,7 @@ fn strange(tree: &Tree, table: Table) -> Found {
         let unknown = Unknown {
             line: None,
             entry: table.entry.clone(),
-            // case is no slip
-            near: near(&key.to_lowercase(), known),
+            near: near(&key, known),
             key,
         };
         Some((value, unknown))
@@ -82,29 +81,18 @@ fn strange(tree: &Tree, table: Table) -> Found {
     each.collect()
 }
 
-fn header(section: Section) -> &'static str {
-    match section {
-        Section::Text => "",
-        Section::Board => "[board]",
-        Section::Image => "[image]",
-        Section::Partition => "[[partition]]",
-        Section::Component => "[[component]]",
-        Section::Application => "[apps.KEY]",
-    }
-}
-
 impl Unknown {
     // Where the rules do know it: the headers of other tables.
     fn elsewhere(&self) -> Vec<&'static str> {
         let known = |section: &Section| fields(*section).iter().any(|(key, _)| self.key == *key);
-        let others = SECTIONS.into_iter().filter(known);
-        others.map(header).collect()
+        let others = Section::READ.into_iter().filter(known);
+        others.map(Section::header).collect()
     }
 
     // A key of the root that the rules know is passed over beside another one only.
     fn doubles(&self) -> bool {
         let known = |section: Section| roots(section).contains(&self.key.as_str());
-        self.entry.is_none() && SECTIONS.into_iter().any(known)
+        self.entry.is_none() && Section::READ.into_iter().any(known)
     }
 }
 

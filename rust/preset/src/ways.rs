@@ -100,11 +100,11 @@ impl Preset {
     /// assert!(listing.starts_with(b"ok d13x spi-nor 2 1 1 21\npart boot 0 262144\n"));
     /// ```
     pub fn listing(text: &[u8], name: &[u8]) -> Result<Vec<u8>, Refusal> {
-        use port::listing::{listing, out_min};
+        use port::listing::{list, out_min};
         let mut out = vec![0; out_min(name)];
         let mut written = 0;
         Held::by(|store, tree| {
-            let got = listing(text, name, store, tree, &mut out);
+            let got = list(text, name, store, tree, &mut out);
             written = got.written as usize;
             port::document::Outcome {
                 number: got.number,

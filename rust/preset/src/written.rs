@@ -68,7 +68,7 @@ impl Spot {
         let tree = Tree::read(&[before, key.as_bytes(), b" = 0\n"].concat())?;
         let key = tree.key(value)?;
         let holds = |section: &Section| {
-            let mut tables = tables(&tree, *section).into_iter();
+            let mut tables = tree.tables(*section).into_iter();
             tables.any(|table| tree.field(table, &key) == Some(value))
         };
         let apps = tree.whole(Section::Application);
@@ -83,13 +83,6 @@ impl Spot {
     pub fn field(&self) -> Option<(&'static str, Want)> {
         let own = fields(self.section?).iter();
         own.clone().find(|(key, _)| *key == self.key).copied()
-    }
-}
-
-fn tables(tree: &Tree, section: Section) -> Vec<usize> {
-    match section {
-        Section::Board | Section::Image => tree.whole(section).into_iter().collect(),
-        _ => tree.list(section),
     }
 }
 

@@ -711,21 +711,27 @@ fn where_results_go() {
         .stderr(Stdio::piped());
     let told = command.output().expect("it ends");
     assert_eq!(told.status.code(), Some(2));
-    assert!(told.stderr.starts_with(b"preset: standard output: "));
+    assert!(
+        told.stderr
+            .starts_with(b"preset: standard output cannot be written: no space is left\n")
+    );
 }
 
 // The README's terminal: its commands in a shell print what it shows.
 #[test]
 fn the_readme_is_true() {
-    let readme = include_str!("../../../README.md");
-    let from = readme
-        .lines()
-        .skip_while(|line| !line.starts_with("    $ "));
-    let shown = from.map_while(|line| line.strip_prefix("    "));
-    let shown: Vec<&str> = shown.collect();
+    let readme = include_str!("../../../README.md").lines();
+    let block: Vec<Option<&str>> = readme.map(|line| line.strip_prefix("    ")).collect();
+    let blocks = block.split(|line| line.is_none());
+    let shell = |block: &&[Option<&str>]| block.iter().flatten().any(|line| line.starts_with("$ "));
+    let shown: Vec<&str> = blocks
+        .filter(shell)
+        .flatten()
+        .filter_map(|line| *line)
+        .collect();
     let folder = written("readme", "none", "").with_file_name("presets");
     fs::create_dir_all(&folder).expect("target/ can be written");
-    fs::write(folder.join("stage-d13x.toml"), STAGE).expect("target/ can be written");
+    fs::write(folder.join("example.toml"), EXAMPLE).expect("target/ can be written");
     let runner = std::env::var("CARGO_TARGET_X86_64_UNKNOWN_LINUX_GNU_RUNNER");
     let program = format!(
         "{} {}",
@@ -745,7 +751,7 @@ fn the_readme_is_true() {
         got.push(format!("$ {line}"));
         got.extend(told.lines().map(String::from));
     }
-    assert_eq!(shown.len(), 10);
+    assert_eq!(shown.len(), 12);
     assert_eq!(got, shown);
 }
 

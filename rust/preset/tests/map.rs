@@ -1,7 +1,6 @@
 //! Maps of drawings made by hand: what the terminal shows to the letter, and SVG that holds
 //! together whatever the names and numbers are.
 use preset::map::{Area, Drawing, Land, LandKind, size_words};
-use preset::svg::svg;
 use std::collections::{BTreeMap, BTreeSet};
 
 fn area(name: &str, offset: u64, size: u64) -> Area {
@@ -272,7 +271,7 @@ fn gaps_fill_what_is_left() {
     let gap = |l: &&str| l.contains("(unassigned)");
     let gaps: Vec<_> = map.lines().filter(gap).map(|l| &l[17..35]).collect();
     assert_eq!(gaps, ["0x003000  0x006000", "0x000000  0x002000"]);
-    assert_eq!(svg(&apart).matches("(unassigned): ").count(), 4);
+    assert_eq!(apart.svg().matches("(unassigned): ").count(), 4);
     assert!(!example().terminal().contains("(unassigned)"));
 }
 
@@ -390,7 +389,7 @@ fn number(attributes: &BTreeMap<&str, &str>, name: &str) -> f64 {
 #[test]
 fn every_svg_is_well_formed() {
     for drawing in drawings() {
-        let picture = svg(&drawing);
+        let picture = drawing.svg();
         let tags = tags(&picture).unwrap_or_else(|e| panic!("{e}\n{picture}"));
         let (name, root) = &tags[0];
         assert_eq!(
@@ -419,7 +418,7 @@ fn every_svg_is_well_formed() {
 
 #[test]
 fn svg_names_everything() {
-    let picture = svg(&example());
+    let picture = example().svg();
     let words = [
         "desk",
         "d13x, spi-nor",
@@ -439,7 +438,7 @@ fn svg_names_everything() {
         assert!(picture.contains(&format!(">{words}</text>")), "{words}");
     }
     assert!(!picture.contains("refused here") && !picture.contains("stroke-dasharray"));
-    let picture = svg(&refused());
+    let picture = refused().svg();
     for words in [
         "refused here; overlaps boot by 64 KiB",
         "(unassigned)",
@@ -448,7 +447,7 @@ fn svg_names_everything() {
         assert!(picture.contains(&format!(">{words}</text>")), "{words}");
     }
     assert!(picture.contains(">desk.toml:7: refused 47: partition starts"));
-    assert!(svg(&Drawing::default()).contains(">No partitions.</text>"));
+    assert!(Drawing::default().svg().contains(">No partitions.</text>"));
 }
 
 // The bar's part of an area: the line after its title.
@@ -494,7 +493,7 @@ fn bright(colour: &str) -> f64 {
 // As many as a preset may have, at the edge of the card as in the bar.
 #[test]
 fn no_two_of_thirty_two_areas_look_the_same() {
-    let picture = svg(&thirty_two());
+    let picture = thirty_two().svg();
     let fills: Vec<_> = (0..32)
         .map(|i| bar(&picture, &format!("p{i}"))["fill"])
         .collect();
@@ -510,16 +509,16 @@ fn no_two_of_thirty_two_areas_look_the_same() {
         assert!(contrast >= 3.0, "{colour}: {contrast}");
     }
     // six need no patterns
-    assert!(!svg(&refused()).contains("preset-look"));
+    assert!(!refused().svg().contains("preset-look"));
 }
 
 #[test]
 fn the_bar_is_to_scale() {
-    let picture = svg(&example());
+    let picture = example().svg();
     let (boot, profiles) = (stretch(&picture, "boot"), stretch(&picture, "profiles"));
     assert_eq!(profiles["height"], 4.0 * boot["height"]);
     assert_eq!(boot["y"] + boot["height"], profiles["y"]);
-    let picture = svg(&refused());
+    let picture = refused().svg();
     let (boot, profiles) = (stretch(&picture, "boot"), stretch(&picture, "profiles"));
     assert_eq!(boot["x"] + boot["width"], profiles["x"], "side by side");
     assert!(profiles["y"] < boot["y"] + boot["height"], "at one height");
@@ -529,9 +528,9 @@ fn the_bar_is_to_scale() {
 
 #[test]
 fn nothing_thin_is_hidden() {
-    let picture = svg(&thirty_two());
+    let picture = thirty_two().svg();
     assert!(picture.contains("what is too thin to see is thicker"));
-    assert!(!svg(&example()).contains("thicker"));
+    assert!(!example().svg().contains("thicker"));
     let each = (0..32).map(|i| stretch(&picture, &format!("p{i}")));
     let all: Vec<_> = each.collect();
     for pair in all.windows(2) {
@@ -547,7 +546,7 @@ fn nothing_thin_is_hidden() {
 #[test]
 fn no_label_covers_another() {
     for drawing in drawings() {
-        let picture = svg(&drawing);
+        let picture = drawing.svg();
         let tags = tags(&picture).expect("well-formed");
         let (wide, high) = (number(&tags[0].1, "width"), number(&tags[0].1, "height"));
         let cards = tags.iter().filter(|(_, a)| a.get("rx") == Some(&"5"));

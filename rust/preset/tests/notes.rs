@@ -1,5 +1,5 @@
 //! Slips that the rules accept: each is noted where it stands with what it is held against, and nothing else is.
-use preset::notes::{MOST, More, Note, Sort, notes};
+use preset::notes::{MOST, More, Note, Notes, Sort};
 use preset::{Fault, Preset, explain};
 use replay::generators::mixed;
 use replay::generators::random::{Rng, turns};
@@ -12,7 +12,7 @@ const TOUR: &str = include_str!("../../../presets/tour-d21x.toml");
 
 // Each as `LINE: what is said`.
 fn told(text: impl AsRef<[u8]>) -> Vec<String> {
-    let found = notes(text.as_ref(), b"board");
+    let found = Notes::of(text.as_ref(), b"board");
     assert_eq!((found.count(), found.more), (found.told.len(), Vec::new()));
     found.told.iter().map(shown).collect()
 }
@@ -42,7 +42,7 @@ fn mended_examples_only_share_partitions() {
     for entry in explain::entries() {
         let Some(mended) = entry.mended else { continue };
         if Preset::validate(mended.as_bytes(), b"board").is_ok() {
-            let mut found = notes(mended.as_bytes(), b"board").told.into_iter();
+            let mut found = Notes::of(mended.as_bytes(), b"board").told.into_iter();
             let other = found.find(|note| note.sort != Sort::Shared);
             assert_eq!(other, None, "{}", entry.number);
             met += 1;
@@ -369,7 +369,7 @@ fn applications_that_the_image_names() {
     let key = "is the key of application 0 \"desk\", and not its name \"table\" (line 23)";
     assert_eq!(told(named.replace("Desk", "table")), [said("desk", key)]);
     let none = image("lamp").replace("[apps.desk]", "[image.more]");
-    let found = notes(none.as_bytes(), b"").told;
+    let found = Notes::of(none.as_bytes(), b"").told;
     assert!(
         found
             .iter()
@@ -498,7 +498,7 @@ fn many() {
     let text = "[board]\nname = \"a\"\nchip = \"d13x\"\n".repeat(12)
         + &"x = 1\n[image]\n".repeat(13)
         + &"app = \"a\"\n".repeat(14);
-    let found = notes(text.as_bytes(), b"");
+    let found = Notes::of(text.as_bytes(), b"");
     let of = |sort| found.told.iter().filter(move |note| note.sort == sort);
     assert_eq!(of(Sort::Header).count(), MOST);
     assert_eq!(of(Sort::Key).count(), MOST);
@@ -523,19 +523,19 @@ fn many() {
 // As many lines as a text can have.
 #[test]
 fn long_texts() {
-    let headers = notes("[board]\n".repeat(4_096).as_bytes(), b"");
+    let headers = Notes::of("[board]\n".repeat(4_096).as_bytes(), b"");
     assert_eq!(headers.count(), 4_095);
-    let keys = notes(
+    let keys = Notes::of(
         ("[board]\n".to_owned() + &"name=1\n".repeat(2_000)).as_bytes(),
         b"",
     );
     assert_eq!(keys.count(), 1_999);
-    let both = notes("[board]\nname=1\n".repeat(1_500).as_bytes(), b"");
+    let both = Notes::of("[board]\nname=1\n".repeat(1_500).as_bytes(), b"");
     assert_eq!(both.count(), 1_499);
     let apps: String = (0..1_000)
         .map(|n| format!("[apps.{n}]\n[apps.{n}]\n"))
         .collect();
-    assert_eq!(notes(apps.as_bytes(), b"").count(), 1_000);
+    assert_eq!(Notes::of(apps.as_bytes(), b"").count(), 1_000);
 }
 
 // What a terminal would obey is escaped.
@@ -693,7 +693,7 @@ mod built {
 
     // How many notes there are, where all of them are told.
     fn noted(built: &Built) -> usize {
-        let found = notes(built.text.as_bytes(), b"");
+        let found = Notes::of(built.text.as_bytes(), b"");
         if !found.more.is_empty() {
             return 0;
         }

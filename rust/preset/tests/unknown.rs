@@ -1,7 +1,7 @@
 //! Keys that the rules do not know: each is found where it stands, and nothing else is.
 use preset::Preset;
 use preset::explain;
-use preset::unknown::{Unknown, unknown};
+use preset::unknown::{Unknown, keys};
 use replay::generators::mixed;
 use replay::generators::random::Rng;
 
@@ -14,7 +14,7 @@ const PRESETS: [&str; 3] = [
 // Each as `LINE: what is said`.
 fn told(text: impl AsRef<[u8]>) -> Vec<String> {
     let line = |key: &Unknown| key.line.map_or("?".into(), |line| line.to_string());
-    unknown(text.as_ref())
+    keys(text.as_ref())
         .map(|key| format!("{}: {key}", line(&key)))
         .collect()
 }
@@ -108,7 +108,7 @@ fn every_field_misspelled() {
             }
             let mut spoilt: Vec<String> = lines.iter().map(|l| l.to_string()).collect();
             spoilt[at] = line.replacen(key, &format!("{key}s"), 1);
-            let found: Vec<Unknown> = unknown(spoilt.join("\n").as_bytes()).collect();
+            let found: Vec<Unknown> = keys(spoilt.join("\n").as_bytes()).collect();
             assert_eq!(found.len(), 1, "{line}");
             assert_eq!(found[0].line, Some(at + 1), "{line}");
             assert_eq!(found[0].key, format!("{key}s"));
@@ -275,7 +275,7 @@ fn refused_presets() {
 #[test]
 fn many() {
     let text: String = (0..2_048).map(|n| format!("k{n:x}=1\n")).collect();
-    let mut found = unknown(text.as_bytes());
+    let mut found = keys(text.as_bytes());
     assert_eq!(found.len(), 2_048);
     let keys: Vec<_> = found.by_ref().take(3).map(|u| (u.line, u.key)).collect();
     let want = [0, 1, 2].map(|n: usize| (Some(n + 1), format!("k{n:x}")));
@@ -290,12 +290,12 @@ fn texts_of_every_sort() {
     for _ in 0..300 {
         let text = mixed::text(&mut r);
         let mut last = 0;
-        for key in unknown(&text).take(2) {
+        for key in keys(&text).take(2) {
             let line = key.line.expect("a line");
             assert!(last <= line && !key.to_string().contains(char::is_control));
             let rest = text.split_inclusive(|&b| b == b'\n').take(line - 1);
             let before = rest.collect::<Vec<_>>().concat();
-            let again = unknown(&before).find(|k| (&k.entry, &k.key) == (&key.entry, &key.key));
+            let again = keys(&before).find(|k| (&k.entry, &k.key) == (&key.entry, &key.key));
             assert!(again.is_none_or(|again| again.line < key.line), "{key:?}");
             (last, met) = (line, met + 1);
         }

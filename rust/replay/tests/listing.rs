@@ -1,5 +1,5 @@
 //! The listing against the definitions alone; these tests need no original.
-use port::listing::{Listed, listing, out_min};
+use port::listing::{Listed, list, out_min};
 use port::text::TEXT_MAX;
 use port::value::{STORE_MIN, TREE_MIN};
 use replay::generators::listing as random;
@@ -123,7 +123,7 @@ fn lent_rooms() {
                 rooms[n].truncate(length);
                 let [store, tree, out] = &mut rooms;
                 for text in texts {
-                    let got = listing(text.as_bytes(), name, store, tree, out);
+                    let got = list(text.as_bytes(), name, store, tree, out);
                     let number = 17;
                     let bare = Listed::default();
                     assert_eq!(got, Listed { number, ..bare }, "room {n} of {length}");

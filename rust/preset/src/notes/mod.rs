@@ -11,7 +11,7 @@ mod values;
 use crate::lines::Lines;
 use crate::schema::Preset;
 use crate::tree::Tree;
-use crate::unknown::unknown;
+use crate::unknown;
 use planned::Pair;
 use std::fmt;
 
@@ -73,45 +73,45 @@ pub struct Notes {
     pub more: Vec<More>,
 }
 
-/// The notes of a text, with the name that its board has by default.
-///
-/// ```
-/// use preset::notes::{Sort, notes};
-///
-/// let text = b"[[partition]]\nname = \"boot\"\nsize = 1\n\nname = \"env\"\nsize = 2\n";
-/// let found = notes(text, b"board");
-/// assert_eq!(found.count(), 1);
-///
-/// let lost = &found.told[0];
-/// assert_eq!((lost.line, lost.sort), (Some(5), Sort::Key));
-/// let said = "partition 0 \"env\": key \"name\" is assigned again, and 1 more up to line 6 (size): is a \
-///             header such as [[partition]] lost before line 5? \"env\" (line 5) counts, not \"boot\" (line 2)";
-/// assert_eq!(lost.to_string(), said);
-/// ```
-pub fn notes(text: &[u8], name: &[u8]) -> Notes {
-    let mut out = Notes::default();
-    let Some(tree) = Tree::read(text) else {
-        return out;
-    };
-    let lines = Lines::of(text);
-    out.add(Sort::Unknown, unknown(text), |key| {
-        (key.line, key.to_string())
-    });
-    let again = repeated::found(&tree, &lines);
-    let told = |run: repeated::Run| run.told(&tree, &lines);
-    out.add(Sort::Key, again.keys.into_iter(), told);
-    out.add(Sort::Header, again.headers.into_iter(), told);
-    if let Ok(preset) = Preset::validate(text, name) {
-        let mut pairs = planned::found(text, name, &preset, &tree);
-        pairs.extend(names::found(&preset, &tree));
-        out.pairs(pairs, &lines);
-    }
-    // of one line in the order of sorts
-    out.told.sort_by_key(|note| (note.line, note.sort));
-    out
-}
-
 impl Notes {
+    /// The notes of a text, with the name that its board has by default.
+    ///
+    /// ```
+    /// use preset::notes::{Notes, Sort};
+    ///
+    /// let text = b"[[partition]]\nname = \"boot\"\nsize = 1\n\nname = \"env\"\nsize = 2\n";
+    /// let found = Notes::of(text, b"board");
+    /// assert_eq!(found.count(), 1);
+    ///
+    /// let lost = &found.told[0];
+    /// assert_eq!((lost.line, lost.sort), (Some(5), Sort::Key));
+    /// let said = "partition 0 \"env\": key \"name\" is assigned again, and 1 more up to line 6 (size): is a \
+    ///             header such as [[partition]] lost before line 5? \"env\" (line 5) counts, not \"boot\" (line 2)";
+    /// assert_eq!(lost.to_string(), said);
+    /// ```
+    pub fn of(text: &[u8], name: &[u8]) -> Notes {
+        let mut out = Notes::default();
+        let Some(tree) = Tree::read(text) else {
+            return out;
+        };
+        let lines = Lines::of(text);
+        out.add(Sort::Unknown, unknown::keys(text), |key| {
+            (key.line, key.to_string())
+        });
+        let again = repeated::found(&tree, &lines);
+        let told = |run: repeated::Run| run.told(&tree, &lines);
+        out.add(Sort::Key, again.keys.into_iter(), told);
+        out.add(Sort::Header, again.headers.into_iter(), told);
+        if let Ok(preset) = Preset::validate(text, name) {
+            let mut pairs = planned::found(text, name, &preset, &tree);
+            pairs.extend(names::found(&preset, &tree));
+            out.pairs(pairs, &lines);
+        }
+        // of one line in the order of sorts
+        out.told.sort_by_key(|note| (note.line, note.sort));
+        out
+    }
+
     /// How many there are in all.
     pub fn count(&self) -> usize {
         let more = self.more.iter().map(|more| more.count);

@@ -304,10 +304,7 @@ impl Header {
     // Two brackets in the place of one, where the rules ask for a list.
     fn list(&self) -> Option<String> {
         let key = self.path.first()?;
-        let own = [Section::Partition, Section::Component].map(roots);
-        own.concat()
-            .contains(&key.as_str())
-            .then(|| format!("[[{key}]]"))
+        listed(key).then(|| format!("[[{key}]]"))
     }
 }
 
@@ -325,7 +322,7 @@ impl Repeat {
     // A list of the root that a header in one pair of brackets has replaced.
     fn list(&self, tree: &Tree) -> Option<String> {
         let is = tree.kind(self.new) == Kind::Table && lists(tree, self.old);
-        is.then(|| format!("is [[{}]] meant?", plain(&self.key)))
+        (is && listed(&self.key)).then(|| format!("is [[{}]] meant?", self.key))
     }
 
     fn same(&self, tree: &Tree) -> bool {
@@ -345,6 +342,12 @@ impl Repeat {
             format!("{new} ({new_at}) counts, not {old} ({old_at})")
         }
     }
+}
+
+// Whether the rules ask for a list at this key of the root.
+fn listed(key: &str) -> bool {
+    let own = [Section::Partition, Section::Component].map(roots);
+    own.concat().contains(&key)
 }
 
 fn line(lines: &Lines, value: usize) -> String {

@@ -4,14 +4,6 @@ use crate::fields::fields;
 use crate::refusal::Section;
 use crate::tree::{Kind, Tree, roots};
 
-pub(crate) const SECTIONS: [Section; 5] = [
-    Section::Board,
-    Section::Image,
-    Section::Partition,
-    Section::Component,
-    Section::Application,
-];
-
 /// A table that keys are read from.
 pub(crate) struct Table {
     /// None is the root.
@@ -30,7 +22,7 @@ pub(crate) fn tables(tree: &Tree) -> Vec<Table> {
         value: None,
         section: None,
         entry: None,
-        known: Some(SECTIONS.map(|section| read(tree, section)).concat()),
+        known: Some(Section::READ.map(|section| read(tree, section)).concat()),
     };
     let apps = tree.whole(Section::Application);
     let apps = apps.filter(|apps| tree.kind(*apps) == Kind::Table);
@@ -41,8 +33,8 @@ pub(crate) fn tables(tree: &Tree) -> Vec<Table> {
         known: None,
     });
     let mut out: Vec<Table> = [root].into_iter().chain(apps).collect();
-    for section in SECTIONS {
-        let values = own(tree, section).into_iter().enumerate();
+    for section in Section::READ {
+        let values = tree.tables(section).into_iter().enumerate();
         out.extend(values.map(|(place, value)| table(tree, section, place, value)));
     }
     out
@@ -73,12 +65,4 @@ fn read(tree: &Tree, section: Section) -> &'static [&'static str] {
     let keys = roots(section);
     let there = keys.iter().position(|key| tree.root(key).is_some());
     there.map_or(keys, |at| &keys[..=at])
-}
-
-// What a section's fields are read from, if it is a table.
-fn own(tree: &Tree, section: Section) -> Vec<usize> {
-    match section {
-        Section::Board | Section::Image => tree.whole(section).into_iter().collect(),
-        _ => tree.list(section),
-    }
 }

@@ -718,7 +718,10 @@ pub const ALL: &[Mistake] = &[
         what: "the last header of a list in single brackets",
         edits: &[("0x200000\n\n[[partition]]", "0x200000\n\n[partition]")],
         told: &[
-            "45: partitions: refused 20: wrong kind of value: `partition` is a table, not an array of tables; its headers are [[partition]]",
+            "45: partitions: refused 20: wrong kind of value: `partition` is a table, not an array of tables; \
+             its headers are [[partition]]",
+            "45: note: key \"partition\" is replaced: is [[partition]] meant? a table (line 45) counts, not an \
+             array of 5 tables (line 20)",
         ],
     },
     Mistake {

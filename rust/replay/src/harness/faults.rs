@@ -85,9 +85,7 @@ pub const FUNCTIONS: &[Function] = &[
         called: "preset_listing",
         rooms: 3,
         last: 70,
-        call: |i, [store, tree, out]| {
-            port::listing::listing(i.text, i.name, store, tree, out).into()
-        },
+        call: |i, [store, tree, out]| port::listing::list(i.text, i.name, store, tree, out).into(),
     },
     Function {
         called: "preset_plan of an application",

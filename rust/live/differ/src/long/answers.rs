@@ -36,7 +36,7 @@ fn listings(text: &[u8], name: &[u8], made: usize) -> String {
 fn printed(text: &[u8], name: &[u8]) -> Vec<u8> {
     let (mut store, mut tree) = (vec![0; STORE_MIN], vec![0; TREE_MIN]);
     let mut out = vec![0; out_min(name)];
-    let got = port::listing::listing(text, name, &mut store, &mut tree, &mut out);
+    let got = port::listing::list(text, name, &mut store, &mut tree, &mut out);
     out.truncate(got.written as usize);
     out
 }

@@ -1,4 +1,5 @@
 //! What the command answers: results, what is said beside them, and the exit status.
+use crate::input::said;
 use std::io::{Error, ErrorKind, Write, stderr, stdout};
 use std::mem::take;
 use std::process::ExitCode;
@@ -62,7 +63,10 @@ impl Answer {
         }
         match written {
             Err(why) if why.kind() != ErrorKind::BrokenPipe => {
-                tell(&format!("preset: standard output: {why}\n"));
+                let why = said(&why);
+                tell(&format!(
+                    "preset: standard output cannot be written: {why}\n"
+                ));
                 ExitCode::from(FAILED)
             }
             _ => ExitCode::from(self.status),

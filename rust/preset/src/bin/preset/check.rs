@@ -3,7 +3,7 @@ use crate::answer::{ACCEPTED, Answer, REFUSED};
 use crate::arguments::Manner;
 use crate::called::called;
 use crate::input::{self, Input};
-use preset::notes::{Notes, notes};
+use preset::notes::Notes;
 use preset::{Fault, Preset, Refusal};
 use std::ffi::OsString;
 
@@ -43,7 +43,7 @@ fn checked(input: &Input, manner: Manner, sum: &mut Sum) -> Answer {
             quiet: true,
             deny: false,
         } => Notes::default(),
-        _ => notes(&input.text, input.board.as_bytes()),
+        _ => Notes::of(&input.text, input.board.as_bytes()),
     };
     let denied = manner.deny && noted.count() > 0;
     sum.notes += noted.count();

@@ -3,7 +3,7 @@ use crate::answer::Answer;
 use crate::check::refused;
 use crate::input::{self, Input};
 use preset::map::Drawing;
-use preset::{Fault, Preset, Refusal, Selection, picture, shown, svg};
+use preset::{Fault, Preset, Refusal, Selection, picture, shown};
 use std::ffi::{OsStr, OsString};
 use std::fs::Metadata;
 use std::io::ErrorKind;
@@ -62,9 +62,9 @@ fn drawn(drawing: &Drawing, out: Option<OsString>) -> Answer {
         return Answer::result(drawing.terminal());
     };
     if file == "-" {
-        return Answer::result(svg::svg(drawing));
+        return Answer::result(drawing.svg());
     }
-    match std::fs::write(&file, svg::svg(drawing)) {
+    match std::fs::write(&file, drawing.svg()) {
         Ok(()) => Answer::default(),
         Err(why) => {
             let why = match why.kind() {

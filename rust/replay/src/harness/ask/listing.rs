@@ -3,7 +3,7 @@ use super::records::differing;
 use crate::harness::rooms::holds;
 use crate::harness::rooms::{EXACT, Fenced, LONG, Room, Rooms, SHORT, TEXT_ROOM};
 use crate::model::answer::records::Refusal;
-use port::listing::{Listed, listing, out_min};
+use port::listing::{Listed, list, out_min};
 use port::plans;
 
 /// The lines, or the refusal.
@@ -111,7 +111,7 @@ impl Host {
         out.fill(self.turn);
         let rooms = &mut self.rooms[rooms];
         let got = rooms.reading(self.turn, |store, tree| {
-            listing(text, name, store, tree, out.bytes())
+            list(text, name, store, tree, out.bytes())
         })?;
         if got != listed(want) {
             return Err(format!("{got:?} against {:?}", listed(want)));

@@ -85,7 +85,7 @@ pub const WHOLE: Job<(Preset, ImagePlan)> = Job {
 };
 
 pub const LISTING: Job<(Preset, ImagePlan, String)> = Job {
-    ours: |i, [store, tree, out]| port::listing::listing(i.text, i.name, store, tree, out).number,
+    ours: |i, [store, tree, out]| port::listing::list(i.text, i.name, store, tree, out).number,
     // the count of values is no work of the original's
     theirs: |text, _| listed(text, 0),
     same: |rooms, text, _, out| {
