@@ -100,7 +100,11 @@ fn of_field(
 ) -> Option<String> {
     let mut own = fields::fields(refusal.section).iter();
     let field = *own.find(|(own, _)| *own == key)?;
-    let written = || in_its_line(text, value).unwrap_or_default();
+    let line = lines::making(text, value);
+    let written = || {
+        line.and_then(|at| written::value_in(text, at))
+            .unwrap_or_default()
+    };
     match refusal.number {
         20 if field.1 == Want::List && tree.kind(value) == Kind::Array => Some(format!(
             "`{key}` has an item that is no string; it wants {}",
@@ -110,7 +114,7 @@ fn of_field(
             let (is, wants) = (tree.kind(value).name(), wanted::said(field, &written()));
             Some(format!("`{key}` is {is}; it wants {wants}"))
         }
-        21 => ranged(tree, (key, value), &written()),
+        21 => ranged(tree, (key, value), written()),
         22 => Some(unknown_word(key, &tree.text(value)?)),
         25 => {
             let items = fields::count(tree, value);
@@ -122,21 +126,10 @@ fn of_field(
     }
 }
 
-// A value as it is written in the line that makes it.
-fn in_its_line(text: &[u8], value: usize) -> Option<String> {
-    let line = written::line(text, lines::making(text, value)?)?;
-    written::assigned(&line).map(|(_, value)| value.to_string())
-}
-
 // A number out of range, as the file has it, and its limits in the same base.
-fn ranged(tree: &Tree, (key, value): (&str, usize), written: &str) -> Option<String> {
+fn ranged(tree: &Tree, (key, value): (&str, usize), written: String) -> Option<String> {
     let number = tree.integer(value)?;
-    let own = i128::from(port::value::int(written.as_bytes()).value);
-    let is = if own == number {
-        plain(written)
-    } else {
-        number.to_string()
-    };
+    let is = written::number(Some(written), number);
     let most = if is.contains(['x', 'X']) {
         format!("{:#X}", u32::MAX)
     } else {

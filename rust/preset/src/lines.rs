@@ -1,5 +1,6 @@
 //! Lines of a text: which one made a value, and what stands in it.
 use crate::tree::Tree;
+use crate::written;
 use port::text::{SCRATCH_MIN, lines, next};
 use std::cell::RefCell;
 use std::collections::BTreeMap;
@@ -66,6 +67,11 @@ impl<'a> Lines<'a> {
             .checked_sub(1)
             .filter(|_| value < self.before(all.len()))?;
         self.starts.get(own).map(|(line, _)| *line)
+    }
+
+    /// What stands after the `=` in the line that makes a value.
+    pub fn value_of(&self, value: usize) -> Option<String> {
+        written::value_in(self.text, self.making(value)?)
     }
 
     /// How many values the text makes before joined line number `number`; all, where there is none of that number.

@@ -2,6 +2,7 @@
 use crate::fields::{Want, fields};
 use crate::lines;
 use crate::refusal::Section;
+use crate::shown::plain;
 use crate::tree::Tree;
 use port::text;
 use port::value::{self, STORE_MIN, TREE_MIN};
@@ -43,6 +44,19 @@ pub(crate) fn assigned(line: &str) -> Option<(&str, &str)> {
     let mut parts = line.match_indices('=').take(PLACES);
     let (at, _) = parts.find(|(at, _)| !in_string(&line[..*at]))?;
     Some((trimmed(&line[..at]), trimmed(&line[at + 1..])))
+}
+
+/// The value of a line, as it stands there.
+pub(crate) fn value_in(text: &[u8], at: usize) -> Option<String> {
+    let own = line(text, at)?;
+    assigned(&own).map(|(_, value)| value.to_string())
+}
+
+/// A number as its line has it; in decimal where that is not the line's whole value.
+pub(crate) fn number(value: Option<String>, number: i128) -> String {
+    let own = |text: &String| i128::from(value::int(text.as_bytes()).value) == number;
+    let written = value.filter(own).map(|text| plain(&text));
+    written.unwrap_or_else(|| number.to_string())
 }
 
 /// Whether a text is a value, taken as it stands.

@@ -73,7 +73,7 @@ fn keys_assigned_again() {
                 features = [\n \"a\",\n]\nram = 1\nfeatures = \"a\"\n";
     let want = [
         "5: board: key \"chip\" is assigned again: \"d21x\" (line 5) counts, not \"d13x\" (line 2)",
-        "9: image: key \"media_dev_id\" is assigned again: -1 (line 9) counts, not 0xA (line 7)",
+        "9: image: key \"media_dev_id\" is assigned again: -1 (line 9) counts, not 10 (line 7)",
         "13: component 0: key \"updater\" is assigned again: false (line 13) counts, not true (line 11)",
         "18: component 0: key \"features\" is assigned again: \"a\" (line 18) counts, not [\"a\"] (line 14)",
     ];
@@ -100,9 +100,9 @@ fn the_same_value_again() {
         "[apps.k]\n{list}load_address = 16\nload_address = 0x1_0\nfilename = \"x\"\n{list}"
     );
     let want = [
-        "4: application 0 \"k\": key \"load_address\" is assigned again: 0x10 (line 4) counts, \
+        "4: application 0 \"k\": key \"load_address\" is assigned again: 0x1_0 (line 4) counts, \
          the same as before (line 3)",
-        "6: application 0 \"k\": key \"features\" is assigned again: [\"a\", 0x1, [true]] (line 6) counts, \
+        "6: application 0 \"k\": key \"features\" is assigned again: [\"a\", 1, [true]] (line 6) counts, \
          the same as before (line 2)",
     ];
     assert_eq!(told(text), want);
@@ -147,11 +147,11 @@ fn lost_headers() {
 fn doubled_lines() {
     let text = "[[partition]]\noffset = 1\nsize = 2\noffset = 3\nsize = 4\n";
     let want = "4: partition 0: key \"offset\" is assigned again, and 1 more up to line 5 (size): are \
-                lines there twice, or is a header such as [[partition]] lost before line 4? 0x3 (line 4) counts, not 0x1 (line 2)";
+                lines there twice, or is a header such as [[partition]] lost before line 4? 3 (line 4) counts, not 1 (line 2)";
     assert_eq!(told(text), [want]);
     let text = text.replace("3\nsize = 4", "1\nsize = 2");
     let want = "4: partition 0: key \"offset\" is assigned again, and 1 more up to line 5 (size): are \
-                lines there twice? 0x1 (line 4) counts, the same as before (line 2)";
+                lines there twice? 1 (line 4) counts, the same as before (line 2)";
     assert_eq!(told(&text), [want]);
     let text =
         "[[partition]]\noffset = 1\noffset = 2\nsize = 3\nsize = 4\nname = \"a\"\nname = \"b\"\n";
@@ -211,18 +211,18 @@ fn values_and_tables_that_are_replaced() {
     let text =
         "board = 3\ncomponent = []\n[board]\n[apps]\nk = 1\n[apps.k]\nname = \"a\"\n[component]\n";
     let want = [
-        "3: key \"board\" is replaced: a table (line 3) counts, not 0x3 (line 1)",
-        "6: apps: key \"k\" is replaced: a table (line 6) counts, not 0x1 (line 5)",
+        "3: key \"board\" is replaced: a table (line 3) counts, not 3 (line 1)",
+        "6: apps: key \"k\" is replaced: a table (line 6) counts, not 1 (line 5)",
         "8: key \"component\" is replaced: a table (line 8) counts, not [] (line 2)",
     ];
     assert_eq!(told(text), want);
     let text = "board.name = \"x\"\nboard = [1]\nboard.chip = \"d13x\"\n[apps.k]\n[apps.k]\n\
                 [apps]\nk = 1\n[apps.k]\n[apps.k.name]\n";
     let want = [
-        "2: key \"board\" is replaced: [0x1] (line 2) replaces a table (line 1), and line 3 counts",
-        "3: key \"board\" is replaced: a table (line 3) counts, not [0x1] (line 2)",
-        "7: apps: key \"k\" is replaced: 0x1 (line 7) replaces a table (line 4), and line 8 counts",
-        "8: apps: key \"k\" is replaced: a table (line 8) counts, not 0x1 (line 7)",
+        "2: key \"board\" is replaced: [1] (line 2) replaces a table (line 1), and line 3 counts",
+        "3: key \"board\" is replaced: a table (line 3) counts, not [1] (line 2)",
+        "7: apps: key \"k\" is replaced: 1 (line 7) replaces a table (line 4), and line 8 counts",
+        "8: apps: key \"k\" is replaced: a table (line 8) counts, not 1 (line 7)",
     ];
     assert_eq!(told(text), want);
     let text = "[apps.k]\nname = \"a\"\n[apps.k.name]\nx = 1\n";
@@ -605,11 +605,13 @@ mod built {
 
         fn assign(&mut self, r: &mut Rng, table: &str, keys: &[&'static str]) {
             let (n, key) = (r.below(4), keys[r.below(keys.len())]);
-            let (written, value) = match r.below(2) {
-                0 => (format!("{n}"), format!("{n:#X}")),
-                _ => (format!("\"{n}\""), format!("\"{n}\"")),
+            // a number is shown as it is written
+            let value = match (r.below(2), n % 2) {
+                (0, 0) => format!("{n}"),
+                (0, _) => format!("0x0{n}"),
+                _ => format!("\"{n}\""),
             };
-            let line = self.put(&format!("{key} = {written}"));
+            let line = self.put(&format!("{key} = {value}"));
             let own = self.assigned.entry(table.into()).or_default();
             own.push(Assigned { line, key, value });
         }

@@ -271,49 +271,62 @@ fn the_kit_is_asked_where_it_is_due() {
     assert_eq!(own.trim_end(), word(&tree.join("own")));
 }
 
-#[test]
-fn the_check_of_the_prebuilt_archive_sees_what_differs() {
-    let tree = copy("compared");
+// What `scripts/prebuilt --check` says of a copy on a machine of that name.
+fn checked(tree: &Path, machine: &str) -> (Option<i32>, String) {
     script(&tree.join("uname"), "#!/bin/sh\necho ${MACHINE:-x86_64}\n");
-    let path = format!("{}:{}", word(&tree), *WITH_KIT);
-    let check = |machine: &str| {
-        let mut command = run(&tree, "./scripts/prebuilt", &["--check"]);
-        let said = said(command.env("PATH", &path).env("MACHINE", machine));
-        (said.status, said.out)
-    };
-    let file = |name: &str| tree.join("prebuilt").join(name);
-    let put =
-        |name: &str, bytes: &[u8]| fs::write(file(name), bytes).expect("target/ can be written");
-    let same = "prebuilt/libhost.a is the archive that was proved\n";
-    assert_eq!(check(""), (Some(0), same.into()));
+    let path = format!("{}:{}", word(tree), *WITH_KIT);
+    let mut command = run(tree, "./scripts/prebuilt", &["--check"]);
+    let said = said(command.env("PATH", &path).env("MACHINE", machine));
+    (said.status, said.out)
+}
 
-    // another archive, with a SHA-256 of its own: only bytes that were made alike can be held together
-    let archive = fs::read(file("libhost.a")).expect("an archive");
-    put("libhost.a", &[archive.as_slice(), b"more"].concat());
+fn put(tree: &Path, name: &str, bytes: &[u8]) {
+    fs::write(tree.join(name), bytes).expect("target/ can be written");
+}
+
+// Another archive with its own SHA-256: only bytes that were made alike can be held together.
+#[test]
+fn bytes_of_one_machine_and_one_kit_are_compared() {
+    let tree = copy("compared");
+    let same = "prebuilt/libhost.a is the archive that was proved\n";
+    assert_eq!(checked(&tree, ""), (Some(0), same.into()));
+    let archive = fs::read(tree.join("prebuilt/libhost.a")).expect("an archive");
+    put(
+        &tree,
+        "prebuilt/libhost.a",
+        &[archive.as_slice(), b"more"].concat(),
+    );
     let sums = "cd prebuilt && sha256sum libhost.a >SHA256SUMS";
-    done(run(&tree, "sh", &["-c", sums]).env("PATH", &path));
-    let (status, out) = check("");
+    done(&mut run(&tree, "sh", &["-c", sums]));
+    let (status, out) = checked(&tree, "");
     assert!(
         status == Some(1) && out.contains("not the archive"),
         "{out}"
     );
-    let (status, out) = check("aarch64");
+    let (status, out) = checked(&tree, "aarch64");
     assert!(
         status == Some(0) && out.contains("was not compared"),
         "{out}"
     );
-    let made = fs::read_to_string(file("MADE")).expect("what it was made from");
-    put("MADE", made.replace("kit of", "older kit of").as_bytes());
+    let made = fs::read_to_string(tree.join("prebuilt/MADE")).expect("what it was made from");
+    put(
+        &tree,
+        "prebuilt/MADE",
+        made.replace("kit of", "older kit of").as_bytes(),
+    );
     let kits = "it was made by the kit older kit of the tests, and this is kit of the tests";
-    let (status, out) = check("");
+    let (status, out) = checked(&tree, "");
     assert!(status == Some(0) && out.contains(kits), "{out}");
+}
 
-    // its own sum and its sources have to fit on every machine
-    put("libhost.a", b"");
-    let (status, out) = check("aarch64");
+#[test]
+fn sum_and_sources_are_held_on_every_machine() {
+    let tree = copy("held");
+    put(&tree, "prebuilt/libhost.a", b"");
+    let (status, out) = checked(&tree, "aarch64");
     assert!(status == Some(1) && out.contains("SHA-256"), "{out}");
-    fs::write(tree.join("crates/host/src/new.rt"), "").expect("target/ can be written");
-    let (status, out) = check("aarch64");
+    put(&tree, "crates/host/src/new.rt", b"");
+    let (status, out) = checked(&tree, "aarch64");
     assert!(
         status == Some(1) && out.contains("digest of the sources"),
         "{out}"

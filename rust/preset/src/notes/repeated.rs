@@ -331,7 +331,7 @@ impl Repeat {
 
     // Both values with their lines, and which one counts.
     fn values(&self, tree: &Tree, lines: &Lines) -> String {
-        let [new, old] = [self.new, self.old].map(|value| said(tree, value));
+        let [new, old] = [self.new, self.old].map(|value| said(tree, lines, value));
         let [new_at, old_at] = [self.new, self.old].map(|value| line(lines, value));
         if self.newest != self.new {
             let last = line(lines, self.newest);

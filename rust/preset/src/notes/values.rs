@@ -1,6 +1,8 @@
 //! Values of a tree in messages.
+use crate::lines::Lines;
 use crate::shown::{plain, quoted};
 use crate::tree::{Kind, Tree};
+use crate::written::number;
 
 /// Whether a value is an array of tables alone, as headers make them.
 pub(crate) fn lists(tree: &Tree, value: usize) -> bool {
@@ -21,15 +23,18 @@ pub(crate) fn same(tree: &Tree, a: usize, b: usize) -> bool {
     }
 }
 
-/// A value in short.
-pub(crate) fn said(tree: &Tree, value: usize) -> String {
-    let integer = |n: i128| match u64::try_from(n) {
-        Ok(n) => format!("{n:#X}"),
-        Err(_) => n.to_string(),
-    };
+/// A value in short; a number as its line has it.
+pub(crate) fn said(tree: &Tree, lines: &Lines, value: usize) -> String {
+    match tree.integer(value) {
+        Some(own) => number(lines.value_of(value), own),
+        None => short(tree, value),
+    }
+}
+
+fn short(tree: &Tree, value: usize) -> String {
     match tree.kind(value) {
         Kind::Text => quoted(&tree.text(value).unwrap_or_default()),
-        Kind::Integer => tree.integer(value).map_or(String::new(), integer),
+        Kind::Integer => tree.integer(value).map_or(String::new(), |n| n.to_string()),
         Kind::Boolean => tree.boolean(value).unwrap_or_default().to_string(),
         Kind::Table => Kind::Table.name().into(),
         Kind::Array => array(tree, tree.items(value)),
@@ -42,7 +47,7 @@ fn array(tree: &Tree, items: Vec<usize>) -> String {
         1 if items.iter().all(tables) => "an array of 1 table".into(),
         many @ 2.. if items.iter().all(tables) => format!("an array of {many} tables"),
         _ => {
-            let items: Vec<String> = items.into_iter().map(|item| said(tree, item)).collect();
+            let items: Vec<String> = items.into_iter().map(|item| short(tree, item)).collect();
             plain(&format!("[{}]", items.join(", ")))
         }
     }

@@ -130,7 +130,7 @@ pub const ALL: &[Mistake] = &[
         edits: &[("size   = 0x002000", "size   = 0x002000\nsize   = 0x002000")],
         told: &[
             "ok: d13x, spi-nor, 6 partitions, 4 components, 7 applications",
-            "29: note: partition 1 \"env\": key \"size\" is assigned again: 0x2000 (line 29) counts, the same \
+            "29: note: partition 1 \"env\": key \"size\" is assigned again: 0x002000 (line 29) counts, the same \
              as before (line 28)",
         ],
     },
@@ -202,10 +202,10 @@ pub const ALL: &[Mistake] = &[
         )],
         told: &[
             "ok: d13x, spi-nor, 6 partitions, 4 components, 7 applications",
-            "78: note: component 1 \"loader\": key \"ram\" is assigned again: 0x40200000 (line 78) replaces \
-             0x40100000 (line 77), and line 79 counts",
-            "79: note: component 1 \"loader\": key \"ram\" is assigned again: 0x40300000 (line 79) counts, not \
-             0x40200000 (line 78)",
+            "78: note: component 1 \"loader\": key \"ram\" is assigned again: 0x4020_0000 (line 78) replaces \
+             0x4010_0000 (line 77), and line 79 counts",
+            "79: note: component 1 \"loader\": key \"ram\" is assigned again: 0x4030_0000 (line 79) counts, not \
+             0x4020_0000 (line 78)",
         ],
     },
     Mistake {
