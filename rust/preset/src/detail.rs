@@ -314,8 +314,13 @@ fn unknown_partition(preset: &Preset, name: &str, taken: &str) -> String {
     // an application's reference is not cut at a semicolon, though one may think so
     let cut = PartitionSpec::name_of(name);
     let near = near(cut, &there);
+    let are = if there.len() == 1 { "is" } else { "are" };
     let there = plain(&there.join(", "));
-    format!("{}{}{taken}; there are {there}", quoted(name), meant(near))
+    format!(
+        "{}{}{taken}; there {are} {there}",
+        quoted(name),
+        meant(near)
+    )
 }
 
 // The default's name stands nowhere in the text, so it is told to be one.

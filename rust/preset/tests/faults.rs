@@ -323,11 +323,11 @@ fn a_default_is_told_to_be_one() {
         let fault = fault((preset.to_owned() + rest).as_bytes());
         (fault.refusal.number, fault.line, fault.detail.expect("one"))
     };
-    let taken = "\"app\", which is taken where no `partition` is written; there are a".to_string();
+    let taken = "\"app\", which is taken where no `partition` is written; there is a".to_string();
     assert_eq!(detail("partiton = \"a\"\n"), (64, Some(9), taken));
     assert_eq!(
         detail("partition = \"app\"\n"),
-        (64, Some(10), "\"app\"; there are a".into())
+        (64, Some(10), "\"app\"; there is a".into())
     );
 }
 

@@ -394,7 +394,7 @@ capital letters count.
 
 Told:
 
-    preset.toml:8: component 0 \"loader\": refused 58: unknown partition \"bot\" (\"boot\"?); there are boot
+    preset.toml:8: component 0 \"loader\": refused 58: unknown partition \"bot\" (\"boot\"?); there is boot
 
 In numbers: `refused 58 4 0` (the first component)";
     assert_eq!(lines.join("\n"), expected);
