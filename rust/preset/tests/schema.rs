@@ -43,7 +43,7 @@ fn passes(text: &[u8]) -> bool {
     check::passes(&schema, &schema, &tree)
 }
 
-// The presets of the repository, and the mended examples of docs/REFUSALS.md that are whole presets.
+// The presets of the repository, and the mended examples of docs/REFUSALS.md that have records.
 fn sound() -> Vec<String> {
     let presets = std::fs::read_dir(root().join("presets")).expect("presets");
     let presets = presets.map(|file| file.expect("a file").path());
@@ -52,14 +52,14 @@ fn sound() -> Vec<String> {
     let mended = explain::entries().into_iter();
     let mended = mended.filter_map(|entry| entry.mended.map(String::from));
     let all = presets.chain(mended);
-    all.filter(|text| Preset::validate(text.as_bytes(), b"").is_ok())
+    all.filter(|text| Preset::read(text.as_bytes(), b"").is_ok())
         .collect()
 }
 
 #[test]
 fn presets_and_mended_examples_pass() {
     let sound = sound();
-    assert!(sound.len() > 30, "{}", sound.len());
+    assert!(sound.len() > 50, "{}", sound.len());
     for text in sound {
         assert!(passes(text.as_bytes()), "{text}");
     }
