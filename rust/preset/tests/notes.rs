@@ -461,6 +461,10 @@ fn names_that_are_alike() {
         told(with(&(app("k", "\u{c9}t") + &app("l", "\u{e9}T")))),
         [want]
     );
+    // an application's name may be no component's (81)
+    let want = "25: application 1 \"k\": its name \"First\" differs only in case from the name of \
+                component 0 \"first\" (line 16)";
+    assert_eq!(told(with(&app("k", "First"))), [want]);
     // other kinds have names of their own
     assert_eq!(told(with(&app("Boot", "Loader"))), nothing());
     assert_eq!(told(with(&app("x", "\u{ad}x"))), nothing());

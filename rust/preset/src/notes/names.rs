@@ -1,5 +1,5 @@
-//! Names that are easily taken for one another: among their own kind they differ only in case or in white space at
-//! their ends, or have such space.
+//! Names that are easily taken for one another: among their own kind, or as a component's and an application's, they
+//! differ only in case or in white space at their ends, or have such space.
 use super::Sort;
 use super::planned::{Entries, Pair};
 use crate::refusal::Section;
@@ -37,10 +37,12 @@ pub(crate) fn found(preset: &Preset, tree: &Tree) -> Vec<Pair> {
     let components = components.filter_map(|(n, c)| name(Section::Component, "name", n, &c.name));
     let keys = apps().filter_map(|(n, a)| name(Section::Application, "key", n, &a.package));
     let names = apps().filter_map(|(n, a)| name(Section::Application, "name", n, &a.name));
+    let (components, names): (Vec<Name>, Vec<Name>) = (components.collect(), names.collect());
     let mut out = odd(partitions.collect(), false);
-    out.extend(odd(components.collect(), false));
+    out.extend(across(&components, &names));
+    out.extend(odd(components, false));
     out.extend(odd(keys.collect(), false));
-    out.extend(odd(names.collect(), true));
+    out.extend(odd(names, true));
     out.extend(booted(preset, tree, &entries));
     out
 }
@@ -55,28 +57,53 @@ fn odd(mut names: Vec<Name>, keyed: bool) -> Vec<Pair> {
         if keyed && own.called && known {
             return None;
         }
-        let (entry, what) = (&own.entry, own.what);
-        let text = if own.called {
-            String::new()
+        match alike {
+            Some((other, how)) => Some(own.beside(other, how)),
+            None if own.text.trim() != own.text => {
+                Some(own.noted("has white space at its ends".into(), None))
+            }
+            None => None,
+        }
+    });
+    each.collect()
+}
+
+// Applications and components share their names in an image (81).
+fn across(components: &[Name], apps: &[Name]) -> Vec<Pair> {
+    let each = apps.iter().filter_map(|app| {
+        let mut all = components.iter();
+        let (other, how) = all.find_map(|c| Some((c, differs(&app.text, &c.text)?)))?;
+        let (later, earlier) = if app.at > other.at {
+            (app, other)
         } else {
-            format!(" {}", quoted(&own.text))
+            (other, app)
         };
-        let said = match alike {
-            Some((other, how)) => format!("differs only in {how} from {}", other.said()),
-            None if own.text.trim() != own.text => "has white space at its ends".into(),
-            None => return None,
-        };
-        Some(Pair {
-            sort: Sort::Name,
-            at: own.at,
-            said: format!("{entry}: its {what}{text} {said}"),
-            other: alike.map(|(other, _)| other.at),
-        })
+        Some(later.beside(earlier, how))
     });
     each.collect()
 }
 
 impl Name {
+    fn noted(&self, said: String, other: Option<usize>) -> Pair {
+        let (entry, what) = (&self.entry, self.what);
+        let text = if self.called {
+            String::new()
+        } else {
+            format!(" {}", quoted(&self.text))
+        };
+        Pair {
+            sort: Sort::Name,
+            at: self.at,
+            said: format!("{entry}: its {what}{text} {said}"),
+            other,
+        }
+    }
+
+    fn beside(&self, other: &Name, how: &str) -> Pair {
+        let said = format!("differs only in {how} from {}", other.said());
+        self.noted(said, Some(other.at))
+    }
+
     fn said(&self) -> String {
         let (what, entry) = (self.what, &self.entry);
         if self.called {

@@ -859,4 +859,13 @@ pub const ALL: &[Mistake] = &[
              68)",
         ],
     },
+    Mistake {
+        what: "an application has a component's name in capitals",
+        edits: &[("name      = \"strobes\"", "name      = \"PSRAM\"")],
+        told: &[
+            "ok: d13x, spi-nor, 6 partitions, 4 components, 7 applications",
+            "127: note: application 5 \"profile-strobe\": its name \"PSRAM\" differs only in case from the name \
+             of component 0 \"psram\" (line 53)",
+        ],
+    },
 ];
