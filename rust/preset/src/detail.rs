@@ -3,7 +3,7 @@ use crate::clash;
 use crate::entry::{called, of_whole};
 use crate::fields::{self, FEATURES_MAX, Want};
 use crate::lines;
-use crate::near::near;
+use crate::near::likeliest;
 use crate::refusal::{Refusal, Section};
 use crate::schema::{EXT_ALIGNMENT, NAME_MAX, PartitionSpec, Preset};
 use crate::shown::{plain, quoted};
@@ -18,14 +18,31 @@ pub(crate) fn of(text: &[u8], tree: &Tree, refusal: &Refusal, app: Option<&str>)
     }
     // What is refused by a rule has records; the board's name is in none of the details.
     let preset = Preset::read(text, b"").ok()?;
-    let place = refusal.place as usize;
+    let shown = |n: u32| at_fault(text, tree, refusal, n);
     match refusal.section {
         _ if refusal.number == 40 => of_none(text),
         Section::Text => None,
         Section::Board | Section::Image => of_board(&preset, refusal.number),
-        Section::Partition => of_partition(&preset, tree, refusal.number, place),
-        Section::Component => of_component(&preset, tree, refusal, place),
-        Section::Application => of_application(&preset, tree, refusal, app),
+        Section::Partition => of_partition(&preset, tree, refusal, &shown),
+        Section::Component => of_component(&preset, tree, refusal, &shown),
+        Section::Application if refusal.number == 80 => app.map(|key| undeclared(&preset, key)),
+        Section::Application => of_application(&preset, tree, refusal, &shown),
+    }
+}
+
+// How the number at fault is shown.
+type Number<'a> = &'a dyn Fn(u32) -> String;
+
+// The number of the field at fault as the file has it, and in hexadecimal too where it is decimal there.
+fn at_fault(text: &[u8], tree: &Tree, refusal: &Refusal, n: u32) -> String {
+    let entry = tree.entry(refusal.section, refusal.place as usize);
+    let value = entry.and_then(|entry| tree.field(entry, fields::meant(tree, refusal, entry)?));
+    let line = value.and_then(|value| lines::making(text, value));
+    let own = written::number(line.and_then(|at| written::value_in(text, at)), n.into());
+    if own.contains(['x', 'X']) {
+        own
+    } else {
+        format!("{own} ({n:#X})")
     }
 }
 
@@ -140,7 +157,7 @@ fn ranged(tree: &Tree, (key, value): (&str, usize), written: String) -> Option<S
 
 fn unknown_word(key: &str, word: &str) -> String {
     let choices = fields::words(key);
-    let (near, all) = (near(word, &choices), choices.join(", "));
+    let (near, all) = (likeliest(word, &choices), choices.join(", "));
     format!(
         "`{key}` is {}{}; there are {all}",
         quoted(word),
@@ -183,18 +200,18 @@ fn long(name: &str) -> String {
     )
 }
 
-fn of_partition(preset: &Preset, tree: &Tree, number: u32, place: usize) -> Option<String> {
-    let partitions = &preset.partitions;
+fn of_partition(preset: &Preset, tree: &Tree, refusal: &Refusal, shown: Number) -> Option<String> {
+    let (partitions, place) = (&preset.partitions, refusal.place as usize);
     let own = partitions.get(place)?;
     let (offset, size) = (own.offset, own.size);
     let chip = preset.board.chip;
     let (media, block) = (chip.default_media().name(), chip.erase_size());
     let off = |what: &str, n: u32| {
-        let fit = fitting(n, block);
-        format!("`{what}` is {n:#X}; the erase block of {media} is {block:#X}, so {fit} fits")
+        let (is, fit) = (shown(n), fitting(n, block));
+        format!("`{what}` is {is}; the erase block of {media} is {block:#X}, so {fit} fits")
     };
-    match number {
-        41 => Some(first_at(tree, partitions, offset)),
+    match refusal.number {
+        41 => Some(first_at(tree, partitions, &shown(offset))),
         43 => {
             let earlier = partitions.iter().position(|p| p.name == own.name)?;
             Some(twin(tree, Section::Partition, &own.name, earlier))
@@ -220,11 +237,11 @@ fn of_partition(preset: &Preset, tree: &Tree, number: u32, place: usize) -> Opti
 }
 
 // Where the first partition starts, and which one starts where it should.
-fn first_at(tree: &Tree, partitions: &[PartitionSpec], offset: u32) -> String {
+fn first_at(tree: &Tree, partitions: &[PartitionSpec], offset: &str) -> String {
     let other = partitions.iter().position(|p| p.offset == 0);
     let other = other.map(|place| called(tree, Section::Partition, place));
     let other = other.map_or(String::new(), |other| format!("; {other} starts at 0"));
-    format!("`offset` is {offset:#X}{other}")
+    format!("`offset` is {offset}{other}")
 }
 
 // The multiples of a step on both sides of a number, but 0 and those out of range.
@@ -249,12 +266,12 @@ fn twin(tree: &Tree, section: Section, name: &str, earlier: usize) -> String {
     format!("{}, the name of {place}", quoted(name))
 }
 
-fn of_component(preset: &Preset, tree: &Tree, refusal: &Refusal, place: usize) -> Option<String> {
+fn of_component(preset: &Preset, tree: &Tree, refusal: &Refusal, shown: Number) -> Option<String> {
     let components = &preset.components;
     if refusal.number == 70 {
         return Some(quoted(&preset.partitions.first()?.name));
     }
-    let own = components.get(place)?;
+    let own = components.get(refusal.place as usize)?;
     match refusal.number {
         51 => {
             let earlier = components.iter().position(|c| c.name == own.name)?;
@@ -268,7 +285,7 @@ fn of_component(preset: &Preset, tree: &Tree, refusal: &Refusal, place: usize) -
         59 => {
             let reserve = u32::try_from(own.ext_reserve).ok()?;
             let fit = fitting(reserve, u32::try_from(EXT_ALIGNMENT).ok()?);
-            Some(format!("`ext_reserve` is {reserve:#X}; {fit} fits"))
+            Some(format!("`ext_reserve` is {}; {fit} fits", shown(reserve)))
         }
         60 => clash::of(preset, refusal).map(|clash| clash.said(tree)),
         _ => None,
@@ -279,11 +296,8 @@ fn of_application(
     preset: &Preset,
     tree: &Tree,
     refusal: &Refusal,
-    app: Option<&str>,
+    shown: Number,
 ) -> Option<String> {
-    if refusal.number == 80 {
-        return app.map(|key| undeclared(preset, key));
-    }
     let own = preset.apps.values().nth(refusal.place as usize)?;
     match refusal.number {
         60 => clash::of(preset, refusal).map(|clash| clash.said(tree)),
@@ -295,10 +309,8 @@ fn of_application(
         }
         66 => {
             let at = own.load_address?;
-            Some(format!(
-                "`load_address` is {at:#X}; {} fits",
-                fitting(at, 4)
-            ))
+            let (is, fit) = (shown(at), fitting(at, 4));
+            Some(format!("`load_address` is {is}; {fit} fits"))
         }
         81 => {
             let component = preset.components.iter().position(|c| c.name == own.name)?;
@@ -313,7 +325,7 @@ fn unknown_partition(preset: &Preset, name: &str, taken: &str) -> String {
     let there: Vec<&str> = preset.partitions.iter().map(|p| p.name.as_str()).collect();
     // an application's reference is not cut at a semicolon, though one may think so
     let cut = PartitionSpec::name_of(name);
-    let near = near(cut, &there);
+    let near = likeliest(cut, &there);
     let are = if there.len() == 1 { "is" } else { "are" };
     let there = plain(&there.join(", "));
     format!(
@@ -339,7 +351,7 @@ fn undeclared(preset: &Preset, key: &str) -> String {
     let declared: Vec<&str> = preset.apps.keys().map(String::as_str).collect();
     let named = preset.apps.values().find(|app| app.name == key);
     let named = named.map(|app| app.package.as_str());
-    let near = meant(named.or_else(|| near(key, &declared)));
+    let near = meant(named.or_else(|| likeliest(key, &declared)));
     let declared = if declared.is_empty() {
         "none".into()
     } else {

@@ -3,6 +3,8 @@
 // Words with more slips between them than these are two words.
 const SLIPS: usize = 2;
 
+// Shorter parts are of many words.
+const PART: usize = 3;
 // In longer words slips are not counted: that takes the product of their lengths.
 const LONGEST: usize = 100;
 
@@ -25,6 +27,21 @@ pub(crate) fn near<'a>(word: &str, known: &[&'a str]) -> Option<&'a str> {
     });
     let best = each.min_by_key(|(slips, _)| *slips)?;
     Some(best.1)
+}
+
+/// The same; else the one known word of which the word is a part, or that is a part of it.
+pub(crate) fn likeliest<'a>(word: &str, known: &[&'a str]) -> Option<&'a str> {
+    let own: String = alike(word).into_iter().collect();
+    let part = |other: &str| {
+        let other: String = alike(other).into_iter().collect();
+        let long = own.len().min(other.len()) >= PART;
+        long && (other.contains(&own) || own.contains(&other))
+    };
+    near(word, known).or_else(|| {
+        let mut parts = known.iter().filter(|other| part(other));
+        let only = parts.next()?;
+        parts.next().is_none().then_some(*only)
+    })
 }
 
 // The letters that make a word, whatever their size.
@@ -56,7 +73,7 @@ fn slips(a: &[char], b: &[char]) -> usize {
 
 #[cfg(test)]
 mod tests {
-    use super::{near, slips};
+    use super::{likeliest, near, slips};
 
     #[test]
     fn slips_are_counted() {
@@ -102,6 +119,16 @@ mod tests {
         assert_eq!(near("É", &["é"]), Some("é"));
         assert_eq!(near("--", &["-"]), None);
         assert_eq!(near("", &[""]), None);
+    }
+
+    #[test]
+    fn a_part_leads_to_the_only_word_with_it() {
+        assert_eq!(likeliest("nor", &["spi-nor", "spi-nand"]), Some("spi-nor"));
+        assert_eq!(likeliest("boot mtd", &["env", "boot"]), Some("boot"));
+        assert_eq!(likeliest("spi", &["spi-nor", "spi-nand"]), None);
+        assert_eq!(likeliest("no", &["spi-nor", "spi-nand"]), None);
+        assert_eq!(likeliest("", &["spi-nor"]), None);
+        assert_eq!(likeliest("cat", &["catalog", "cap"]), Some("cap"));
     }
 
     // In a short word one letter more or less makes another word.

@@ -100,7 +100,7 @@ fn list_of(value: &str) -> Option<String> {
     let own = scanned.opens + scanned.closes == value.len() - list.len();
     let list = format!("[{}]", trimmed(&list));
     let said = || format!("a list has one `[` and one `]`: {}", plain(&list));
-    (own && is_value(&list)).then(said)
+    (own && list != "[]" && is_value(&list)).then(said)
 }
 
 // A line with a quote too few: the word beside the only one, where that is certain to be meant.
@@ -257,7 +257,7 @@ impl At<'_> {
         let list = || assigned(&line).and_then(|(_, value)| list_of(value));
         let said = self.bracketed(&line).or_else(list);
         let said = said.or_else(|| header_of(&line));
-        Some(said.unwrap_or_else(|| "no list is open here".into()))
+        Some(said.unwrap_or_else(|| "a `]` has no `[` before it".into()))
     }
 
     // The first line from this one on with a string that is not closed there, else this line's brackets.

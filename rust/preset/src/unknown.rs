@@ -110,6 +110,9 @@ impl fmt::Display for Unknown {
             None => {
                 let known = self.elsewhere().join(", ");
                 let known = match known.as_str() {
+                    "" if self.key.starts_with('[') => {
+                        " (a header stands alone in its line)".into()
+                    }
                     "" => known,
                     _ => format!(" (a key of {known})"),
                 };

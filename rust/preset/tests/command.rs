@@ -125,7 +125,7 @@ const FAULTS: [(&str, &str, &str, &str); 12] = [
         "media        = \"spi-nor\"",
         "media        = \"nor\"",
         "media        = \"nor\"",
-        "image: refused 22: unknown chip, media or kind: `media` is \"nor\"; there are spi-nor, spi-nand",
+        "image: refused 22: unknown chip, media or kind: `media` is \"nor\" (\"spi-nor\"?); there are spi-nor, spi-nand",
     ),
     (
         "offset = 0x042000",
@@ -144,7 +144,7 @@ const FAULTS: [(&str, &str, &str, &str); 12] = [
         "size   = 0x00E010",
         "size   = 0x00E010",
         "partition 2 \"calibration\": refused 46: size off the erase block: \
-         `size` is 0xE010; the erase block of spi-nor is 0x1000, so 0xE000 or 0xF000 fits",
+         `size` is 0x00E010; the erase block of spi-nor is 0x1000, so 0xE000 or 0xF000 fits",
     ),
     (
         "offset = 0x550000",

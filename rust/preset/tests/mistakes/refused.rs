@@ -615,12 +615,12 @@ pub const ALL: &[Mistake] = &[
     Mistake {
         what: "a bracket too many below a list",
         edits: &[("    \"watchdog\",\n]", "    \"watchdog\",\n]\n]")],
-        told: &["74: refused 3: closing bracket too many: no list is open here"],
+        told: &["74: refused 3: closing bracket too many: a `]` has no `[` before it"],
     },
     Mistake {
         what: "items below a list that is closed",
         edits: &[("    \"watchdog\",\n]", "] # the rest:\n    \"watchdog\"]")],
-        told: &["73: refused 3: closing bracket too many: no list is open here"],
+        told: &["73: refused 3: closing bracket too many: a `]` has no `[` before it"],
     },
     Mistake {
         what: "a list that is closed too early",
@@ -944,7 +944,7 @@ pub const ALL: &[Mistake] = &[
         what: "the first partition not at 0",
         edits: &[("offset = 0x000000", "offset = 0x001000")],
         told: &[
-            "22: partition 0 \"boot\": refused 41: first partition does not start at 0: `offset` is 0x1000",
+            "22: partition 0 \"boot\": refused 41: first partition does not start at 0: `offset` is 0x001000",
         ],
     },
     Mistake {
@@ -960,7 +960,8 @@ pub const ALL: &[Mistake] = &[
             ),
         ],
         told: &[
-            "22: partition 0 \"was env\": refused 41: first partition does not start at 0: `offset` is 0x40000; partition 1 \"boot\" starts at 0",
+            "22: partition 0 \"was env\": refused 41: first partition does not start at 0: `offset` is \
+             0x040000; partition 1 \"boot\" starts at 0",
         ],
     },
     Mistake {
@@ -986,14 +987,16 @@ pub const ALL: &[Mistake] = &[
         what: "an offset off the blocks",
         edits: &[("0x042000", "0x042800")],
         told: &[
-            "32: partition 2 \"calibration\": refused 45: offset off the erase block: `offset` is 0x42800; the erase block of spi-nor is 0x1000, so 0x42000 or 0x43000 fits",
+            "32: partition 2 \"calibration\": refused 45: offset off the erase block: `offset` is 0x042800; the \
+             erase block of spi-nor is 0x1000, so 0x42000 or 0x43000 fits",
         ],
     },
     Mistake {
         what: "a size off the blocks",
         edits: &[("0x00E000", "57_000")],
         told: &[
-            "33: partition 2 \"calibration\": refused 46: size off the erase block: `size` is 0xDEA8; the erase block of spi-nor is 0x1000, so 0xD000 or 0xE000 fits",
+            "33: partition 2 \"calibration\": refused 46: size off the erase block: `size` is 57_000 (0xDEA8); \
+             the erase block of spi-nor is 0x1000, so 0xD000 or 0xE000 fits",
         ],
     },
     Mistake {
@@ -1145,6 +1148,61 @@ pub const ALL: &[Mistake] = &[
         edits: &[("0x40700000\nentry", "0x40700002\nentry")],
         told: &[
             "118: application 2 \"profile-beam\": refused 66: load address not a multiple of 4: `load_address` is 0x40700002; 0x40700000 or 0x40700004 fits",
+        ],
+    },
+    Mistake {
+        what: "a number that was meant to be hexadecimal",
+        edits: &[("offset = 0x050000", "offset = 050000")],
+        told: &[
+            "37: partition 3 \"profiles\": refused 45: offset off the erase block: `offset` is 050000 (0xC350); \
+             the erase block of spi-nor is 0x1000, so 0xC000 or 0xD000 fits",
+        ],
+    },
+    Mistake {
+        what: "a media without its bus",
+        edits: &[("media        = \"spi-nor\"", "media        = \"nor\"")],
+        told: &[
+            "14: image: refused 22: unknown chip, media or kind: `media` is \"nor\" (\"spi-nor\"?); there are \
+             spi-nor, spi-nand",
+        ],
+    },
+    Mistake {
+        what: "attributes of a reference after a blank",
+        edits: &[(
+            "partition       = \"boot;mtd\"",
+            "partition       = \"boot mtd\"",
+        )],
+        told: &[
+            "75: component 1 \"loader\": refused 58: unknown partition \"boot mtd\" (\"boot\"?); there are \
+             boot, env, calibration, profiles, gobos, logs",
+        ],
+    },
+    Mistake {
+        what: "an application's header without its key",
+        edits: &[("[apps.profile-spot]", "[apps]")],
+        told: &[
+            "105: application 0 \"features\": refused 23: entry is not a table: it is an array; `features` is a \
+             field of an application, whose header is [apps.KEY]",
+        ],
+    },
+    Mistake {
+        what: "a bracket too many after a list over many lines",
+        edits: &[("    \"watchdog\",\n]", "    \"watchdog\"]]")],
+        told: &["68: refused 3: closing bracket too many: a `]` has no `[` before it"],
+    },
+    Mistake {
+        what: "a field in a header's line",
+        edits: &[(
+            "[[partition]]\nname   = \"env\"   ",
+            "[[partition]] name   = \"env\"   ",
+        )],
+        told: &[
+            "26: partition 0 \"boot\": refused 41: first partition does not start at 0: `offset` is 0x040000",
+            "25: note: partition 0 \"boot\": unknown key \"[[partition]] name\" is passed over (a header stands \
+             alone in its line)",
+            "26: note: partition 0 \"boot\": key \"offset\" is assigned again, and 1 more up to line 27 (size): \
+             are lines there twice, or is a header such as [[partition]] lost before line 26? 0x040000 (line \
+             26) counts, not 0x000000 (line 22)",
         ],
     },
 ];
