@@ -471,6 +471,24 @@ fn names_that_are_alike() {
 }
 
 #[test]
+fn items_that_look_like_several() {
+    let app = |features: &str| {
+        with(&format!(
+            "[apps.k]\npartition = \"free\"\nfeatures = {features}\n"
+        ))
+    };
+    let want = "25: application 1 \"k\": an item of `features` is \"pan, tilt\", which is one feature: \
+                is \"pan\", \"tilt\" meant?";
+    assert_eq!(told(app("[\"zoom\", \"pan, tilt\"]")), [want]);
+    assert_eq!(told(app("\"zoom pan, tilt\"")), nothing());
+    assert_eq!(told(app("[\"zoom\", \"pan\", \" tilt\"]")), nothing());
+    let two = "[[component]]\nname = \"x\"\npackage = \"p\"\npartition = \"free\"\npbp_features = [\"a b\"]\n";
+    let want = "27: component 1 \"x\": an item of `pbp_features` is \"a b\", which is one feature: \
+                is \"a\", \"b\" meant?";
+    assert_eq!(told(with(two)), [want]);
+}
+
+#[test]
 fn names_with_white_space() {
     let said = |line, entry: &str, what: &str| {
         format!("{line}: {entry}: its {what} has white space at its ends")

@@ -2,6 +2,7 @@
 //!
 //! A text without a tree (1 to 16) has none. What is repeated below an unknown key, or is one, is not looked into: the
 //! key is noted as unknown. Of a table that is replaced later only the replacing is noted.
+mod items;
 mod names;
 mod planned;
 mod repeated;
@@ -33,6 +34,8 @@ pub enum Sort {
     Reference,
     /// A package that is asked for with other features than it is built with.
     Features,
+    /// An item of a feature list that looks like several.
+    Item,
     /// A component that is not alone in its partition.
     Shared,
     /// A name that differs from another only in case or outer white space, or has such space.
@@ -105,6 +108,7 @@ impl Notes {
         if let Ok(preset) = Preset::validate(text, name) {
             let mut pairs = planned::found(text, name, &preset, &tree);
             pairs.extend(names::found(&preset, &tree));
+            pairs.extend(items::found(&tree));
             out.pairs(pairs, &lines);
         }
         // of one line in the order of sorts
@@ -162,6 +166,7 @@ impl fmt::Display for More {
                 "package is asked for with other features",
                 "packages are asked for with other features",
             ),
+            Sort::Item => ("item looks like several", "items look like several"),
             Sort::Shared => (
                 "entry shares its partition",
                 "entries share their partitions",

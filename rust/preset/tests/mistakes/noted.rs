@@ -868,4 +868,16 @@ pub const ALL: &[Mistake] = &[
              of component 0 \"psram\" (line 53)",
         ],
     },
+    Mistake {
+        what: "a list with one item for two",
+        edits: &[(
+            "features  = [\"rgbw\", \"pixel\"]",
+            "features  = [\"rgbw pixel\"]",
+        )],
+        told: &[
+            "ok: d13x, spi-nor, 6 partitions, 4 components, 7 applications",
+            "124: note: application 1 \"profile-bar\": an item of `features` is \"rgbw pixel\", which is one \
+             feature: is \"rgbw\", \"pixel\" meant?",
+        ],
+    },
 ];
