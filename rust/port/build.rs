@@ -1,8 +1,9 @@
-//! Links libhost.a: of the folder that PRESET_LIB_DIR names, and of no other where it names one; else the archive that
-//! `rt staticlib host` wrote; else the prebuilt one.
+//! Links libhost.a: of the folder that PRESET_LIB_DIR names, and of no other where it names one; else the newer one of
+//! what `rt staticlib host` wrote and what is prebuilt.
 use std::env;
 use std::fs;
 use std::path::{Path, PathBuf};
+use std::time::SystemTime;
 
 const NAME: &str = "libhost.a";
 
@@ -18,13 +19,19 @@ fn main() {
 fn link() -> Result<(), String> {
     right_machine()?;
     let folders = named_folder()?.map_or_else(own_folders, |folder| vec![folder]);
-    let found = folders.iter().find(|folder| folder.join(NAME).is_file());
+    let there = folders.iter().filter(|folder| folder.join(NAME).is_file());
+    // of two that are as new, the last
+    let found = there.max_by_key(|folder| modified(&folder.join(NAME)));
     let folder = found.ok_or_else(|| missing(&folders))?;
     let file = folder.join(NAME);
     println!("cargo::rustc-link-search=native={}", folder.display());
     println!("cargo::rustc-link-lib=static=host");
     println!("cargo::rustc-env=PRESET_LIB={}", file.display());
     Ok(())
+}
+
+fn modified(file: &Path) -> Option<SystemTime> {
+    fs::metadata(file).and_then(|found| found.modified()).ok()
 }
 
 fn right_machine() -> Result<(), String> {
@@ -55,12 +62,12 @@ fn named_folder() -> Result<Option<PathBuf>, String> {
 }
 
 // Folders are watched, since cargo builds anew each time while it watches a file that is not there; for the same reason
-// the first is made.
+// the second is made.
 fn own_folders() -> Vec<PathBuf> {
     let here = Path::new(env!("CARGO_MANIFEST_DIR"));
     let root = here.ancestors().nth(2).unwrap_or(here);
-    let folders = ["target/staticlib", "prebuilt"].map(|folder| root.join(folder));
-    let _ = fs::create_dir_all(&folders[0]);
+    let folders = ["prebuilt", "target/staticlib"].map(|folder| root.join(folder));
+    let _ = fs::create_dir_all(&folders[1]);
     for folder in &folders {
         println!("cargo::rerun-if-changed={}", folder.display());
     }
