@@ -333,6 +333,30 @@ fn sum_and_sources_are_held_on_every_machine() {
     );
 }
 
+// Where cargo finds the archive, by what the build script has printed.
+fn linked(tree: &Path) -> String {
+    let words = ["cargo", "check", "--quiet", "--offline", "-p", "port"];
+    let own = tree.join("own");
+    let mut cargo = run(&tree.join("rust"), "./cross", &words);
+    done(cargo.env("CARGO_TARGET_DIR", &own));
+    let printed = "find own -path '*/port-*/output' -exec sed -n 's/.*link-search=native=//p' {} +";
+    let folder = done(&mut run(tree, "sh", &["-c", printed]));
+    let folder = folder.trim_end().strip_prefix(word(tree));
+    folder.unwrap_or_default().into()
+}
+
+#[test]
+fn cargo_links_the_newer_archive() {
+    let tree = copy("newer");
+    assert_eq!(linked(&tree), "/prebuilt");
+    let archive = fs::read(ARCHIVE).expect("an archive");
+    fs::create_dir_all(tree.join("target/staticlib")).expect("target/ can be written");
+    put(&tree, "target/staticlib/libhost.a", &archive);
+    assert_eq!(linked(&tree), "/target/staticlib");
+    put(&tree, "prebuilt/libhost.a", &archive);
+    assert_eq!(linked(&tree), "/prebuilt");
+}
+
 // Cargo alone: what the build script says is one line, and no panic.
 #[test]
 fn cargo_says_in_a_line_what_is_missing() {
