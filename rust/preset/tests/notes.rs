@@ -118,10 +118,14 @@ fn lost_headers() {
     let entry = |name: &str| format!("name = \"{name}\"\noffset = 0\nsize = 1\n\n");
     let text = format!("[[partition]]\n{}{}{}", entry("a"), entry("b"), entry("c"));
     let want = [
-        "6: partition 0 \"c\": key \"name\" is assigned again, and 2 more up to line 8 (offset, size): is \
-         a header such as [[partition]] lost before line 6? \"b\" (line 6) replaces \"a\" (line 2), and line 10 counts",
-        "10: partition 0 \"c\": key \"name\" is assigned again, and 2 more up to line 12 (offset, size): \
-         is a header such as [[partition]] lost before line 10? \"c\" (line 10) counts, not \"b\" (line 6)",
+        "6: partition 0 \"c\": key \"name\" is assigned again, and 2 more up to line 8: is a header such as \
+         [[partition]] lost before line 6? name: \"b\" (line 6) replaces \"a\" (line 2), and line 10 counts; \
+         offset: 0 (line 7) replaces 0 (line 3), and line 11 counts; \
+         size: 1 (line 8) replaces 1 (line 4), and line 12 counts",
+        "10: partition 0 \"c\": key \"name\" is assigned again, and 2 more up to line 12: is a header such as \
+         [[partition]] lost before line 10? name: \"c\" (line 10) counts, not \"b\" (line 6); \
+         offset: 0 (line 11) counts, the same as before (line 7); \
+         size: 1 (line 12) counts, the same as before (line 8)",
     ];
     assert_eq!(told(&text), want);
     assert_eq!(
@@ -132,8 +136,9 @@ fn lost_headers() {
                 kind = \"app\"\nfile = \"f\"\nname = \"b\"\npartition = \"p\"\nattr = \"y\"\n";
     let want = [
         "5: component 0 \"b\": key \"kind\" is assigned again: \"app\" (line 5) counts, not \"raw\" (line 3)",
-        "7: component 0 \"b\": key \"name\" is assigned again, and 1 more up to line 9 (attr): is a header \
-         such as [[component]] lost before line 7? \"b\" (line 7) counts, not \"a\" (line 2)",
+        "7: component 0 \"b\": key \"name\" is assigned again, and 1 more up to line 9: is a header \
+         such as [[component]] lost before line 7? name: \"b\" (line 7) counts, not \"a\" (line 2); \
+         attr: \"y\" (line 9) counts, not \"x\" (line 4)",
     ];
     assert_eq!(told(text), want);
     let text = "[apps.k]\nname = \"a\"\nfilename = \"f\"\nname = \"b\"\n";
@@ -146,12 +151,14 @@ fn lost_headers() {
 #[test]
 fn doubled_lines() {
     let text = "[[partition]]\noffset = 1\nsize = 2\noffset = 3\nsize = 4\n";
-    let want = "4: partition 0: key \"offset\" is assigned again, and 1 more up to line 5 (size): are \
-                lines there twice, or is a header such as [[partition]] lost before line 4? 3 (line 4) counts, not 1 (line 2)";
+    let want = "4: partition 0: key \"offset\" is assigned again, and 1 more up to line 5: are lines there twice, \
+                or is a header such as [[partition]] lost before line 4? offset: 3 (line 4) counts, not 1 (line 2); \
+                size: 4 (line 5) counts, not 2 (line 3)";
     assert_eq!(told(text), [want]);
     let text = text.replace("3\nsize = 4", "1\nsize = 2");
-    let want = "4: partition 0: key \"offset\" is assigned again, and 1 more up to line 5 (size): are \
-                lines there twice? 1 (line 4) counts, the same as before (line 2)";
+    let want = "4: partition 0: key \"offset\" is assigned again, and 1 more up to line 5: are lines there twice? \
+                offset: 1 (line 4) counts, the same as before (line 2); \
+                size: 2 (line 5) counts, the same as before (line 3)";
     assert_eq!(told(&text), [want]);
     let text =
         "[[partition]]\noffset = 1\noffset = 2\nsize = 3\nsize = 4\nname = \"a\"\nname = \"b\"\n";
@@ -167,7 +174,8 @@ fn headers_that_come_again() {
         "4: [board] comes again and goes on with the table of line 1",
         "8: [apps.k] comes again and goes on with the table of line 6: is another [apps.KEY] meant?",
         "10: [board] comes again and goes on with the table of line 1; key \"name\" is assigned again, \
-         and 1 more up to line 12 (chip): \"b\" (line 11) counts, not \"a\" (line 2)",
+         and 1 more up to line 12: name: \"b\" (line 11) counts, not \"a\" (line 2); \
+         chip: \"d13x\" (line 12) counts, the same as before (line 5)",
     ];
     assert_eq!(told(text), want);
     // what comes again once more after it is another slip
@@ -262,8 +270,9 @@ fn no_slips() {
 #[test]
 fn dotted_keys() {
     let text = "[apps.k]\nname = \"a\"\nfilename = \"f\"\n[apps]\nk.name = \"b\"\n\"k\".\"filename\" = \"g\"\n";
-    let want = "5: application 0 \"k\": key \"name\" is assigned again, and 1 more up to line 6 (filename): \
-                \"b\" (line 5) counts, not \"a\" (line 2)";
+    let want = "5: application 0 \"k\": key \"name\" is assigned again, and 1 more up to line 6: \
+                name: \"b\" (line 5) counts, not \"a\" (line 2); \
+                filename: \"g\" (line 6) counts, not \"f\" (line 3)";
     assert_eq!(told(text), [want]);
 }
 
@@ -753,9 +762,14 @@ mod built {
         assert_eq!(own.len(), count, "{said} in\n{text}");
         for (n, at) in own.iter().enumerate() {
             let (key, words) = repeats.remove(at).expect("a repeat");
-            let first = said.contains(&format!("key \"{key}\" is assigned again"))
-                && said.ends_with(&words);
-            assert!(n > 0 || first, "{said}, not {words}, in\n{text}");
+            let first = said.contains(&format!("key \"{key}\" is assigned again"));
+            let own = if count > 1 {
+                format!("{key}: {words}")
+            } else {
+                words
+            };
+            let told = said.contains(&own) && (n > 0 || first);
+            assert!(told, "{said}, not {own}, in\n{text}");
         }
         assert!(
             last.is_none_or(|last| own.last() == Some(&last)),

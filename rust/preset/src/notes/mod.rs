@@ -88,8 +88,9 @@ impl Notes {
     ///
     /// let lost = &found.told[0];
     /// assert_eq!((lost.line, lost.sort), (Some(5), Sort::Key));
-    /// let said = "partition 0 \"env\": key \"name\" is assigned again, and 1 more up to line 6 (size): is a \
-    ///             header such as [[partition]] lost before line 5? \"env\" (line 5) counts, not \"boot\" (line 2)";
+    /// let said = "partition 0 \"env\": key \"name\" is assigned again, and 1 more up to line 6: is a header \
+    ///             such as [[partition]] lost before line 5? name: \"env\" (line 5) counts, not \"boot\" (line 2); \
+    ///             size: 2 (line 6) counts, not 1 (line 3)";
     /// assert_eq!(lost.to_string(), said);
     /// ```
     pub fn of(text: &[u8], name: &[u8]) -> Notes {

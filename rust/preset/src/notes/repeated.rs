@@ -224,7 +224,7 @@ impl Run {
         let again = first.map(|first| first.again(tree) + &self.more(lines));
         let headed = self.header.as_ref().map(Header::said);
         let said = [headed, again].into_iter().flatten();
-        let values = first.map(|first| first.values(tree, lines));
+        let values = first.map(|_| self.values(tree, lines));
         let asked = self.asked(tree, lines, at);
         let rest = [asked, values].into_iter().flatten();
         let said: Vec<String> = said.collect();
@@ -239,12 +239,20 @@ impl Run {
         match (self.repeats.len(), self.repeats.last()) {
             (count @ 2.., Some(last)) => {
                 let line = line(lines, last.new);
-                let keys: Vec<&str> = self.repeats.iter().map(|own| own.key.as_str()).collect();
-                let keys = plain(&keys[1..].join(", "));
-                format!(", and {} more up to {line} ({keys})", count - 1)
+                format!(", and {} more up to {line}", count - 1)
             }
             _ => String::new(),
         }
+    }
+
+    // Of each key both values with their lines, and which one counts; of several by their keys.
+    fn values(&self, tree: &Tree, lines: &Lines) -> String {
+        let several = self.repeats.len() > 1;
+        let each = self.repeats.iter().map(|own| {
+            let key = several.then(|| format!("{}: ", plain(&own.key)));
+            key.unwrap_or_default() + &own.values(tree, lines)
+        });
+        each.collect::<Vec<_>>().join("; ")
     }
 
     // What is likely meant.

@@ -11,9 +11,10 @@ pub const ALL: &[Mistake] = &[
         )],
         told: &[
             "ok: d13x, spi-nor, 6 partitions, 3 components, 7 applications",
-            "92: note: component 2 \"gobo wheels\": key \"name\" is assigned again, and 2 more up to line 96 \
-             (file, partition): is a header such as [[component]] lost before line 92? \"gobo wheels\" (line \
-             92) counts, not \"env\" (line 87)",
+            "92: note: component 2 \"gobo wheels\": key \"name\" is assigned again, and 2 more up to line 96: \
+             is a header such as [[component]] lost before line 92? name: \"gobo wheels\" (line 92) counts, not \
+             \"env\" (line 87); file: \"blobs/gobos-2.4.img\" (line 94) counts, not \"blobs/env.bin\" (line \
+             88); partition: \" gobos ;mtd\" (line 96) counts, not \"env\" (line 89)",
         ],
     },
     Mistake {
@@ -24,9 +25,10 @@ pub const ALL: &[Mistake] = &[
         )],
         told: &[
             "ok: d13x, spi-nor, 6 partitions, 3 components, 7 applications",
-            "93: note: component 2 \"gobo wheels\": key \"name\" is assigned again, and 2 more up to line 97 \
-             (file, partition): is a header such as [[component]] lost before line 93? \"gobo wheels\" (line \
-             93) counts, not \"env\" (line 87)",
+            "93: note: component 2 \"gobo wheels\": key \"name\" is assigned again, and 2 more up to line 97: \
+             is a header such as [[component]] lost before line 93? name: \"gobo wheels\" (line 93) counts, not \
+             \"env\" (line 87); file: \"blobs/gobos-2.4.img\" (line 95) counts, not \"blobs/env.bin\" (line \
+             88); partition: \" gobos ;mtd\" (line 97) counts, not \"env\" (line 89)",
         ],
     },
     Mistake {
@@ -37,9 +39,10 @@ pub const ALL: &[Mistake] = &[
         )],
         told: &[
             "ok: d13x, spi-nor, 5 partitions, 4 components, 7 applications",
-            "35: note: partition 2 \"profiles\": key \"name\" is assigned again, and 2 more up to line 37 \
-             (offset, size): is a header such as [[partition]] lost before line 35? \"profiles\" (line 35) \
-             counts, not \"calibration\" (line 31)",
+            "35: note: partition 2 \"profiles\": key \"name\" is assigned again, and 2 more up to line 37: is a \
+             header such as [[partition]] lost before line 35? name: \"profiles\" (line 35) counts, not \
+             \"calibration\" (line 31); offset: 0x050000 (line 36) counts, not 0x042000 (line 32); size: \
+             0x500000 (line 37) counts, not 0x00E000 (line 33)",
         ],
     },
     Mistake {
@@ -48,8 +51,10 @@ pub const ALL: &[Mistake] = &[
         told: &[
             "ok: d13x, spi-nor, 6 partitions, 4 components, 6 applications",
             "114: note: application 5 \"profile-wash\": key \"name\" is assigned again, and 3 more up to line \
-             117 (partition, features, load_address): is a header such as [apps.KEY] lost before line 114? \
-             \"beams\" (line 114) counts, not \"washes\" (line 109)",
+             117: is a header such as [apps.KEY] lost before line 114? name: \"beams\" (line 114) counts, not \
+             \"washes\" (line 109); partition: \"profiles\" (line 115) counts, the same as before (line 110); \
+             features: \"pan,tilt,prism,frost\" (line 116) counts, not \"pan tilt zoom rgbw\" (line 111); \
+             load_address: 0x40700000 (line 117) counts, the same as before (line 112)",
         ],
     },
     Mistake {
@@ -57,9 +62,10 @@ pub const ALL: &[Mistake] = &[
         edits: &[("[apps.profile-spot]\n", "")],
         told: &[
             "ok: d13x, spi-nor, 6 partitions, 4 components, 6 applications",
-            "101: note: component 3 \"spots\": key \"name\" is assigned again, and 2 more up to line 103 \
-             (partition, filename): is a header such as [[component]] lost before line 101? \"spots\" (line \
-             101) counts, not \"gobo wheels\" (line 93)",
+            "101: note: component 3 \"spots\": key \"name\" is assigned again, and 2 more up to line 103: is a \
+             header such as [[component]] lost before line 101? name: \"spots\" (line 101) counts, not \"gobo \
+             wheels\" (line 93); partition: \"profiles\" (line 102) counts, not \" gobos ;mtd\" (line 97); \
+             filename: \"spots.aic\" (line 103) counts, not \"gobos.img\" (line 96)",
             "109: note: application 5 \"profile-wash\": it and 4 more applications share partition \"profiles\" \
              with component 3 \"spots\" (line 102)",
         ],
@@ -71,8 +77,10 @@ pub const ALL: &[Mistake] = &[
             "ok: d13x, spi-nor, 6 partitions, 4 components, 6 applications",
             "16: note: image: its app \"spots\" is the name of no application",
             "108: note: application 4 \"profile-spot\": key \"name\" is assigned again, and 3 more up to line \
-             111 (partition, features, load_address): is a header such as [apps.KEY] lost before line 108? \
-             \"washes\" (line 108) counts, not \"spots\" (line 102)",
+             111: is a header such as [apps.KEY] lost before line 108? name: \"washes\" (line 108) counts, not \
+             \"spots\" (line 102); partition: \"profiles\" (line 109) counts, the same as before (line 103); \
+             features: \"pan tilt zoom rgbw\" (line 110) counts, not [\"pan\", \"tilt\", \"zoom\", \"iris\", \
+             \"gobo\"] (line 105); load_address: 0x40700000 (line 111) counts, the same as before (line 106)",
         ],
     },
     Mistake {
@@ -81,8 +89,8 @@ pub const ALL: &[Mistake] = &[
         told: &[
             "ok: d13x, spi-nor, 6 partitions, 4 components, 6 applications",
             "135: note: application 2 \"profile-par\": key \"name\" is assigned again, and 1 more up to line \
-             136 (partition): is a header such as [apps.KEY] lost before line 135? \"lamp hours\" (line 135) \
-             counts, not \"PAR cans\" (line 132)",
+             136: is a header such as [apps.KEY] lost before line 135? name: \"lamp hours\" (line 135) counts, \
+             not \"PAR cans\" (line 132); partition: \"logs\" (line 136) counts, not \"profiles\" (line 133)",
         ],
     },
     Mistake {
@@ -92,11 +100,16 @@ pub const ALL: &[Mistake] = &[
             "ok: d13x, spi-nor, 6 partitions, 4 components, 5 applications",
             "16: note: image: its app \"spots\" is the name of no application",
             "108: note: application 3 \"profile-spot\": key \"name\" is assigned again, and 3 more up to line \
-             111 (partition, features, load_address): is a header such as [apps.KEY] lost before line 108? \
-             \"washes\" (line 108) replaces \"spots\" (line 102), and line 113 counts",
+             111: is a header such as [apps.KEY] lost before line 108? name: \"washes\" (line 108) replaces \
+             \"spots\" (line 102), and line 113 counts; partition: \"profiles\" (line 109) replaces \
+             \"profiles\" (line 103), and line 114 counts; features: \"pan tilt zoom rgbw\" (line 110) replaces \
+             [\"pan\", \"tilt\", \"zoom\", \"iris\", \"gobo\"] (line 105), and line 115 counts; load_address: \
+             0x40700000 (line 111) replaces 0x40700000 (line 106), and line 116 counts",
             "113: note: application 3 \"profile-spot\": key \"name\" is assigned again, and 3 more up to line \
-             116 (partition, features, load_address): is a header such as [apps.KEY] lost before line 113? \
-             \"beams\" (line 113) counts, not \"washes\" (line 108)",
+             116: is a header such as [apps.KEY] lost before line 113? name: \"beams\" (line 113) counts, not \
+             \"washes\" (line 108); partition: \"profiles\" (line 114) counts, the same as before (line 109); \
+             features: \"pan,tilt,prism,frost\" (line 115) counts, not \"pan tilt zoom rgbw\" (line 110); \
+             load_address: 0x40700000 (line 116) counts, the same as before (line 111)",
         ],
     },
     Mistake {
@@ -252,8 +265,9 @@ pub const ALL: &[Mistake] = &[
         )],
         told: &[
             "ok: d13x, spi-nor, 6 partitions, 4 components, 7 applications",
-            "91: note: component 2 \"env\": key \"partition\" is assigned again, and 1 more up to line 92 \
-             (attr): are lines there twice? \"env\" (line 91) counts, the same as before (line 89)",
+            "91: note: component 2 \"env\": key \"partition\" is assigned again, and 1 more up to line 92: are \
+             lines there twice? partition: \"env\" (line 91) counts, the same as before (line 89); attr: \
+             \"mtd;optional\" (line 92) counts, the same as before (line 90)",
         ],
     },
     Mistake {
@@ -264,9 +278,9 @@ pub const ALL: &[Mistake] = &[
         )],
         told: &[
             "ok: d13x, spi-nor, 6 partitions, 4 components, 7 applications",
-            "49: note: partition 5 \"logs\": key \"offset\" is assigned again, and 1 more up to line 50 (size): \
-             are lines there twice, or is a header such as [[partition]] lost before line 49? 0x7E0000 (line \
-             49) counts, not 0x7F0000 (line 47)",
+            "49: note: partition 5 \"logs\": key \"offset\" is assigned again, and 1 more up to line 50: are \
+             lines there twice, or is a header such as [[partition]] lost before line 49? offset: 0x7E0000 \
+             (line 49) counts, not 0x7F0000 (line 47); size: 0x020000 (line 50) counts, not 0x010000 (line 48)",
         ],
     },
     Mistake {
@@ -277,9 +291,10 @@ pub const ALL: &[Mistake] = &[
         )],
         told: &[
             "ok: d13x, spi-nor, 6 partitions, 4 components, 7 applications",
-            "34: note: partition 2 \"spare\": key \"name\" is assigned again, and 2 more up to line 36 (offset, \
-             size): is a header such as [[partition]] lost before line 34? \"spare\" (line 34) counts, not \
-             \"calibration\" (line 31)",
+            "34: note: partition 2 \"spare\": key \"name\" is assigned again, and 2 more up to line 36: is a \
+             header such as [[partition]] lost before line 34? name: \"spare\" (line 34) counts, not \
+             \"calibration\" (line 31); offset: 0x042000 (line 35) counts, the same as before (line 32); size: \
+             0x001000 (line 36) counts, not 0x00E000 (line 33)",
         ],
     },
     Mistake {
@@ -327,8 +342,10 @@ pub const ALL: &[Mistake] = &[
         told: &[
             "ok: d13x, spi-nor, 6 partitions, 4 components, 7 applications",
             "126: note: [apps.profile-bar] comes again and goes on with the table of line 121; key \"name\" is \
-             assigned again, and 2 more up to line 129 (partition, features): is another [apps.KEY] meant? \
-             \"LED rings\" (line 127) counts, not \"LED bars\" (line 122)",
+             assigned again, and 2 more up to line 129: is another [apps.KEY] meant? name: \"LED rings\" (line \
+             127) counts, not \"LED bars\" (line 122); partition: \"profiles\" (line 128) counts, the same as \
+             before (line 123); features: [\"rgbw\", \"ring\"] (line 129) counts, not [\"rgbw\", \"pixel\"] \
+             (line 124)",
         ],
     },
     Mistake {
@@ -352,8 +369,9 @@ pub const ALL: &[Mistake] = &[
         told: &[
             "ok: d13x, spi-nor, 6 partitions, 4 components, 7 applications",
             "131: note: [apps.profile-strobe] comes again and goes on with the table of line 126; key \"name\" \
-             is assigned again, and 2 more up to line 134 (partition, features): is another [apps.KEY] meant? \
-             \"strobes\" (line 132) counts, the same as before (line 127)",
+             is assigned again, and 2 more up to line 134: is another [apps.KEY] meant? name: \"strobes\" (line \
+             132) counts, the same as before (line 127); partition: \"profiles\" (line 133) counts, the same as \
+             before (line 128); features: \"dimmer strobe\" (line 134) counts, the same as before (line 129)",
         ],
     },
     // Keys that are misspelled.

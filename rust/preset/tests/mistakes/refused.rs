@@ -1200,9 +1200,9 @@ pub const ALL: &[Mistake] = &[
             "26: partition 0 \"boot\": refused 41: first partition does not start at 0: `offset` is 0x040000",
             "25: note: partition 0 \"boot\": unknown key \"[[partition]] name\" is passed over (a header stands \
              alone in its line)",
-            "26: note: partition 0 \"boot\": key \"offset\" is assigned again, and 1 more up to line 27 (size): \
-             are lines there twice, or is a header such as [[partition]] lost before line 26? 0x040000 (line \
-             26) counts, not 0x000000 (line 22)",
+            "26: note: partition 0 \"boot\": key \"offset\" is assigned again, and 1 more up to line 27: are \
+             lines there twice, or is a header such as [[partition]] lost before line 26? offset: 0x040000 \
+             (line 26) counts, not 0x000000 (line 22); size: 0x002000 (line 27) counts, not 0x040000 (line 23)",
         ],
     },
 ];
