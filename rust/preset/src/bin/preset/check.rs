@@ -37,7 +37,7 @@ pub fn check(files: &[OsString], manner: Manner) -> Answer {
 }
 
 fn checked(input: &Input, manner: Manner, sum: &mut Sum) -> Answer {
-    let judged = Preset::validate(&input.text, input.board.as_bytes());
+    let judged = Preset::check(&input.text, input.board.as_bytes());
     let noted = match manner {
         Manner {
             quiet: true,
@@ -53,12 +53,9 @@ fn checked(input: &Input, manner: Manner, sum: &mut Sum) -> Answer {
             format!("{}: ok: {}\n", input.file, counted(&preset)),
             ACCEPTED,
         ),
-        Err(refusal) => {
-            sum.refused.push(refusal.number);
-            (
-                told(input, &Fault::find(&input.text, refusal, None)),
-                REFUSED,
-            )
+        Err(fault) => {
+            sum.refused.push(fault.refusal.number);
+            (told(input, &fault), REFUSED)
         }
     };
     sum.ok += usize::from(status == ACCEPTED);
