@@ -74,7 +74,7 @@ pub struct ImageView {
     pub app: Bytes,
 }
 
-// Its name is len bytes of the store.
+// Its name is len bytes of the store. locked 0: open; 1: locked.
 #[repr(C)]
 pub struct PartitionView {
     pub found: u32,
@@ -82,6 +82,7 @@ pub struct PartitionView {
     pub size: u32,
     pub from: usize,
     pub len: usize,
+    pub locked: u32,
 }
 
 // kind 1: app; 2: pbp; 3: raw.
@@ -399,6 +400,7 @@ fn no_partition() -> PartitionView
         size: 0,
         from: 0,
         len: 0,
+        locked: 0,
     }
 }
 
@@ -413,6 +415,7 @@ pub fn partition_of(f: PartitionFound) -> PartitionView
             size: p.size,
             from: p.from,
             len: p.len,
+            locked: flag_number(p.locked),
         },
     }
 }

@@ -1,6 +1,6 @@
 -- 01, "What the listing prints": the lines of an accepted preset's boot chain, and of a refusal.
 use Prim.Native.Nat.{ℕ, zero, suc, _+_, _/_, _%_}
-use mathlib.Core.Bool.{Bool, true}
+use mathlib.Core.Bool.{Bool, true, false}
 use mathlib.Core.List.{List, [], _∷_, _++_, map}
 use lib.Dec.{ltb, leb}
 use lib.ListN.{length}
@@ -47,9 +47,20 @@ okLine made r =
     ∷ decimal made
     ∷ [])
 
--- "`part`: name, start, end"
+-- W-206: "printed last on its `part` line as `locked` or `open`"
+unfoldable pub lockWord : Bool → List ℕ
+lockWord true = ascii "locked"
+lockWord false = ascii "open"
+
+-- "`part`: name, start, end", and the lock
 unfoldable pub partLine : Partition → List ℕ
-partLine p = line (ascii "part") (p .name ∷ decimal (p .offset) ∷ decimal (p .offset + p .size) ∷ [])
+partLine p =
+    line (ascii "part")
+    (p .name
+    ∷ decimal (p .offset)
+    ∷ decimal (p .offset + p .size)
+    ∷ lockWord (p .locked)
+    ∷ [])
 
 -- "`-` for an empty partition"
 unfoldable pub dashed : List ℕ → List ℕ
@@ -91,10 +102,10 @@ refusedLine number section place = line (ascii "refused") (decimal number ∷ de
 
 -- ---- the listing of a text
 
--- how many bytes a listing may have: each byte of the store stands in it no more than twice, 8,192 for all else, and
--- the lent name
+-- how many bytes a listing may have: each byte of the store stands in it no more than twice, 8,448 for all else (W-206:
+-- 7 of them for the lock of each partition), and the lent name
 abbrev pub outSize : List ℕ → ℕ
-outSize name = 73728 + length name
+outSize name = 73984 + length name
 
 -- an output that is shorter than that, or so long that no number of 32 bits says what was written to it
 unfoldable pub short : ℕ → List ℕ → Bool
@@ -121,6 +132,6 @@ printed (accepted l) = l .lines
 printed (refused f section place) = refusedLine (numberOf f) section place
 
 unfoldable pub computes : Unit {0}
-unfolding decimal okLine partLine dashed compLine appLine buildLine stemLine linesOf refusedLine short listing printed
+unfolding decimal okLine lockWord partLine dashed compLine appLine buildLine stemLine linesOf refusedLine short listing printed
     Rattle.meaning.specs.Plan.computes
 computes = tt

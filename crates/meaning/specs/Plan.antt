@@ -10,7 +10,7 @@ use Rattle.meaning.specs.Schema.{Kind, kindApp, kindPbp, kindRaw, Board,
 use Rattle.meaning.specs.Schema.{Application, Preset}
 use Rattle.meaning.specs.Files.{fileStem}
 use Rattle.meaning.specs.Verdict.{among, withLast}
-use Rattle.meaning.specs.Rules.{nameOf}
+use Rattle.meaning.specs.Rules.{nameOf, firstNamed}
 use Rattle.meaning.specs.Preset.{Read, validate}
 
 -- ---- what is asked for, and what a plan says
@@ -225,11 +225,6 @@ stemFor r bootChain = orDefault (ownStem (firstApp (r .components))) (r .board .
 stemFor r (app key) = key
 
 -- ---- the partition of a reference
-
--- the first partition of that name
-abbrev pub firstNamed : List ℕ → List Partition → Option Partition
-firstNamed name [] = none
-firstNamed name (p ∷ ps) = pick (same name (p .name)) (some p) (firstNamed name ps)
 
 -- document 004, `ImagePlan::partition`; "A component's reference drops everything from the first `;` and is trimmed"
 unfoldable pub partitionFor : List Partition → List ℕ → Option Partition

@@ -76,12 +76,14 @@ frontOf lent root =
 -- ---- partitions
 
 -- "partitions (`name`, `offset`, `size`)"
+-- W-206: "A partition may hold the boolean `locked`, false if absent"; "wrong kind is 20, read after `size`"
 unfoldable pub partitionFrom : Table → R Partition
 partitionFrom f = do
   name ← required aText f (ascii "name")
   offset ← required aNumber f (ascii "offset")
   size ← required aNumber f (ascii "size")
-  ok (record { name = name; offset = offset; size = size })
+  locked ← defaulted aFlag false f (ascii "locked")
+  ok (record { name = name; offset = offset; size = size; locked = locked })
 
 -- "Partitions 32"
 unfoldable pub partitionsOf : Limits → Table → Answer (List Partition)

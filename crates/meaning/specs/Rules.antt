@@ -178,7 +178,19 @@ featureRules cs apps =
     (inTurn (λ earlier a. useFault earlier (useOf a)) (λ earlier a. earlier ++ useOf a)
     inApplication 0 (allUses cs) apps)
 
--- ---- 61 to 66
+-- ---- 64 and, by W-206, 67: the partition of an application
+
+-- the first partition of that name
+abbrev pub firstNamed : List ℕ → List Partition → Option Partition
+firstNamed name [] = none
+firstNamed name (p ∷ ps) = pick (same name (p .name)) (some p) (firstNamed name ps)
+
+-- 64: "unknown partition". W-206: "67 for an application in a locked partition, directly after 64"
+abbrev pub placeFault : Option Partition → ℕ
+placeFault none = 64
+placeFault (some p) = pick (p .locked) 67 0
+
+-- ---- 61 to 67
 
 -- 66: "load address not a multiple of 4"
 unfoldable pub addressFault : Option ℕ → ℕ
@@ -186,15 +198,16 @@ addressFault none = 0
 addressFault (some a) = pick (eqb (a % 4) 0) 0 66
 
 -- "empty name; over 32 bytes; empty filename; unknown partition; duplicate name"; "validation compares an
--- application's exactly"
-unfoldable pub applicationFault : List (List ℕ) → List (List ℕ) → Application → ℕ
+-- application's exactly", for 64 and for 67
+unfoldable pub applicationFault : List Partition → List (List ℕ) → Application → ℕ
 applicationFault parts earlier a =
     pick (nil? (a .name)) 61
     (pick (long (a .name)) 62
     (pick (nil? (a .filename)) 63
-    (pick (among (a .partition) parts) (pick (among (a .name) earlier) 65 (addressFault (a .loadAddress))) 64)))
+    (orElse (placeFault (firstNamed (a .partition) parts))
+    (pick (among (a .name) earlier) 65 (addressFault (a .loadAddress))))))
 
-unfoldable pub applicationRules : List (List ℕ) → List Application → Verdict
+unfoldable pub applicationRules : List Partition → List Application → Verdict
 applicationRules parts apps =
     inTurn (applicationFault parts) (λ earlier a. withLast earlier (a .name)) inApplication 0 [] apps
 
@@ -219,7 +232,7 @@ rules r =
     (firstRefusal (layout (r .board .chip) (r .partitions))
     (firstRefusal (componentRules (partitionNames (r .partitions)) (r .components))
     (firstRefusal (featureRules (r .components) (r .applications))
-    (firstRefusal (applicationRules (partitionNames (r .partitions)) (r .applications))
+    (firstRefusal (applicationRules (r .partitions) (r .applications))
     (bootRule (partitionNames (r .partitions)) (r .components))))))
 
 unfoldable pub computes : Unit {0}

@@ -102,10 +102,12 @@ pub record Image : Type 0 where
   pub bootApp : List ℕ
 
 -- document 003, `PartitionSpec`
+-- W-206: "the boolean `locked`, .. kept in its record"
 pub record Partition : Type 0 where
   pub name : List ℕ
   pub offset : ℕ
   pub size : ℕ
+  pub locked : Bool
 
 -- document 003, `ComponentSpec`, in four groups that follow 01's order of reading: what it is and what it is made from,
 pub record Head : Type 0 where

@@ -109,7 +109,7 @@ pub fn entry_table(tree: &[u8], made: usize, v: Value) -> crate::front::TableRea
     }
 }
 
-// `name`, `offset`, `size`.
+// `name`, `offset`, `size`, `locked`.
 fn read_partition(tree: &[u8], store: &[u8], f: Fields) -> PartitionRead
     requires { ⌜ Spread (now tree) f ⌝ }
     ensures { λ r. ⌜ r ≡ entries.partitionRead (now (tree .entry)) (now (store .entry)) f ⌝ }
@@ -117,16 +117,18 @@ fn read_partition(tree: &[u8], store: &[u8], f: Fields) -> PartitionRead
     let n = crate::field::text_needed(tree, store, f, b"name");
     let o = crate::field::number_needed(tree, store, f, b"offset");
     let s = crate::field::number_needed(tree, store, f, b"size");
+    let l = crate::field::flag(tree, store, f, b"locked");
     let name = n.text;
     let offset = o.number;
     let size = s.number;
     PartitionRead {
-        fault: first_fault(n.fault, first_fault(o.fault, s.fault)),
+        fault: first_fault(n.fault, first_fault(o.fault, first_fault(s.fault, l.fault))),
         partition: Partition {
             from: name.start(),
             len: name.length(),
             offset: offset.or(0),
             size: size.or(0),
+            locked: l.flag,
         },
     }
 }
@@ -193,6 +195,7 @@ fn no_partitions(number: u32, place: usize) -> Partitions
         len: 0,
         offset: 0,
         size: 0,
+        locked: false,
     };
     Partitions {
         fault: crate::refusal_at(crate::IN_PARTITION, number, place),
@@ -211,6 +214,7 @@ fn each_partition(tree: &[u8], store: &[u8], made: usize, place: u16, end: usize
         len: 0,
         offset: 0,
         size: 0,
+        locked: false,
     };
     let mut items = [blank; meaning::PARTITIONS];
     let mut i = 0;

@@ -10,7 +10,7 @@ ghost use Rattle.preset.specs.Listings as listings;
 ghost use Rattle.preset.specs.Listings.{Emptied, Lined, Planned, Lists};
 
 // An output of so many bytes, and those of the lent name, takes every listing.
-pub const LISTING_BYTES: usize = 73728;
+pub const LISTING_BYTES: usize = 73984;
 // A name from here on: what is written with it could not be counted in 32 bits.
 const NAME_TOO_LONG: usize = 4294967296 - LISTING_BYTES;
 

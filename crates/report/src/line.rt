@@ -7,6 +7,7 @@ use schema::Chip;
 use schema::Media;
 use schema::Partition;
 use schema::Text;
+ghost use mathlib.Core.List.{_∷_};
 ghost use Rattle.meaning.specs.Listing as meant;
 ghost use Rattle.schema.specs.Texts.{spelled};
 ghost use Rattle.page.specs.Page.{Wrote};
@@ -50,7 +51,17 @@ pub fn ok(out: &mut [u8], at: usize, tree: &[u8], store: &[u8], p: Placed) -> us
     counts(out, to, tree, store, p)
 }
 
-// `part`: name, start, end.
+// Whether applications may lie there.
+fn lock(out: &mut [u8], at: usize, locked: bool) -> usize
+    ensures { λ r. ⌜ Wrote (32 ∷ meant.lockWord locked) (now (out .entry)) at (now (out .exit)) r ⌝ }
+{
+    if locked {
+        return page::field(out, at, b"locked");
+    }
+    page::field(out, at, b"open")
+}
+
+// `part`: name, start, end, `locked` or `open`.
 pub fn part(out: &mut [u8], at: usize, store: &[u8], p: Partition) -> usize
     ensures { λ r. ⌜ Wrote (shown.part (now (store .entry)) p) (now (out .entry)) at (now (out .exit)) r ⌝ }
 {
@@ -58,7 +69,8 @@ pub fn part(out: &mut [u8], at: usize, store: &[u8], p: Partition) -> usize
     let b = page::field(out, a, schema::stored(store, p.from, p.len));
     let c = page::number(out, b, p.offset as u64);
     let d = page::number(out, c, layout::end_of(p));
-    page::put(out, d, b"\n")
+    let e = lock(out, d, p.locked);
+    page::put(out, e, b"\n")
 }
 
 // `comp`: name, kind, reference.

@@ -399,12 +399,13 @@ pub struct Image {
     pub app: Text,
 }
 
-// Its name is len bytes from a place of some lent bytes on.
+// Its name is len bytes from a place of some lent bytes on. No application may lie in a locked one.
 pub struct Partition {
     pub from: usize,
     pub len: usize,
     pub offset: u32,
     pub size: u32,
+    pub locked: bool,
 }
 
 pub struct Head {

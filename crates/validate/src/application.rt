@@ -1,4 +1,4 @@
-// 61 to 66: what an application's own rules say, and the entry it makes.
+// 61 to 67: what an application's own rules say, and the entry it makes.
 
 use crate::Entry;
 use crate::uses::Pair;
@@ -13,10 +13,11 @@ use schema::spot::bytes_spot;
 use turns::Mark;
 ghost use mathlib.Core.Path.{_≡_};
 ghost use Prim.Native.Nat.{_≤_};
+ghost use lib.ListN.{take};
 ghost use Rattle.meaning.specs.Rules as meant;
 ghost use Rattle.tree.specs.Doors.{Rooms, Stood};
 ghost use Rattle.schema.specs.Texts.{amount};
-ghost use Rattle.validate.specs.Entries.{partNames};
+ghost use Rattle.layout.specs.Parts.{placeFault};
 ghost use Rattle.validate.specs.Entries as entries;
 
 // Whether a text has no bytes.
@@ -30,9 +31,24 @@ fn is_empty(store: &[u8], t: Text) -> bool
     }
 }
 
-// 61 to 64: empty name; over 32 bytes; empty filename; unknown partition.
-fn early_fault(store: &[u8], a: Application, known: bool) -> u32
-    ensures { λ r. ⌜ r ≡ entries.earlyFault (now (store .entry)) known a ⌝ }
+// 64, 67: unknown partition; a locked one.
+fn place_fault(items: [Partition; PARTITIONS], count: usize, at: usize) -> u32
+    requires { ⌜ count ≤ 32 ⌝ }
+    ensures { λ r. ⌜ r ≡ placeFault (take count items) at ⌝ }
+{
+    if count <= at {
+        return 64;
+    }
+    let p = items[at];
+    if p.locked {
+        return 67;
+    }
+    0
+}
+
+// 61 to 63: empty name; over 32 bytes; empty filename; then what its partition's place says.
+fn early_fault(store: &[u8], a: Application, place: u32) -> u32
+    ensures { λ r. ⌜ r ≡ entries.earlyFault (now (store .entry)) place a ⌝ }
 {
     let name = a.name;
     let n = schema::stored(store, name.start(), name.length()).len();
@@ -46,10 +62,7 @@ fn early_fault(store: &[u8], a: Application, known: bool) -> u32
     if is_empty(store, filename) {
         return 63;
     }
-    if known {
-        return 0;
-    }
-    64
+    place
 }
 
 // 66: load address not a multiple of 4.
@@ -76,8 +89,7 @@ fn entry_of(
     count: usize,
 ) -> Entry
     requires { ⌜ count ≤ 32 ⌝ }
-    ensures { λ r. ⌜ r ≡ entries.applicationEntry (now (store .entry)) (partNames (now (store .entry)) count items)
-        fault pair a ⌝ }
+    ensures { λ r. ⌜ r ≡ entries.applicationEntry (now (store .entry)) (take count items) fault pair a ⌝ }
 {
     let name = a.name;
     let partition = a.partition;
@@ -89,7 +101,7 @@ fn entry_of(
         mark: Mark {
             from: name.start(),
             len: name.length(),
-            early: early_fault(store, a, at < count),
+            early: early_fault(store, a, place_fault(items, count, at)),
             late: address_fault(address),
         },
         pair,
@@ -107,8 +119,7 @@ pub fn entry(
     count: usize,
 ) -> Entry
     requires { ⌜ Rooms (now tree) made × Stood (now tree) n × (count ≤ 32) ⌝ }
-    ensures { λ r. ⌜ r ≡ entries.applicationAt (now (tree .entry)) (now (store .entry)) made
-        (partNames (now (store .entry)) count items) n ⌝ }
+    ensures { λ r. ⌜ r ≡ entries.applicationAt (now (tree .entry)) (now (store .entry)) made (take count items) n ⌝ }
 {
     let r = parse::entry::application_at(tree, store, made, n, FEATURES);
     let a = r.application;

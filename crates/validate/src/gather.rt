@@ -134,7 +134,7 @@ pub fn each_application(
 ) -> Applied
     requires { ⌜ Followed (now tree) made (l .end) (p .count) (c .count) ⌝ }
     ensures { λ r. ⌜ Applications (now (tree .entry)) (now (store .entry)) made (l .place) (l .end)
-        (partNames (now (store .entry)) (p .count) (p .items)) (take (c .count) (c .pairs)) r ⌝ }
+        (take (p .count) (p .items)) (take (c .count) (c .pairs)) r ⌝ }
 {
     let items = p.items;
     let count = p.count;
