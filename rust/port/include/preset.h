@@ -26,7 +26,7 @@ extern "C" {
 #define PRESET_STORE_MIN 32768
 #define PRESET_TREE_MIN (2048 * PRESET_VALUE_SIZE)
 #define PRESET_SCRATCH_MIN 32769
-#define PRESET_OUT_MIN(name_length) (73728 + (name_length))
+#define PRESET_OUT_MIN(name_length) (73984 + (name_length))
 /* Enough for every fixed word. */
 #define PRESET_WORD_MIN 32
 /* The number of the fixed word `.aic`. */
@@ -132,8 +132,8 @@ typedef struct {
     preset_bytes platform, product, version, media_id, app;
 } preset_image_view;
 typedef struct { size_t partitions, components, applications; } preset_count_view;
-/* Its name is len bytes of the store from `from` on. */
-typedef struct { uint32_t found, offset, size; size_t from, len; } preset_partition_view;
+/* Its name is len bytes of the store from `from` on; locked is 1 where no application may lie in it, else 0. */
+typedef struct { uint32_t found, offset, size; size_t from, len; uint32_t locked; } preset_partition_view;
 /* The fields of a component are in four groups: this and the next three. */
 typedef struct { uint32_t found, kind; preset_bytes name, package, bin, file, filename; } preset_head_view;
 typedef struct {

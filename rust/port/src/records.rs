@@ -91,6 +91,8 @@ pub struct PartitionView {
     pub from: usize,
     /// How many bytes its name has.
     pub len: usize,
+    /// 1 where no application may lie in it, else 0.
+    pub locked: u32,
 }
 
 /// What a component is and what it is made from. `kind` 1: app; 2: pbp; 3: raw.

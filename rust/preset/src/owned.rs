@@ -135,6 +135,7 @@ impl Shown<'_> {
             name: text(name.to_vec())?,
             offset: partition.offset,
             size: partition.size,
+            locked: flag(partition.locked)?,
         }))
     }
 

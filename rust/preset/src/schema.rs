@@ -232,6 +232,8 @@ pub struct PartitionSpec {
     pub offset: u32,
     /// How many bytes it has.
     pub size: u32,
+    /// Whether no application may lie in it; false where the preset does not say so.
+    pub locked: bool,
 }
 
 impl PartitionSpec {

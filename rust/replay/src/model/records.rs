@@ -284,6 +284,7 @@ fn partition(fields: Fields) -> Field<PartitionSpec> {
         name: fields.needed(fields.text("name")?)?,
         offset: fields.needed(fields.number("offset")?)?,
         size: fields.needed(fields.number("size")?)?,
+        locked: fields.flag("locked")?,
     })
 }
 

@@ -147,6 +147,8 @@ pub(crate) fn partition(p: theirs::PartitionSpec) -> PartitionSpec {
         name: p.name,
         offset: p.offset,
         size: p.size,
+        // it knows no locks
+        locked: false,
     }
 }
 
