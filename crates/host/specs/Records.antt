@@ -143,11 +143,11 @@ imageOf i =
     }
 
 abbrev pub noPartition : PartitionView
-noPartition = record { found = 0; offset = 0; size = 0; from = 0; len = 0 }
+noPartition = record { found = 0; offset = 0; size = 0; from = 0; len = 0; locked = 0 }
 
 abbrev pub partitionOf : PartitionFound → PartitionView
 partitionOf partitions.Nothing = noPartition
-partitionOf (partitions.At p) = record { found = 1; offset = p .offset; size = p .size; from = p .from; len = p .len }
+partitionOf (partitions.At p) = record { found = 1; offset = p .offset; size = p .size; from = p .from; len = p .len; locked = flagNumber (p .locked) }
 
 abbrev pub headOf : ComponentFound → HeadView
 headOf components.Nothing = record { found = 0; kind = 0; name = noBytes; «package» = noBytes; bin = noBytes; file = noBytes; filename = noBytes }

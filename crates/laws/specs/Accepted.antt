@@ -469,7 +469,7 @@ pub record Groups (r : Preset) : Type 0 where
   pub laid : layout (r .board .chip) (r .partitions) ≡ fine
   pub made : componentRules (partitionNames (r .partitions)) (r .components) ≡ fine
   pub built : featureRules (r .components) (r .applications) ≡ fine
-  pub applied : applicationRules (partitionNames (r .partitions)) (r .applications) ≡ fine
+  pub applied : applicationRules (r .partitions) (r .applications) ≡ fine
   pub booted : bootRule (partitionNames (r .partitions)) (r .components) ≡ fine
 
 pub rules-groups : (r : Preset) → rules r ≡ fine → Groups r
@@ -485,7 +485,7 @@ rules-groups r e =
       made = and-first _ _ e₂;
       built = and-first _ _ e₃;
       applied = and-first _ _ e₄;
-      booted = and-second (applicationRules (partitionNames (r .partitions)) (r .applications)) _ e₄;
+      booted = and-second (applicationRules (r .partitions) (r .applications)) _ e₄;
     }
 
 pub groups-rules : (r : Preset) → Groups r → rules r ≡ fine

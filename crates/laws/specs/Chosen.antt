@@ -7,9 +7,9 @@ use mathlib.Core.Path.{_≡_, refl, sym, ap, _∙_, subst}
 use native.Mathlib.Omega.{arith}
 use Rattle.meaning.specs.Base.{pick, nil?, same}
 use Rattle.meaning.specs.Refusal.{numbered, accepted, inApplication}
-use Rattle.meaning.specs.Schema.{Component, Application, Preset}
-use Rattle.meaning.specs.Verdict.{fine, among, long}
-use Rattle.meaning.specs.Rules.{applicationFault, applicationRules}
+use Rattle.meaning.specs.Schema.{Partition, Component, Application, Preset}
+use Rattle.meaning.specs.Verdict.{fine, among, long, orElse}
+use Rattle.meaning.specs.Rules.{partitionNames, firstNamed, placeFault, applicationFault, applicationRules}
 use Rattle.meaning.specs.Plan.{Selection, bootChain, app, Plan, Entry, declared, componentNames, admitted, chosen, composed, planOf}
 use Rattle.laws.specs.Cases.{on, never}
 use Rattle.laws.specs.Order.{same-eq, eq-same}
@@ -119,20 +119,34 @@ chosen-in r (app key) a e = go (declared 0 key (r .applications)) refl e
         (λ t. refused-never (numbered 81) inApplication (x .place) (some a) (rw t at f))
         (λ t. found x h (some-one (x .application) a (accepted-one (some (x .application)) (some a) (rw t at f))))
 
--- 64: an accepted application's partition is there, "exactly"
-known : (parts earlier : List (List ℕ)) (a : Application) → applicationFault parts earlier a ≡ 0 → among (a .partition) parts ≡ true
-unfolding applicationFault
-known parts earlier a e = go (nil? (a .name)) (long (a .name)) (nil? (a .filename)) (among (a .partition) parts) _ e
-  where
-    go : (unnamed far unfiled there : Bool) (n : ℕ) → pick unnamed 61 (pick far 62 (pick unfiled 63 (pick there n 64))) ≡ 0 → there ≡ true
-    go true far unfiled there n f = absurd (omega (arith, f))
-    go false true unfiled there n f = absurd (omega (arith, f))
-    go false false true there n f = absurd (omega (arith, f))
-    go false false false true n f = refl
-    go false false false false n f = absurd (omega (arith, f))
+-- there is a partition of that name, and the first is open
+pub record Open (name : List ℕ) (parts : List Partition) : Type 0 where
+  pub partition : Partition
+  pub named : firstNamed name parts ≡ some partition
+  pub unlocked : partition .locked ≡ false
 
-pub application-known : (parts : List (List ℕ)) (apps : List Application) (a : Application) → applicationRules parts apps ≡ fine → In a apps → among (a .partition) parts ≡ true
+pub named-among : (name : List ℕ) (parts : List Partition) (p : Partition) → firstNamed name parts ≡ some p → among name (partitionNames parts) ≡ true
+named-among name [] p e = none-some p e
+named-among name (q ∷ parts) p e = on (same name (q .name)) (λ t. rw t) (λ t. rw t (named-among name parts p (rw t at e)))
+
+-- 64, 67: an accepted application's partition is there, "exactly", and open
+placed-open : (parts : List Partition) (earlier : List (List ℕ)) (a : Application) → applicationFault parts earlier a ≡ 0 → Open (a .partition) parts
+unfolding applicationFault
+placed-open parts earlier a e = go (nil? (a .name)) (long (a .name)) (nil? (a .filename)) (firstNamed (a .partition) parts) _ refl e
+  where
+    go : (unnamed far unfiled : Bool) (o : Option Partition) (n : ℕ) → firstNamed (a .partition) parts ≡ o
+        → pick unnamed 61 (pick far 62 (pick unfiled 63 (orElse (placeFault o) n))) ≡ 0 → Open (a .partition) parts
+    go true far unfiled o n h f = absurd (omega (arith, f))
+    go false true unfiled o n h f = absurd (omega (arith, f))
+    go false false true o n h f = absurd (omega (arith, f))
+    go false false false none n h f = absurd (omega (arith, f))
+    go false false false (some p) n h f =
+        on (p .locked)
+        (λ t. let z : _≡_ {A = ℕ} 67 0 = rw t at f in absurd (omega (arith, z)))
+        (λ t. record { partition = p; named = h; unlocked = t })
+
+pub application-open : (parts : List Partition) (apps : List Application) (a : Application) → applicationRules parts apps ≡ fine → In a apps → Open (a .partition) parts
 unfolding applicationRules
-application-known parts apps a e h =
-    all-of (λ (b : Application). among (b .partition) parts ≡ true) apps (h .0) a
-    (passes-all _ (applicationFault parts) _ (λ earlier b z. known parts earlier b z) [] apps (fine-passes (applicationFault parts) _ _ 0 [] apps e)) (h .1)
+application-open parts apps a e h =
+    all-of (λ (b : Application). Open (b .partition) parts) apps (h .0) a
+    (passes-all _ (applicationFault parts) _ (λ earlier b z. placed-open parts earlier b z) [] apps (fine-passes (applicationFault parts) _ _ 0 [] apps e)) (h .1)

@@ -16,11 +16,11 @@ use Rattle.meaning.specs.Tree.{Table}
 use Rattle.meaning.specs.Utf8.{valid}
 use Rattle.meaning.specs.Schema.{Chip, Media, Kind, d13x, d21x, spiNor, spiNand, kindApp, kindPbp, kindRaw, chipWord, mediaWord, kindWord, Partition, Component, Application, Preset}
 use Rattle.meaning.specs.Verdict.{fine, among, long, withLast}
-use Rattle.meaning.specs.Rules.{applicationFault, applicationRules, partitionNames, rules}
+use Rattle.meaning.specs.Rules.{applicationFault, applicationRules, rules}
 use Rattle.meaning.specs.Document.{Parsed, document}
 use Rattle.meaning.specs.Records.{lentName}
 use Rattle.meaning.specs.Plan.{bootChain, Build, Plan, Planned, built?, wanted, wantedBy, firstUses, inOrder, buildsOf, firstApp, app?, ownStem, stemFor, chosen, composed, planOf, plan}
-use Rattle.meaning.specs.Listing.{digits, decimal, spaced, line, okLine, partLine, dashed, compLine, appLine, buildLine, stemLine, each, linesOf, outSize, listed}
+use Rattle.meaning.specs.Listing.{digits, decimal, spaced, line, okLine, lockWord, partLine, dashed, compLine, appLine, buildLine, stemLine, each, linesOf, outSize, listed}
 use Rattle.laws.specs.Cases.{on}
 use Rattle.laws.specs.Answers.{accepted-one, refused-never}
 use Rattle.laws.specs.Accepted.{All, Sound, Groups, rules-groups, layout-sound, passes-all, fine-passes}
@@ -82,6 +82,11 @@ kind-short kindApp = omega arith
 kind-short kindPbp = omega arith
 kind-short kindRaw = omega arith
 
+lock-short : (b : Bool) → length (lockWord b) ≤ 6
+unfolding lockWord
+lock-short true = omega arith
+lock-short false = omega arith
+
 dashed-short : (s : List ℕ) → length (dashed s) ≤ 1 + length s
 unfolding dashed
 dashed-short s = on (nil? s) (λ e. rw e (omega arith)) (λ e. rw e (omega arith))
@@ -100,10 +105,16 @@ ok-short made r =
       decimal-most made,
     )
 
-part-short : (block : ℕ) (p : Partition) → Sound block p → length (partLine p) ≤ 28 + length (p .name)
+part-short : (block : ℕ) (p : Partition) → Sound block p → length (partLine p) ≤ 35 + length (p .name)
 unfolding partLine
 part-short block p h =
-    omega (arith, line-length (ascii "part") (p .name ∷ decimal (p .offset) ∷ decimal (p .offset + p .size) ∷ []), decimal-short (p .offset) (omega (arith, h .fits)), decimal-short (p .offset + p .size) (h .fits))
+    omega (
+      arith,
+      line-length (ascii "part") (p .name ∷ decimal (p .offset) ∷ decimal (p .offset + p .size) ∷ lockWord (p .locked) ∷ []),
+      decimal-short (p .offset) (omega (arith, h .fits)),
+      decimal-short (p .offset + p .size) (h .fits),
+      lock-short (p .locked),
+    )
 
 comp-short : (c : Component) → length (compLine c) ≤ 12 + (length (c .head .name) + length (c .role .partition))
 unfolding compLine
@@ -134,7 +145,7 @@ all-any [] = tt
 all-any (x ∷ xs) = (tt, all-any xs)
 
 -- 62: no name is over 32 bytes
-application-short : (parts earlier : List (List ℕ)) (a : Application) → applicationFault parts earlier a ≡ 0 → length (a .name) ≤ 32
+application-short : (parts : List Partition) (earlier : List (List ℕ)) (a : Application) → applicationFault parts earlier a ≡ 0 → length (a .name) ≤ 32
 unfolding applicationFault
 application-short parts earlier a e = ltb-false 32 (length (a .name)) (go (nil? (a .name)) (long (a .name)) _ e)
   where
@@ -143,7 +154,7 @@ application-short parts earlier a e = ltb-false 32 (length (a .name)) (go (nil? 
     go false true n f = absurd (omega (arith, f))
     go false false n f = refl
 
-applications-short : (parts : List (List ℕ)) (apps : List Application) → applicationRules parts apps ≡ fine → All (λ (a : Application). length (a .name) ≤ 32) apps
+applications-short : (parts : List Partition) (apps : List Application) → applicationRules parts apps ≡ fine → All (λ (a : Application). length (a .name) ≤ 32) apps
 unfolding applicationRules
 applications-short parts apps e =
     passes-all _ (applicationFault parts) _ (λ earlier a z. application-short parts earlier a z) [] apps (fine-passes (applicationFault parts) _ _ 0 [] apps e)
@@ -216,16 +227,16 @@ module _ (lim : Limits) where
 
 -- ---- all lines
 
--- 101 for `ok`; 28 for each of 32 partitions; 68 for each of 64 components, 12 and two builds of 28; 43 for each of 64 applications, 40 and the default `app`; 11 for the
--- stem, 6 and `board` in the place of the lent name: 8,112 in all. The rest stands in the tree, and the stem once more
-lines-fit : (made : ℕ) (name : List ℕ) (root : Table) (r : Preset) → rules r ≡ fine → Costs root 28 68 40 of01 name r → weightIn root ≤ 32768
+-- 101 for `ok`; 35 for each of 32 partitions; 68 for each of 64 components, 12 and two builds of 28; 43 for each of 64 applications, 40 and the default `app`; 11 for the
+-- stem, 6 and `board` in the place of the lent name: 8,336 in all. The rest stands in the tree, and the stem once more
+lines-fit : (made : ℕ) (name : List ℕ) (root : Table) (r : Preset) → rules r ≡ fine → Costs root 35 68 40 of01 name r → weightIn root ≤ 32768
     → length (linesOf made r (composed r bootChain none)) ≤ outSize name
 unfolding linesOf composed
 lines-fit made name root r obeys c w =
     let g : Groups r = rules-groups r obeys in
-    let parts = each-short (Sound _) partLine (partCost 28) (part-short _) (r .partitions) (layout-sound (r .board .chip) (r .partitions) (g .laid)) in
+    let parts = each-short (Sound _) partLine (partCost 35) (part-short _) (r .partitions) (layout-sound (r .board .chip) (r .partitions) (g .laid)) in
     let comps = each-short (λ x. Unit {0}) compLine compSize (λ x _. comp-short x) (r .components) (all-any (r .components)) in
-    let apps = each-short (λ a. length (a .name) ≤ 32) appLine (appCost 40) app-short (r .applications) (applications-short (partitionNames (r .partitions)) (r .applications) (g .applied)) in
+    let apps = each-short (λ a. length (a .name) ≤ 32) appLine (appCost 40) app-short (r .applications) (applications-short (r .partitions) (r .applications) (g .applied)) in
     let builds = each-short (λ b. Unit {0}) buildLine buildCost (λ b _. build-short b) (buildsOf none (r .components)) (all-any (buildsOf none (r .components))) in
     let stem = stem-fits (32773 + length name) r (omega (arith, c .stems, root-holds root)) (omega (arith, c .board, lent-short name)) in
     simp length-append (omega (arith, ok-short made r, parts, comps, apps, builds, builds-sum (r .components), stem, stem-short (stemFor r bootChain), root-holds root, c .parts, c .comps, c .apps))
@@ -242,4 +253,4 @@ planned-fits store tree name text x e =
     let root = x .read .parsed .root in
     subst (λ (p : Plan). length (linesOf (x .read .parsed .made) (x .read .preset) p) ≤ outSize name) (plan-is (x .read .preset) (x .plan) (h .1))
     (lines-fit (x .read .parsed .made) name root (x .read .preset) (valid-rules of01 store tree name text (x .read) (h .0))
-    (subst (Tells (Costs root 28 68 40 of01 name)) (q .1) (preset-costs root 28 68 40 of01 name)) (text-weighs of01 text (x .read .parsed) (q .0)))
+    (subst (Tells (Costs root 35 68 40 of01 name)) (q .1) (preset-costs root 35 68 40 of01 name)) (text-weighs of01 text (x .read .parsed) (q .0)))

@@ -138,7 +138,7 @@ module _ (f : Table) where
 
   partition-by : Faults (partitionFrom f)
   unfolding partitionFrom
-  partition-by = next (required-by text-by f _) (λ name. next (required-by number-by f _) (λ offset. next (required-by number-by f _) (λ size. none-bad)))
+  partition-by = next (required-by text-by f _) (λ name. next (required-by number-by f _) (λ offset. next (required-by number-by f _) (λ size. next (defaulted-by flag-by f _ _) (λ locked. none-bad))))
 
   head-by : Faults (headFrom f)
   unfolding headFrom
@@ -310,7 +310,7 @@ feature-rules : (cs : List Component) (apps : List Application) → Refusals (fe
 unfolding featureRules
 feature-rules cs apps = after (turns-by _ _ _ 0 _ cs) (λ _. turns-by _ _ _ 0 _ apps)
 
-application-rules : (parts : List (List ℕ)) (apps : List Application) → Refusals (applicationRules parts apps)
+application-rules : (parts : List Partition) (apps : List Application) → Refusals (applicationRules parts apps)
 unfolding applicationRules
 application-rules parts apps = turns-by _ _ _ 0 _ apps
 
@@ -326,7 +326,7 @@ rules-by r =
     after (layout-by (r .board .chip) (r .partitions)) (λ _.
     after (component-rules (partitionNames (r .partitions)) (r .components)) (λ _.
     after (feature-rules (r .components) (r .applications)) (λ _.
-    after (application-rules (partitionNames (r .partitions)) (r .applications)) (λ _.
+    after (application-rules (r .partitions) (r .applications)) (λ _.
     boot-rule (partitionNames (r .partitions)) (r .components))))))
 
 -- ---- plans

@@ -179,7 +179,8 @@ module _ (t : Table) where
   partition-says =
       via-says (λ s. length s ≤ held t (ascii "name")) Light (required aText t (ascii "name")) _ named (λ name n.
       skip Light (required aNumber t (ascii "offset")) _ (λ _.
-      skip Light (required aNumber t (ascii "size")) _ (λ _. omega (arith, held-weighs t (ascii "name" ∷ []) (refl, tt)))))
+      skip Light (required aNumber t (ascii "size")) _ (λ _.
+      skip Light (defaulted aFlag false t (ascii "locked")) _ (λ _. omega (arith, held-weighs t (ascii "name" ∷ []) (refl, tt))))))
     where
       Light : Partition → Type 0
       Light p = length (p .name) ≤ weightIn t

@@ -1,5 +1,6 @@
 -- A layout: one law for each way out.
 use Prim.Native.Nat.{ℕ, _≤_}
+use mathlib.Core.Bool.{false}
 use mathlib.Core.List.{List, _∷_, map}
 use mathlib.Core.Path.{_≡_, _∙_}
 use native.Mathlib.Omega.{arith}
@@ -24,7 +25,7 @@ on-blocks chip block n h e = record { fits = h; some = rw e (block-some chip) }
 
 -- what stands past the end of a list of partitions
 abbrev pub noPart : Partition
-noPart = record { from = 0; len = 0; offset = 0; size = 0 }
+noPart = record { from = 0; len = 0; offset = 0; size = 0; locked = false }
 
 module _ (chip : schemas.Chip) (bytes : List ℕ) (ps : List Partition) (n : ℕ) where
   pub check-none : n ≡ 0 → record { number = 40; place = 0 } ≡ faultOf (meant.layout chip (map (partMeant bytes) (take n ps)))

@@ -24,7 +24,7 @@ abbrev pub partName : List ℕ → Partition → List ℕ
 partName bytes p = clip (p .from) (p .len) bytes
 
 abbrev pub partMeant : List ℕ → Partition → schemas.Partition
-partMeant bytes p = record { name = partName bytes p; offset = p .offset; size = p .size }
+partMeant bytes p = record { name = partName bytes p; offset = p .offset; size = p .size; locked = p .locked }
 
 abbrev pub endOf : Partition → ℕ
 endOf p = p .offset + p .size

@@ -33,6 +33,13 @@ spaced (f ∷ fs) = space ∷ (f ++ spaced fs)
 abbrev pub line : List ℕ → List (List ℕ) → List ℕ
 line word fields = word ++ (spaced fields ++ (lineFeed ∷ []))
 
+-- ---- W-206: the word of a lock
+
+-- "printed last on its `part` line as `locked` or `open`"
+unfoldable pub lockWord : Bool → List ℕ
+lockWord true = ascii "locked"
+lockWord false = ascii "open"
+
 -- ---- the lines
 
 -- "`ok`: chip, media, partitions, components, applications, values made"
@@ -46,11 +53,6 @@ okLine made r =
     ∷ decimal (length (r .applications))
     ∷ decimal made
     ∷ [])
-
--- W-206: "printed last on its `part` line as `locked` or `open`"
-unfoldable pub lockWord : Bool → List ℕ
-lockWord true = ascii "locked"
-lockWord false = ascii "open"
 
 -- "`part`: name, start, end", and the lock
 unfoldable pub partLine : Partition → List ℕ

@@ -73,10 +73,10 @@ frontOf lent root =
     acceptedThen (outside inBoard (boardFrom lent chip b)) (λ board.
     acceptedThen (outside inImage (imageFrom chip i)) (λ image. accepted (record { board = board; image = image }))))))
 
--- ---- partitions
+-- ---- partitions; by W-206 each may be locked
 
--- "partitions (`name`, `offset`, `size`)"
--- W-206: "A partition may hold the boolean `locked`, false if absent"; "wrong kind is 20, read after `size`"
+-- "partitions (`name`, `offset`, `size`)". W-206: "A partition may hold the boolean `locked`, false if absent";
+-- "wrong kind is 20, read after `size`"
 unfoldable pub partitionFrom : Table → R Partition
 partitionFrom f = do
   name ← required aText f (ascii "name")

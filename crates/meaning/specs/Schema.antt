@@ -101,8 +101,7 @@ pub record Image : Type 0 where
   pub mediaId : List ℕ
   pub bootApp : List ℕ
 
--- document 003, `PartitionSpec`
--- W-206: "the boolean `locked`, .. kept in its record"
+-- document 003, `PartitionSpec`; W-206: "the boolean `locked`, .. kept in its record"
 pub record Partition : Type 0 where
   pub name : List ℕ
   pub offset : ℕ

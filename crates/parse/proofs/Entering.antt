@@ -52,13 +52,14 @@ use Rattle.parse.specs.declared.Refusal.{Refusal}
 use Rattle.parse.specs.declared.front.TableRead.{TableRead}
 use Rattle.parse.specs.declared.field.TextRead.{TextRead}
 use Rattle.parse.specs.declared.field.NumberRead.{NumberRead}
+use Rattle.parse.specs.declared.field.FlagRead.{FlagRead}
 use Rattle.parse.specs.declared.entry.List.{List}
 use Rattle.parse.specs.declared.entry.PartitionRead.{PartitionRead}
 use Rattle.parse.specs.declared.entry.Partitions.{Partitions}
 use Rattle.parse.specs.declared.component.ComponentRead.{ComponentRead}
 use Rattle.parse.specs.declared.application.ApplicationRead.{ApplicationRead}
 use Rattle.parse.specs.Refusals.{earlier}
-use Rattle.parse.specs.Fields.{firstFault, missing, textNeeded, numberNeeded}
+use Rattle.parse.specs.Fields.{firstFault, missing, textNeeded, numberNeeded, flagAt}
 use Rattle.parse.specs.Front.{noTable}
 use Rattle.parse.specs.Component.{componentRead}
 use Rattle.parse.specs.Application.{applicationRead}
@@ -158,13 +159,14 @@ pub table-spread : (room : Seq ℕ) (made : ℕ) (v : Value) (t : TableRead) →
 table-spread room made v t h e = rw e (entry-spread room made v h)
 
 module _ (room store : Seq ℕ) where
-  pub partition-is : (f : Fields) (n : TextRead) (o s : NumberRead) (late all from len offset size : ℕ)
+  pub partition-is : (f : Fields) (n : TextRead) (o s : NumberRead) (l : FlagRead) (last late all from len offset size : ℕ)
       → n ≡ textNeeded room store f (ascii "name") → o ≡ numberNeeded room store f (ascii "offset") → s ≡ numberNeeded room store f (ascii "size")
-      → late ≡ firstFault (o .fault) (s .fault) → all ≡ firstFault (n .fault) late
+      → l ≡ flagAt room store f (ascii "locked")
+      → last ≡ firstFault (s .fault) (l .fault) → late ≡ firstFault (o .fault) last → all ≡ firstFault (n .fault) late
       → from ≡ startOf (n .text) → len ≡ lengthOf (n .text) → offset ≡ orNumber (o .number) 0 → size ≡ orNumber (s .number) 0
-      → record { fault = all; partition = record { from = from; len = len; offset = offset; size = size } } ≡ partitionRead room store f
+      → record { fault = all; partition = record { from = from; len = len; offset = offset; size = size; locked = l .flag } } ≡ partitionRead room store f
   unfolding partitionRead
-  partition-is f n o s late all from len offset size e1 e2 e3 e4 e5 e6 e7 e8 e9 = rw (e5, e4, e6, e7, e8, e9, e1, e2, e3)
+  partition-is f n o s l last late all from len offset size e1 e2 e3 e4 e5 e6 e7 e8 e9 e10 e11 = rw (e7, e6, e5, e8, e9, e10, e11, e1, e2, e3, e4)
 
   module _ (made n : ℕ) (v : Value) (t : TableRead) (e1 : v ≡ valueAt room store n) (e2 : t ≡ entryTable room made v) (all : ℕ) where
     pub partition-at : (p : PartitionRead) → p ≡ partitionRead room store (t .fields) → all ≡ firstFault (t .fault) (p .fault)

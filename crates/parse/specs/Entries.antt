@@ -1,5 +1,6 @@
 -- Level 2 of the lists: where a list stands, an entry by the number of its value, and all entries in their order.
 use Prim.Native.Nat.{ℕ, zero, suc, _+_, _-_, _≤_}
+use mathlib.Core.Bool.{false}
 use mathlib.Core.List.{List as Seq, [], _∷_, _++_}
 use mathlib.Core.Path.{_≡_}
 use lib.Dec.{eqb, ltb}
@@ -30,7 +31,7 @@ use Rattle.parse.specs.declared.entry.Partitions.{Partitions}
 use Rattle.parse.specs.declared.component.ComponentRead.{ComponentRead}
 use Rattle.parse.specs.declared.application.ApplicationRead.{ApplicationRead}
 use Rattle.parse.specs.Refusals.{refusal, earlier}
-use Rattle.parse.specs.Fields.{firstFault, textNeeded, numberNeeded}
+use Rattle.parse.specs.Fields.{firstFault, textNeeded, numberNeeded, flagAt}
 use Rattle.parse.specs.Front.{noTable}
 use Rattle.parse.specs.Component.{componentRead}
 use Rattle.parse.specs.Application.{applicationRead}
@@ -110,13 +111,15 @@ module _ (room store : Seq ℕ) where
       let name = textNeeded room store f (ascii "name") in
       let offset = numberNeeded room store f (ascii "offset") in
       let size = numberNeeded room store f (ascii "size") in
+      let locked = flagAt room store f (ascii "locked") in
       record {
-        fault = firstFault (name .fault) (firstFault (offset .fault) (size .fault));
+        fault = firstFault (name .fault) (firstFault (offset .fault) (firstFault (size .fault) (locked .fault)));
         partition = record {
           from = startOf (name .text);
           len = lengthOf (name .text);
           offset = orNumber (offset .number) 0;
           size = orNumber (size .number) 0;
+          locked = locked .flag;
         };
       }
 
@@ -197,7 +200,7 @@ pub record Keyed (room store : Seq ℕ) (l : List) (most n : ℕ) : Type 0 where
 -- ---- partitions by value
 
 abbrev pub blank : Partition
-blank = record { from = 0; len = 0; offset = 0; size = 0 }
+blank = record { from = 0; len = 0; offset = 0; size = 0; locked = false }
 
 -- a refusal, and no partition
 abbrev pub NoPartitions : Refusal → Partitions → Type 0

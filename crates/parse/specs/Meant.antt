@@ -48,7 +48,7 @@ module _ (room store : List ℕ) (made : ℕ) where
         }
 
     abbrev pub partitionMeant : Partition → meant.Partition
-    partitionMeant p = record { name = clip (p .from) (p .len) store; offset = p .offset; size = p .size }
+    partitionMeant p = record { name = clip (p .from) (p .len) store; offset = p .offset; size = p .size; locked = p .locked }
 
     abbrev pub headMeant : Head → meant.Head
     headMeant h =

@@ -1,6 +1,6 @@
 -- Level 2 of references: the partition that one finds.
 use Prim.Native.Nat.{ℕ}
-use mathlib.Core.Bool.{true}
+use mathlib.Core.Bool.{true, false}
 use mathlib.Core.List.{List as Seq, [], map}
 use lib.Dec.{ltb}
 use lib.ListN.{length, getD}
@@ -20,7 +20,7 @@ given (accepted ps) = ps
 given (refused f section place) = []
 
 abbrev pub none : Partition
-none = record { from = 0; len = 0; offset = 0; size = 0 }
+none = record { from = 0; len = 0; offset = 0; size = 0; locked = false }
 
 module _ (store : Seq ℕ) where
   unfoldable pub found : Seq Partition → Text → PartitionFound

@@ -1,7 +1,7 @@
--- Level 2 of an entry's own rules: 52 to 59 of a component, 61 to 64 and 66 of an application.
-use Prim.Native.Nat.{ℕ}
+-- Level 2 of an entry's own rules: 52 to 59 of a component, 61 to 64, 66 and 67 of an application.
+use Prim.Native.Nat.{ℕ, zero, suc}
 use mathlib.Core.Bool.{Bool, true, false}
-use mathlib.Core.List.{List, map}
+use mathlib.Core.List.{List, [], _∷_, map}
 use lib.Dec.{eqb, ltb}
 use lib.ListN.{length, take}
 use Rattle.meaning.specs.Base.{pick, nil?}
@@ -81,20 +81,26 @@ isEmpty store texts.Lent = false
 isEmpty store (texts.Fixed w) = false
 isEmpty store (texts.WithAic from len) = false
 
--- 61 to 64; whether there is its partition is known
-unfoldable pub earlyFault : List ℕ → Bool → Application → ℕ
-earlyFault store known a =
-    pick (nil? (kept store (a .name))) 61 (pick (long (kept store (a .name))) 62 (pick (isEmpty store (a .filename)) 63 (pick known 0 64)))
+-- 64, 67: of the partition with that number, where there is one
+abbrev pub placeFault : List Partition → ℕ → ℕ
+placeFault [] n = 64
+placeFault (p ∷ ps) zero = pick (p .locked) 67 0
+placeFault (p ∷ ps) (suc n) = placeFault ps n
+
+-- 61 to 63, and then what its partition's place says
+unfoldable pub earlyFault : List ℕ → ℕ → Application → ℕ
+earlyFault store place a =
+    pick (nil? (kept store (a .name))) 61 (pick (long (kept store (a .name))) 62 (pick (isEmpty store (a .filename)) 63 place))
 
 -- with the fault of its record, and its package
-unfoldable pub applicationEntry : List ℕ → List (List ℕ) → ℕ → Pair → Application → Entry
-applicationEntry store parts fault pair a =
+unfoldable pub applicationEntry : List ℕ → List Partition → ℕ → Pair → Application → Entry
+applicationEntry store ps fault pair a =
     record {
       fault = fault;
       mark = record {
         from = startOf (a .name);
         len = lengthOf (a .name);
-        early = earlyFault store (ltb (aim false store parts (a .partition)) (length parts)) a;
+        early = earlyFault store (placeFault ps (aim false store (map (partName store) ps) (a .partition))) a;
         late = meant.addressFault (amount (a .«load_address»));
       };
       pair = pair;
@@ -103,11 +109,11 @@ applicationEntry store parts fault pair a =
 
 -- ---- by the number of a value
 
-module _ (room store : List ℕ) (made : ℕ) (parts : List (List ℕ)) where
-  abbrev pub componentAt : ℕ → Entry
-  componentAt n = componentEntry store parts (parsed.componentAt room store made n 32 .fault) (parsed.componentAt room store made n 32 .component)
+module _ (room store : List ℕ) (made : ℕ) where
+  abbrev pub componentAt : List (List ℕ) → ℕ → Entry
+  componentAt parts n = componentEntry store parts (parsed.componentAt room store made n 32 .fault) (parsed.componentAt room store made n 32 .component)
 
-  abbrev pub applicationAt : ℕ → Entry
-  applicationAt n =
+  abbrev pub applicationAt : List Partition → ℕ → Entry
+  applicationAt ps n =
       let a = parsed.applicationAt room store made n 32 in
-      applicationEntry store parts (a .fault) (pairOfApplication (keySpot room n) (a .application .features)) (a .application)
+      applicationEntry store ps (a .fault) (pairOfApplication (keySpot room n) (a .application .features)) (a .application)

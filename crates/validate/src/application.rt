@@ -17,7 +17,6 @@ ghost use lib.ListN.{take};
 ghost use Rattle.meaning.specs.Rules as meant;
 ghost use Rattle.tree.specs.Doors.{Rooms, Stood};
 ghost use Rattle.schema.specs.Texts.{amount};
-ghost use Rattle.layout.specs.Parts.{placeFault};
 ghost use Rattle.validate.specs.Entries as entries;
 
 // Whether a text has no bytes.
@@ -34,7 +33,7 @@ fn is_empty(store: &[u8], t: Text) -> bool
 // 64, 67: unknown partition; a locked one.
 fn place_fault(items: [Partition; PARTITIONS], count: usize, at: usize) -> u32
     requires { ⌜ count ≤ 32 ⌝ }
-    ensures { λ r. ⌜ r ≡ placeFault (take count items) at ⌝ }
+    ensures { λ r. ⌜ r ≡ entries.placeFault (take count items) at ⌝ }
 {
     if count <= at {
         return 64;

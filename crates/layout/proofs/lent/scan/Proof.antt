@@ -213,7 +213,7 @@ module _ {M : Type 1} (𝓤 : URA M) (H : Heap 𝓤) (A : Atoms 𝓤) (W : Given
           rewrite ! 1 (λ (t : Bool). ‵ (fat fullShare tyBool l₆ 0 (vbool t))) e refl $ stays ! (load ! (from ! (stop !)) (look ! 1 refl)) $
           assigns ! (bin ! (load ! (from ! (stop !)) (look ! 0 refl)) (lit ! tt) (record { fits = scaled })) (from ! (stop !)) (init ! 3 refl (tt, record { fits = scaled })) $
           assigns ! (bin ! (load ! (from ! (fld ! refl (stop !))) (look-in ! 7 (sub ! 0 refl (whole !)))) (load ! (from ! (stop !)) (look ! 3 refl)) tt) (from ! (stop !)) (init ! 4 refl (tt, tt)) $
-          rewrite ! 4 (λ (p : ℕ). ‵ (fat fullShare tyPtr l₉ 0 (vptr b p))) (sym (place-is 24 o (s .i))) refl $
+          rewrite ! 4 (λ (p : ℕ). ‵ (fat fullShare tyPtr l₉ 0 (vptr b p))) (sym (place-is 32 o (s .i))) refl $
           -- the slice is looked into, by a copy of what it owns, and the record is read
           move ! (13 ∷ []) $ use1 W (‵ OwnP ⊛ ‵ OwnP) (shr-slice-copy 𝓤 H A W (named 0) κ₁ T.the-row .twice items (vP ∷ [])) $ split ! $ fsplit ! $ drop ! $ fsplit ! $ drop ! $ move ! (0 ∷ 13 ∷ []) $
           looks-slice ! tt T.the-row (Is T.the-row) (shows 𝓤 H A T.the-row) (LL.vals T.the-type T′.the-laws) (LL.tells T.the-type T′.the-laws) (LL.copy T.the-type T′.the-copy 𝓤 H A W) ys b o (λ q′.
@@ -253,7 +253,7 @@ module _ {M : Type 1} (𝓤 : URA M) (H : Heap 𝓤) (A : Atoms 𝓤) (W : Given
           small : s .i < 2 ^ 64
           small = omega (arith, below)
 
-          scaled : s .i * 24 < 2 ^ 64
+          scaled : s .i * 32 < 2 ^ 64
           scaled = omega (arith, inside, gP .1)
 
           bigger : s .i + 1 < 2 ^ 64
