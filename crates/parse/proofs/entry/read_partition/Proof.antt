@@ -5,6 +5,7 @@ use Rattle.parse.proofs.entry.read_partition.Tie as tie
 use Rattle.parse.proofs.entry.read_partition.Reads as reads
 use Rattle.parse.proofs.entry.read_partition.Lts as lts
 use Rattle.parse.proofs.field.first_fault.Reads as first-fault-reads
+use Rattle.parse.proofs.field.flag.Reads as flag-reads
 use Rattle.parse.proofs.field.number_needed.Reads as number-needed-reads
 use Rattle.parse.proofs.field.text_needed.Reads as text-needed-reads
 use Rattle.schema.proofs.Number.or.Reads as or-reads
@@ -29,11 +30,20 @@ slice-aggregate-number-needed-2 c = search needs
 number-needed-requires-2 : tie.Need-number-needed-requires-2
 number-needed-requires-2 c κs = search needs
 
+slice-aggregate-flag : tie.Need-slice-aggregate-flag
+slice-aggregate-flag c = search needs
+
+flag-requires : tie.Need-flag-requires
+flag-requires c κs = search needs
+
 first-fault-requires : tie.Need-first-fault-requires
 first-fault-requires c κs = search needs
 
 first-fault-requires-2 : tie.Need-first-fault-requires-2
 first-fault-requires-2 c κs = search needs
+
+first-fault-requires-3 : tie.Need-first-fault-requires-3
+first-fault-requires-3 c κs = search needs
 
 start-requires : tie.Need-start-requires
 start-requires c κs = search needs
@@ -60,8 +70,11 @@ read-partition-spec =
     number-needed-requires
     slice-aggregate-number-needed-2
     number-needed-requires-2
+    slice-aggregate-flag
+    flag-requires
     first-fault-requires
     first-fault-requires-2
+    first-fault-requires-3
     start-requires
     length-requires
     or-requires
