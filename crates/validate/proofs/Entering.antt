@@ -1,12 +1,13 @@
 -- An entry's own rules, and the entry: one law for each way out.
-use Prim.Native.Nat.{ℕ, _-_, _%_, _≤_, _<_}
+use Prim.Native.Nat.{ℕ, zero, suc, _-_, _%_, _≤_, _<_}
 use mathlib.Core.Bool.{Bool, true, false}
 use mathlib.Core.List.{List, [], _∷_, map}
-use mathlib.Core.Path.{_≡_, refl, ap, _∙_}
+use mathlib.Core.Path.{_≡_, refl, sym, ap, _∙_}
 use native.Mathlib.Omega.{arith}
 use borrow.Author.Tests.{eq-eqb, ne-eqb, lt-ltb, le-ltb}
 use lib.Dec.{eqb, ltb}
-use lib.ListN.{length, take}
+use lib.ListN.{length, getD, take}
+use lib.Seq.{length-take-le}
 use Rattle.meaning.specs.Base.{pick, nil?}
 use Rattle.meaning.specs.Rules as meant
 use Rattle.laws.specs.Variants.{Left, others}
@@ -35,7 +36,7 @@ use Rattle.validate.specs.declared.uses.Pair.{Pair}
 use Rattle.validate.specs.Clashes.{pairOfComponent, pairOfApplication}
 use Rattle.validate.specs.Entries as entries
 use Rattle.validate.proofs.Pairing.{key-spot}
-use Rattle.validate.specs.Entries.{counted, kept, referred, isEmpty, componentEntry, applicationEntry}
+use Rattle.validate.specs.Entries.{counted, kept, referred, isEmpty, placeFault, componentEntry, applicationEntry}
 
 nil-long : (s : List ℕ) → eqb (length s) 0 ≡ nil? s
 nil-long [] = refl
@@ -116,30 +117,51 @@ empty-not store = others enum (λ t. false ≡ isEmpty store t) (2 ∷ 3 ∷ 4 �
 pub empty-stored : (store : List ℕ) (t : Text) (from len : ℕ) (s : List ℕ) → t ≡ texts.Stored from len → s ≡ clip from len store → eqb (length s) 0 ≡ isEmpty store t
 empty-stored store t from len s e h = rw e (rw (← h) (nil-long s))
 
-module _ (store : List ℕ) (known : Bool) (a : Application) (from len : ℕ) (p : from ≡ startOf (a .name)) (q : len ≡ lengthOf (a .name)) (s : List ℕ) (e : s ≡ clip from len store) where
-  early-by : pick (eqb (length s) 0) 61 (pick (ltb 32 (length s)) 62 (pick (isEmpty store (a .filename)) 63 (pick known 0 64))) ≡ entries.earlyFault store known a
+-- ---- 64, 67
+
+beyond : (ps : List Partition) (n : ℕ) → length ps ≤ n → placeFault ps n ≡ 64
+beyond [] n l = refl
+beyond (p ∷ ps) zero l = absurd (omega (arith, l))
+beyond (p ∷ ps) (suc n) l = beyond ps n (omega (arith, l))
+
+inside : (ps : List Partition) (count at : ℕ) (d : Partition) → at < count → count ≤ length ps → placeFault (take count ps) at ≡ pick (getD ps at d .locked) 67 0
+inside [] count at d l k = absurd (omega (arith, l, k))
+inside (p ∷ ps) zero at d l k = absurd (omega (arith, l))
+inside (p ∷ ps) (suc count) zero d l k = refl
+inside (p ∷ ps) (suc count) (suc at) d l k = inside ps count at d (omega (arith, l)) (omega (arith, k))
+
+module _ (items : List Partition) (count at : ℕ) (long : length items ≡ 32) (few : count ≤ 32) where
+  pub place-unknown : count ≤ at → 64 ≡ placeFault (take count items) at
+  place-unknown l = sym (beyond (take count items) at (omega (arith, length-take-le count items (omega (arith, long)), l)))
+
+  module _ (d : Partition) (l : at < count) where
+    there : placeFault (take count items) at ≡ pick (getD items at d .locked) 67 0
+    there = inside items count at d l (omega (arith, long))
+
+    pub place-locked : getD items at d .locked ≡ true → 67 ≡ placeFault (take count items) at
+    place-locked e = sym (there ∙ rw e)
+
+    pub place-open : getD items at d .locked ≡ false → 0 ≡ placeFault (take count items) at
+    place-open e = sym (there ∙ rw e)
+
+module _ (store : List ℕ) (place : ℕ) (a : Application) (from len : ℕ) (p : from ≡ startOf (a .name)) (q : len ≡ lengthOf (a .name)) (s : List ℕ) (e : s ≡ clip from len store) where
+  early-by : pick (eqb (length s) 0) 61 (pick (ltb 32 (length s)) 62 (pick (isEmpty store (a .filename)) 63 place)) ≡ entries.earlyFault store place a
   unfolding entries.earlyFault
   early-by = rw (nil-long s, kept-is store (a .name) from len p q s e)
 
-  pub early-empty : length s ≡ 0 → 61 ≡ entries.earlyFault store known a
+  pub early-empty : length s ≡ 0 → 61 ≡ entries.earlyFault store place a
   early-empty h = rw (eq-eqb (length s) 0 h) at early-by
 
   module _ (h : length s ≡ 0 → ⊥) where
-    pub early-long : 32 < length s → 62 ≡ entries.earlyFault store known a
+    pub early-long : 32 < length s → 62 ≡ entries.earlyFault store place a
     early-long l = rw (ne-eqb (length s) 0 h, lt-ltb 32 (length s) l) at early-by
 
     module _ (l : length s ≤ 32) (r : Bool) (f : r ≡ isEmpty store (a .filename)) where
-      pub early-unfiled : r ≡ true → 63 ≡ entries.earlyFault store known a
+      pub early-unfiled : r ≡ true → 63 ≡ entries.earlyFault store place a
       early-unfiled z = rw (ne-eqb (length s) 0 h, le-ltb 32 (length s) l, ← f, z) at early-by
 
-      early-left : r ≡ false → pick known 0 64 ≡ entries.earlyFault store known a
-      early-left z = rw (ne-eqb (length s) 0 h, le-ltb 32 (length s) l, ← f, z) at early-by
-
-      pub early-known : r ≡ false → known ≡ true → 0 ≡ entries.earlyFault store known a
-      early-known z k = (rw k) ∙ early-left z
-
-      pub early-unknown : r ≡ false → known ≡ false → 64 ≡ entries.earlyFault store known a
-      early-unknown z k = (rw k) ∙ early-left z
+      pub early-placed : r ≡ false → place ≡ entries.earlyFault store place a
+      early-placed z = rw (ne-eqb (length s) 0 h, le-ltb 32 (length s) l, ← f, z) at early-by
 
 pub address-none : (n : Number) → n ≡ numbers.Absent → 0 ≡ meant.addressFault (amount n)
 unfolding meant.addressFault
@@ -156,16 +178,15 @@ module _ (n : Number) (a : ℕ) (e : n ≡ numbers.Of a) where
 
 -- ---- the entry of an application
 
-pub application-done : (store : List ℕ) (fault : ℕ) (pair : Pair) (a : Application) (items : List Partition) (count : ℕ) → count ≤ 32 → length items ≡ 32
-    → (at from len early late : ℕ)
-    → at ≡ aim false store (map (partName store) (take count items)) (a .partition)
-    → from ≡ startOf (a .name) → len ≡ lengthOf (a .name) → early ≡ entries.earlyFault store (ltb at count) a
+pub application-done : (store : List ℕ) (fault : ℕ) (pair : Pair) (a : Application) (ps : List Partition) (at place from len early late : ℕ)
+    → at ≡ aim false store (map (partName store) ps) (a .partition) → place ≡ placeFault ps at
+    → from ≡ startOf (a .name) → len ≡ lengthOf (a .name) → early ≡ entries.earlyFault store place a
     → late ≡ meant.addressFault (amount (a .«load_address»))
-    → record { fault = fault; mark = record { from = from; len = len; early = early; late = late }; pair = pair; first = false } ≡ applicationEntry store (map (partName store) (take count items)) fault pair a
+    → record { fault = fault; mark = record { from = from; len = len; early = early; late = late }; pair = pair; first = false } ≡ applicationEntry store ps fault pair a
 unfolding applicationEntry
-application-done store fault pair a items count l m at from len early late g h k j o = rw (h, k, j, o, g, parts-long store items count (omega arith))
+application-done store fault pair a ps at place from len early late g w h k j o = rw (h, k, j, o, w, g)
 
-pub application-read : (room store : List ℕ) (made n : ℕ) (parts : List (List ℕ)) (r : ApplicationRead) (k : Span) (key : Spot) (pair : Pair) (x : Entry)
+pub application-read : (room store : List ℕ) (made n : ℕ) (ps : List Partition) (r : ApplicationRead) (k : Span) (key : Spot) (pair : Pair) (x : Entry)
     → r ≡ parsed.applicationAt room store made n 32 → KeyIs room n k → key ≡ bytesSpot (k .from) (k .len) → pair ≡ pairOfApplication key (r .application .features)
-    → x ≡ applicationEntry store parts (r .fault) pair (r .application) → x ≡ entries.applicationAt room store made parts n
-application-read room store made n parts r k key pair x e f d g h = rw (h, g, key-spot room n k key f d, e)
+    → x ≡ applicationEntry store ps (r .fault) pair (r .application) → x ≡ entries.applicationAt room store made ps n
+application-read room store made n ps r k key pair x e f d g h = rw (h, g, key-spot room n k key f d, e)

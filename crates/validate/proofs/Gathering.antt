@@ -30,6 +30,7 @@ use Rattle.turns.specs.declared.Fault.{Fault}
 use Rattle.turns.specs.Marks.{anyOf, firstHit, judged, Marked}
 use Rattle.turns.specs.Marks.{noMarks}
 use Rattle.validate.specs.declared.Entry.{Entry}
+use Rattle.schema.specs.declared.Partition.{Partition}
 use Rattle.schema.specs.declared.spot.Spot.{Spot}
 use Rattle.validate.specs.declared.uses.Pair.{Pair}
 use Rattle.schema.specs.Spots.{noSpot}
@@ -204,17 +205,17 @@ module _ (room store : Seq ℕ) (made : ℕ) (parts : Seq (Seq ℕ)) where
 -- ---- applications
 
 -- applications that were met on a walk that began as v, after packages of an array that has more room
-pub record Applying (room store : Seq ℕ) (made : ℕ) (parts : Seq (Seq ℕ)) (front : Seq Pair) (preceding : ℕ) (v : Keys) (marks : Seq Mark) (pairs : Seq Pair) (fault : Refusal) (w : Keys) (i : ℕ) : Type 0 where
+pub record Applying (room store : Seq ℕ) (made : ℕ) (ps : Seq Partition) (front : Seq Pair) (preceding : ℕ) (v : Keys) (marks : Seq Mark) (pairs : Seq Pair) (fault : Refusal) (w : Keys) (i : ℕ) : Type 0 where
   pub low : preceding ≤ 64
   pub high : i ≤ 64
   pub reads : reading.Walking room store made 64 32 (v .place) (v .end) w fault i
-  pub passed : Passed (applicationAt room store made parts) (walk room store (v .end) (v .place) 65 Nothing) (walk room store (v .end) (v .place) (65 - i) (w .after)) front marks pairs i (preceding + i)
+  pub passed : Passed (applicationAt room store made ps) (walk room store (v .end) (v .place) 65 Nothing) (walk room store (v .end) (v .place) (65 - i) (w .after)) front marks pairs i (preceding + i)
 
-module _ (room store : Seq ℕ) (made : ℕ) (parts : Seq (Seq ℕ)) where
+module _ (room store : Seq ℕ) (made : ℕ) (ps : Seq Partition) where
   -- an array in a struct is as long as its elements in the machine
   pub apps-start : {X : Type 0} (f : Pair → X) (place end count : ℕ) (old : Seq Pair) (preceding : ℕ) → length (map f old) ≡ 128 → (v : Keys) (marks : Seq Mark) (fault : Refusal)
       → Followed room made end count preceding → Begins room place end Nothing v → marks ≡ noMarks → fault ≡ refusalAt 0 0 0
-      → Applying room store made parts (take preceding old) preceding v marks old fault v 0
+      → Applying room store made ps (take preceding old) preceding v marks old fault v 0
   apps-start f place end count old preceding l v marks fault h b m e =
       let z : preceding + 0 ≡ preceding = omega arith in
       record {
@@ -225,7 +226,7 @@ module _ (room store : Seq ℕ) (made : ℕ) (parts : Seq (Seq ℕ)) where
       }
 
   module _ (front : Seq Pair) (preceding : ℕ) (v : Keys) (marks : Seq Mark) (pairs : Seq Pair) (fault : Refusal) (w : Keys) (i : ℕ)
-      (k : Applying room store made parts front preceding v marks pairs fault w i) where
+      (k : Applying room store made ps front preceding v marks pairs fault w i) where
     pub apps-ready : Ready room w
     apps-ready = k .reads .count .over .ready
 
@@ -237,7 +238,7 @@ module _ (room store : Seq ℕ) (made : ℕ) (parts : Seq (Seq ℕ)) where
 
     module _ (step : Key) (h : KeyGives room store w step) where
       module _ (place end : ℕ) (b : Begins room place end Nothing v) where
-        here : Applying room store made parts front preceding (record { place = place; low = v .low; end = end; after = v .after }) marks pairs fault w i
+        here : Applying room store made ps front preceding (record { place = place; low = v .low; end = end; after = v .after }) marks pairs fault w i
         here = rw (b .over .place, b .over .end) at k
 
         abbrev all : Seq ℕ
@@ -246,24 +247,24 @@ module _ (room store : Seq ℕ) (made : ℕ) (parts : Seq (Seq ℕ)) where
         -- what stands in the arrays is what was gathered of the applications met
         gathered-apps : (r : Refusal) (own : Fault) (at : ℕ) → own ≡ judged 65 store (take i marks) → at ≡ firstHit (clash room store made) [] (take (preceding + i) pairs)
             → r ≡ refusalOf (listed (applicationR room store made 32) inApplication 64 all) → take 64 all ≡ take i all
-            → Applications room store made place end parts front (record { fault = r; count = i; own = own; clash = at })
+            → Applications room store made place end ps front (record { fault = r; count = i; own = own; clash = at })
         gathered-apps r own at eo ec er et =
             record {
               fault = er;
               gathers =
                   rw et
                   (record {
-                    listed = passed-listed (applicationAt room store made parts) all front marks pairs i (preceding + i) (walk room store end place (65 - i) (w .after)) (here .passed) store 65 own (k .high) eo;
+                    listed = passed-listed (applicationAt room store made ps) all front marks pairs i (preceding + i) (walk room store end place (65 - i) (w .after)) (here .passed) store 65 own (k .high) eo;
                     clashes = ec ∙ ap (firstHit (clash room store made) []) (here .passed .pairs);
                   });
             }
 
         pub apps-none : step ≡ keyed.End → (r : Refusal) (own : Fault) (at : ℕ) → own ≡ judged 65 store (take i marks) → at ≡ firstHit (clash room store made) [] (take (preceding + i) pairs) → r ≡ fault
-            → Applications room store made place end parts front (record { fault = r; count = i; own = own; clash = at })
+            → Applications room store made place end ps front (record { fault = r; count = i; own = own; clash = at })
         apps-none g r own at eo ec er =
             let u : walk room store end place (65 - i) (w .after) ≡ [] = reading.walk-ended room store place end w (here .reads .count .over) step h (65 - i) g in
             let n : length all ≡ i + length (walk room store end place (65 - i) (w .after)) =
-            passed-count (applicationAt room store made parts) all front marks pairs i (preceding + i) (walk room store end place (65 - i) (w .after)) (here .passed) in
+            passed-count (applicationAt room store made ps) all front marks pairs i (preceding + i) (walk room store end place (65 - i) (w .after)) (here .passed) in
             let m : length all ≡ i = omega (arith, n, ap length u) in
             gathered-apps r own at eo ec
             (er ∙ reading.apps-none room store made (record { fault = 0; place = place; end = end }) v b 64 32 w fault i (k .reads) step (k .high) h g)
@@ -273,7 +274,7 @@ module _ (room store : Seq ℕ) (made : ℕ) (parts : Seq (Seq ℕ)) where
           -- one more than there may be
           pub apps-many : 64 ≤ i → (told r : Refusal) (own : Fault) (at : ℕ) → own ≡ judged 65 store (take i marks) → at ≡ firstHit (clash room store made) [] (take (preceding + i) pairs)
               → told ≡ refusalAt 5 25 64 → r ≡ told
-              → Applications room store made place end parts front (record { fault = r; count = i; own = own; clash = at })
+              → Applications room store made place end ps front (record { fault = r; count = i; own = own; clash = at })
           apps-many l told r own at eo ec eh er =
               let t : r ≡ refusalAt 5 25 64 = er ∙ eh in
               let x : 64 ≡ i = omega (arith, k .high) in
@@ -289,14 +290,14 @@ module _ (room store : Seq ℕ) (made : ℕ) (parts : Seq (Seq ℕ)) where
         pub apps-after : preceding + i < 128
         apps-after = omega (arith, k .low)
 
-        pub apps-on : (e : Entry) (r : Refusal) → e ≡ applicationAt room store made parts n → r ≡ earlier fault (faultAt 5 (e .fault) i)
-            → Applying room store made parts front preceding v (set marks i (e .mark)) (set pairs (preceding + i) (e .pair)) r rest (i + 1)
+        pub apps-on : (e : Entry) (r : Refusal) → e ≡ applicationAt room store made ps n → r ≡ earlier fault (faultAt 5 (e .fault) i)
+            → Applying room store made ps front preceding v (set marks i (e .mark)) (set pairs (preceding + i) (e .pair)) r rest (i + 1)
         unfolding applicationEntry
         apps-on e r d f =
             let x : 65 - i ≡ suc (65 - (i + 1)) = omega arith in
             let onward : walk room store (v .end) (v .place) (65 - i) (w .after) ≡ n ∷ walk room store (v .end) (v .place) (65 - (i + 1)) (rest .after)
             = rw x (reading.walk-given room store (v .place) (v .end) w (k .reads .count .over) step h (65 - (i + 1)) n rest g) in
-            let p : Passed (applicationAt room store made parts) (walk room store (v .end) (v .place) 65 Nothing) (n ∷ walk room store (v .end) (v .place) (65 - (i + 1)) (rest .after)) front marks pairs i (preceding + i)
+            let p : Passed (applicationAt room store made ps) (walk room store (v .end) (v .place) 65 Nothing) (n ∷ walk room store (v .end) (v .place) (65 - (i + 1)) (rest .after)) front marks pairs i (preceding + i)
             = rw onward at (k .passed) in
             let z : preceding + (i + 1) ≡ preceding + i + 1 = omega arith in
             let q : e .fault ≡ parsed.applicationAt room store made n 32 .fault = ap (λ (x : Entry). x .fault) d in
@@ -304,7 +305,7 @@ module _ (room store : Seq ℕ) (made : ℕ) (parts : Seq (Seq ℕ)) where
               low = k .low;
               high = omega arith;
               reads = reading.apps-on room store made 64 32 (v .place) (v .end) w fault i (k .reads) (k .high) step h n rest g r (rw (← q) f);
-              passed = rw z (passed-on (applicationAt room store made parts) (walk room store (v .end) (v .place) 65 Nothing) front marks pairs i (preceding + i) n (walk room store (v .end) (v .place) (65 - (i + 1)) (rest .after)) e l apps-after d p);
+              passed = rw z (passed-on (applicationAt room store made ps) (walk room store (v .end) (v .place) 65 Nothing) front marks pairs i (preceding + i) n (walk room store (v .end) (v .place) (65 - (i + 1)) (rest .after)) e l apps-after d p);
             }
 
 -- ---- the first fault

@@ -136,20 +136,20 @@ module _ (room store : Seq ℕ) (made : ℕ) (l : List) (el : l ≡ applicationL
   pub applications-followed : (count : ℕ) (c : Gathered) → Rooms room made → count ≤ 32 → Few c → Followed room made (l .end) count (c .count)
   applications-followed count c h k f = record { rooms = h; within = applications-among room store made l h el .end; parts = k; low = f .few }
 
-  module _ (parts : Seq (Seq ℕ)) (c : Gathered) (a : Applied) (g : Applications room store made (l .place) (l .end) parts (take (c .count) (c .pairs)) a) (s b : Refusal) (es : s ≡ inSection 5 (l .fault)) (eb : b ≡ earlier s (a .fault)) where
+  module _ (ps : Seq Partition) (c : Gathered) (a : Applied) (g : Applications room store made (l .place) (l .end) ps (take (c .count) (c .pairs)) a) (s b : Refusal) (es : s ≡ inSection 5 (l .fault)) (eb : b ≡ earlier s (a .fault)) where
     applications-are : b ≡ verdicts.applicationFault room store made of01
     applications-are = applications-judged room store made of01 l (a .fault) s b el (g .fault) es eb
 
-    pub applications-refused : (rules : Refusal) → (b .number ≡ 0 → ⊥) → b ≡ applicationsJudged room store made parts rules (c .count) (take (c .count) (c .pairs)) (c .first)
+    pub applications-refused : (rules : Refusal) → (b .number ≡ 0 → ⊥) → b ≡ applicationsJudged room store made ps rules (c .count) (take (c .count) (c .pairs)) (c .first)
     unfolding applicationsJudged
     applications-refused rules z = rw (← applications-are, ne-eqb (b .number) 0 z)
 
     module _ (z : b .number ≡ 0) where
-      pub rules-refused : (rules : Refusal) → (rules .number ≡ 0 → ⊥) → rules ≡ applicationsJudged room store made parts rules (c .count) (take (c .count) (c .pairs)) (c .first)
+      pub rules-refused : (rules : Refusal) → (rules .number ≡ 0 → ⊥) → rules ≡ applicationsJudged room store made ps rules (c .count) (take (c .count) (c .pairs)) (c .first)
       unfolding applicationsJudged
       rules-refused rules y = rw (← applications-are, eq-eqb (b .number) 0 z, ne-eqb (rules .number) 0 y)
 
-      follows : Follows room store made parts (applications room store made) (take (c .count) (c .pairs)) a
+      follows : Follows room store made ps (applications room store made) (take (c .count) (c .pairs)) a
       follows =
           let y : a .fault .number ≡ 0 = earlier-clear s (a .fault) (rw (← eb) z) .1 in
           let w : refusalOf (listed (applicationR room store made 32) inApplication 64 (applications room store made)) .number ≡ 0 = rw (g .fault, el) at y in
@@ -160,7 +160,7 @@ module _ (room store : Seq ℕ) (made : ℕ) (l : List) (el : l ≡ applicationL
       applications-few = omega (arith, follows .listed .is, follows .listed .few)
 
       pub applications-passed : (rules r : Refusal) → rules .number ≡ 0 → r ≡ gatheredFault (c .count) (c .first) a
-          → r ≡ applicationsJudged room store made parts rules (c .count) (take (c .count) (c .pairs)) (c .first)
+          → r ≡ applicationsJudged room store made ps rules (c .count) (take (c .count) (c .pairs)) (c .first)
       unfolding applicationsJudged gatheredFault restFault
       applications-passed rules r y e =
           rw (← applications-are, eq-eqb (b .number) 0 z, eq-eqb (rules .number) 0 y) (rw (follows .listed .is, follows .listed .own, follows .clashes) at e)
@@ -189,9 +189,9 @@ module _ (room store : Seq ℕ) (made : ℕ) (l : List) (el : l ≡ componentLis
       (λ e. let y : a ≡ refusalAt 0 0 0 = ea ∙ rw e w in absurd (z (ap (λ (x : Refusal). x .number) y)))
       (λ e. components-judged room store made of01 l (entries.components room store made l 64 32) s a el refl es (ea ∙ rw e)))
 
-  pub list-refused : (parts : Seq (Seq ℕ)) (rules : Refusal) → (a .number ≡ 0 → ⊥) → a ≡ componentsJudged room store made parts rules
+  pub list-refused : (ps : Seq Partition) (rules : Refusal) → (a .number ≡ 0 → ⊥) → a ≡ componentsJudged room store made ps rules
   unfolding componentsJudged
-  list-refused parts rules z = rw (← list-are z, ne-eqb (a .number) 0 z)
+  list-refused ps rules z = rw (← list-are z, ne-eqb (a .number) 0 z)
 
   module _ (z : a .number ≡ 0) where
     few : n ≤ 64
@@ -210,10 +210,6 @@ module _ (room store : Seq ℕ) (made : ℕ) (l : List) (el : l ≡ componentLis
           components-judged room store made of01 l (c .fault) s (c .fault) el (comps-few room store made n l hn 64 32 (c .fault) few (g .fault)) es
           (rw (eq-eqb (s .number) 0 (earlier-clear s m (rw (← ea) z) .0)))
 
-      pub components-refused : (rules : Refusal) → (c .fault .number ≡ 0 → ⊥) → c .fault ≡ componentsJudged room store made parts rules
-      unfolding componentsJudged
-      components-refused rules y = rw (← components-are, ne-eqb (c .fault .number) 0 y)
-
       module _ (y : c .fault .number ≡ 0) where
         gathers : Gathers room store made parts (components room store made) c
         gathers =
@@ -222,21 +218,30 @@ module _ (room store : Seq ℕ) (made : ℕ) (l : List) (el : l ≡ componentLis
 
         pairs-are : take (c .count) (c .pairs) ≡ map (λ n. componentAt room store made parts n .pair) (components room store made)
         pairs-are =
-            let ps = map (λ n. componentAt room store made parts n .pair) (components room store made) in
-            let e : c .count ≡ length ps = gathers .listed .is ∙ sym (length-map (components room store made) (λ n. componentAt room store made parts n .pair)) in
-            rw (e, gathers .pairs) (take-append-seam ps (replicate (128 - length (components room store made)) gathered.blank))
+            let pairs = map (λ n. componentAt room store made parts n .pair) (components room store made) in
+            let e : c .count ≡ length pairs = gathers .listed .is ∙ sym (length-map (components room store made) (λ n. componentAt room store made parts n .pair)) in
+            rw (e, gathers .pairs) (take-append-seam pairs (replicate (128 - length (components room store made)) gathered.blank))
 
         pub components-few : Few c
         components-few = record { few = omega (arith, gathers .listed .is, gathers .listed .few) }
 
-        pub components-passed : (rules own f r : Refusal) → f ≡ countedFault (c .own) (c .count) → own ≡ earlier rules f
-            → r ≡ applicationsJudged room store made parts own (c .count) (take (c .count) (c .pairs)) (c .first) → r ≡ componentsJudged room store made parts rules
-        unfolding componentsJudged applicationsJudged listsFault
-        components-passed rules own f r ef eo er =
-            let rest = restFault room store made parts (c .count) (take (c .count) (c .pairs)) (c .first) in
-            let e : earlier own rest ≡ earlier rules (earlier f rest) = rw eo (sym (earlier-two rules f rest)) in
-            let d : earlier f rest ≡ listsFault room store made parts = rw (ef, pairs-are, gathers .listed .own, gathers .listed .is, counted-is, gathers .first) in
-            rw (← components-are, eq-eqb (c .fault .number) 0 y) (rw (e, d) at er)
+    module _ (ps : Seq Partition) (c : Gathered) (g : Components room store made (l .place) (l .end) (map (partName store) ps) c) where
+      abbrev are : c .fault ≡ verdicts.componentFault room store made of01
+      are = components-are (map (partName store) ps) c g
+
+      pub components-refused : (rules : Refusal) → (c .fault .number ≡ 0 → ⊥) → c .fault ≡ componentsJudged room store made ps rules
+      unfolding componentsJudged
+      components-refused rules y = rw (← are, ne-eqb (c .fault .number) 0 y)
+
+      pub components-passed : c .fault .number ≡ 0 → (rules own f r : Refusal) → f ≡ countedFault (c .own) (c .count) → own ≡ earlier rules f
+          → r ≡ applicationsJudged room store made ps own (c .count) (take (c .count) (c .pairs)) (c .first) → r ≡ componentsJudged room store made ps rules
+      unfolding componentsJudged applicationsJudged listsFault
+      components-passed y rules own f r ef eo er =
+          let rest = restFault room store made ps (c .count) (take (c .count) (c .pairs)) (c .first) in
+          let all = gathers (map (partName store) ps) c g y in
+          let e : earlier own rest ≡ earlier rules (earlier f rest) = rw eo (sym (earlier-two rules f rest)) in
+          let d : earlier f rest ≡ listsFault room store made ps = rw (ef, pairs-are (map (partName store) ps) c g y, all .listed .own, all .listed .is, counted-is, all .first) in
+          rw (← are, eq-eqb (c .fault .number) 0 y) (rw (e, d) at er)
 
 -- ---- the partitions
 
@@ -279,10 +284,10 @@ module _ (room store : Seq ℕ) (made : ℕ) where
       parts-are = rw (parts-given .1, parts-given .3) (take-append-seam partitionsRead (replicate (32 - length partitionsRead) blank))
 
       pub partitions-passed : (chip : Chip) (f : Fault) (rules own a r : Refusal) → f ≡ faultOf (meant.layout (chipMeant chip) (map (partMeant store) (take (p .count) (p .items))))
-          → a ≡ inEntry 3 f → own ≡ earlier rules a → r ≡ componentsJudged room store made (map (partName store) (take (p .count) (p .items))) own → r ≡ partitionsJudged room store made chip rules
+          → a ≡ inEntry 3 f → own ≡ earlier rules a → r ≡ componentsJudged room store made (take (p .count) (p .items)) own → r ≡ partitionsJudged room store made chip rules
       unfolding partitionsJudged componentsJudged layoutFault
       partitions-passed chip f rules own a r ef ea eo er =
-          let lists = listsFault room store made (map (partName store) partitionsRead) in
+          let lists = listsFault room store made partitionsRead in
           let e : earlier own lists ≡ earlier rules (earlier a lists) = rw eo (sym (earlier-two rules a lists)) in
           let d : a ≡ inEntry 3 (faultOf (meant.layout (chipMeant chip) (map (partMeant store) partitionsRead))) = ea ∙ ap (inEntry 3) (ef ∙ rw parts-are) in
           rw (← partitions-are, eq-eqb (b .number) 0 z, ← d) (rw (parts-are, e) at er)

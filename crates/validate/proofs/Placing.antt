@@ -20,6 +20,7 @@ use Rattle.tree.specs.Doors.{fieldsOf}
 use Rattle.schema.specs.declared.Board.{Board}
 use Rattle.schema.specs.declared.Image.{Image}
 use Rattle.schema.specs.declared.Chip.{Chip}
+use Rattle.schema.specs.declared.Partition.{Partition}
 use Rattle.schema.specs.Words.{chipMeant}
 use Rattle.parse.specs.Entries.{refusalOf, partitionAt}
 use Rattle.parse.specs.Refused.{lentText, partitionNumbers}
@@ -122,28 +123,28 @@ module _ (room store : Seq ℕ) (made : ℕ) (name : Seq ℕ) (clear : verdict r
   few-applications : length (applications room store made) ≤ 64
   few-applications = given.applications-few room store made (fieldsOf room made 1) of01 (lentText name) clear
 
-  low-lists : (parts : Seq (Seq ℕ)) → listsFault room store made parts .place ≤ 128
+  low-lists : (ps : Seq Partition) → listsFault room store made ps .place ≤ 128
   unfolding listsFault restFault
-  low-lists parts =
+  low-lists ps =
       let cs = length (components room store made) in
-      let marks : Seq Mark = map (λ n. componentAt room store made parts n .mark) (components room store made) in
-      let others : Seq Mark = map (λ n. applicationAt room store made parts n .mark) (applications room store made) in
+      let marks : Seq Mark = map (λ n. componentAt room store made (map (partName store) ps) n .mark) (components room store made) in
+      let others : Seq Mark = map (λ n. applicationAt room store made ps n .mark) (applications room store made) in
       earlier-place (componentsFault store marks) _ 128
-      (low-components store marks 128 (omega (arith, given.map-length (λ n. componentAt room store made parts n .mark) (components room store made), few-components)))
+      (low-components store marks 128 (omega (arith, given.map-length (λ n. componentAt room store made (map (partName store) ps) n .mark) (components room store made), few-components)))
       (earlier-place (clashFault cs (cs + length (applications room store made)) _) _ 128 (low-clash cs (cs + length (applications room store made)) _ 128 (omega (arith, few-components)) (omega (arith, few-components, few-applications)))
       (earlier-place (applicationsFault store others) _ 128
-      (low-entry 5 (judged 65 store others) 128 (low-marks 65 store others 128 (omega (arith, given.map-length (λ n. applicationAt room store made parts n .mark) (applications room store made), few-applications))))
-      (low-boot (anyOf (λ n. componentAt room store made parts n .first) (components room store made)) 128)))
+      (low-entry 5 (judged 65 store others) 128 (low-marks 65 store others 128 (omega (arith, given.map-length (λ n. applicationAt room store made ps n .mark) (applications room store made), few-applications))))
+      (low-boot (anyOf (λ n. componentAt room store made (map (partName store) ps) n .first) (components room store made)) 128)))
 
   low-layouts : (chip : Chip) → layoutFault room store made chip .place ≤ 128
   unfolding layoutFault
   low-layouts chip =
       let ps = map (λ n. partitionAt room store made n .partition) (partitionNumbers room store made (fieldsOf room made 1)) in
-      earlier-place (inEntry 3 (faultOf (meant.layout (chipMeant chip) (map (partMeant store) ps)))) (listsFault room store made (map (partName store) ps)) 128
+      earlier-place (inEntry 3 (faultOf (meant.layout (chipMeant chip) (map (partMeant store) ps)))) (listsFault room store made ps) 128
       (low-entry 3 _ 128
       (low-layout (chipMeant chip) (map (partMeant store) ps) 128
       (omega (arith, length-map ps (partMeant store), given.map-length (λ n. partitionAt room store made n .partition) (partitionNumbers room store made (fieldsOf room made 1)), few-parts))))
-      (low-lists (map (partName store) ps))
+      (low-lists ps)
 
   pub rules-low : faults.verdict room store made name .place ≤ 70000
   unfolding faults.verdict

@@ -23,6 +23,7 @@ use Rattle.tree.specs.Short.{field-short}
 use Rattle.schema.specs.declared.Text.{Text}
 use Rattle.schema.specs.declared.Text.the-variants as texts
 use Rattle.schema.specs.declared.Features.{Features}
+use Rattle.schema.specs.declared.Partition.{Partition}
 use Rattle.schema.specs.declared.Component.{Component}
 use Rattle.schema.specs.Texts.{optional}
 use Rattle.features.specs.Pieces.{wordsFrom, allTexts, pieces, featuresRead}
@@ -280,10 +281,10 @@ module _ (room store : List ℕ) (made : ℕ) where
         (λ e. rw (e, list-short (c .role .«pbp_features») (h .ownFeatures)))
         (λ e. rw (e, list-short (c .role .features) (h .features))))
 
-    module _ (parts : List (List ℕ)) (n : ℕ) where
-      component-uses : usesOf (componentOf room store made name 32 n) ≡ usesIn (componentAt room store made parts n .pair)
+    module _ (n : ℕ) where
+      component-uses : (parts : List (List ℕ)) → usesOf (componentOf room store made name 32 n) ≡ usesIn (componentAt room store made parts n .pair)
       unfolding componentEntry parsed.componentAt componentRead headRead sources roleRead bootRead
-      component-uses =
+      component-uses parts =
           let f = parsed.tableAt room store made n .fields in
           let both = lists-short room store f made 32 in
           uses-short (parsed.componentAt room store made n 32 .component)
@@ -294,30 +295,30 @@ module _ (room store : List ℕ) (made : ℕ) where
             ownFeatures = both .1;
           })
 
-      application-uses : useOf (applicationOf room store made name 32 n) ≡ usesIn (applicationAt room store made parts n .pair)
+      application-uses : (ps : List Partition) → useOf (applicationOf room store made name 32 n) ≡ usesIn (applicationAt room store made ps n .pair)
       unfolding spotted applicationEntry parsed.applicationAt applicationRead loading
-      application-uses =
+      application-uses ps =
           let f = parsed.tableAt room store made n .fields in
           let list = parsed.applicationAt room store made n 32 .application .features in
           rw (list-short list (field-list-short room store f made 32 (ascii "features")))
 
 -- ---- 60
 
-module _ (room store : List ℕ) (made : ℕ) (name : List ℕ) (parts : List (List ℕ)) where
+module _ (room store : List ℕ) (made : ℕ) (name : List ℕ) (parts : List (List ℕ)) (ps : List Partition) where
   abbrev componentPair : ℕ → Pair
   componentPair n = componentAt room store made parts n .pair
 
   abbrev applicationPair : ℕ → Pair
-  applicationPair n = applicationAt room store made parts n .pair
+  applicationPair n = applicationAt room store made ps n .pair
 
   all-uses : (ns : List ℕ) → allUses (map (componentOf room store made name 32) ns) ≡ gathered (usesIn room store made) (map componentPair ns)
   all-uses [] = refl
-  all-uses (n ∷ ns) = rw (component-uses room store made name parts n, all-uses ns)
+  all-uses (n ∷ ns) = rw (component-uses room store made name n parts, all-uses ns)
 
   pub features-say : (ns ms : List ℕ)
       → Says (featureRules (map (componentOf room store made name 32) ns) (map (applicationOf room store made name 32) ms))
       (clashFault (length ns) (length ns + length ms)
-      (firstHit (clash room store made) [] (map (λ n. componentAt room store made parts n .pair) ns ++ map (λ n. applicationAt room store made parts n .pair) ms)))
+      (firstHit (clash room store made) [] (map (λ n. componentAt room store made parts n .pair) ns ++ map (λ n. applicationAt room store made ps n .pair) ms)))
       tt
   unfolding featureRules
   features-say ns ms =
@@ -331,5 +332,5 @@ module _ (room store : List ℕ) (made : ℕ) (name : List ℕ) (parts : List (L
       rw (e, all-uses ns)
       (says-by (hit-faults (length ns) (length ms) k l)
       (says-after _
-      (turn-says uses hit is usesOf (componentOf room store made name 32) componentPair (component-uses room store made name parts) inComponent 0 [] ns)
-      (turn-says uses hit is useOf (applicationOf room store made name 32) applicationPair (application-uses room store made name parts) inApplication 0 cs ms)))
+      (turn-says uses hit is usesOf (componentOf room store made name 32) componentPair (λ n. component-uses room store made name n parts) inComponent 0 [] ns)
+      (turn-says uses hit is useOf (applicationOf room store made name 32) applicationPair (λ n. application-uses room store made name n ps) inApplication 0 cs ms)))

@@ -7,9 +7,10 @@ use native.Mathlib.Omega.{arith}
 use borrow.Author.Tests.{eqb-true, eqb-false}
 use lib.Dec.{eqb, ltb}
 use lib.ListN.{length}
-use Rattle.meaning.specs.Base.{pick, nil?, ascii}
+use Rattle.meaning.specs.Base.{pick, nil?, ascii, same}
 use Rattle.meaning.specs.Refusal.{inComponent, inApplication}
 use Rattle.meaning.specs.Verdict.{Verdict, orElse, long, among, inTurn, withLast}
+use Rattle.meaning.specs.Schema as schemas
 use Rattle.meaning.specs.Rules as meant
 use Rattle.laws.specs.Cases.{on}
 use Rattle.tree.specs.Doors.{field}
@@ -18,6 +19,7 @@ use Rattle.schema.specs.declared.Text.{Text}
 use Rattle.schema.specs.declared.Text.the-variants as texts
 use Rattle.schema.specs.declared.Number.{Number}
 use Rattle.schema.specs.declared.Number.the-variants as numbers
+use Rattle.schema.specs.declared.Partition.{Partition}
 use Rattle.schema.specs.declared.Component.{Component}
 use Rattle.schema.specs.declared.Application.{Application}
 use Rattle.schema.specs.declared.Word.the-variants as words
@@ -34,7 +36,7 @@ use Rattle.turns.specs.declared.Mark.{Mark}
 use Rattle.turns.specs.declared.Fault.{Fault}
 use Rattle.turns.specs.Marks.{anyOf, markRule, noted, markVerdict, judged, entryFault}
 use Rattle.turns.specs.Turns as turns
-use Rattle.layout.specs.Parts.{among-rank, rank-first, aim}
+use Rattle.layout.specs.Parts.{partName, partMeant, rank, among-rank, rank-first, aim}
 use Rattle.turns.specs.Turns.{judged-verdict, says-fine, says-refused}
 use Rattle.validate.specs.declared.uses.Pair.{Pair}
 use Rattle.validate.specs.Entries as entries
@@ -129,13 +131,6 @@ module _ (store name : List ℕ) where
   empty-spelled (texts.Fixed w) h = absurd h
   empty-spelled (texts.WithAic from len) h = nil-more (clip from len store) 46 (ascii "aic")
 
-  aim-spelled : (parts : List (List ℕ)) (t : Text) → Named t → among (spelled store name t) parts ≡ ltb (aim false store parts t) (length parts)
-  aim-spelled parts texts.Absent h = absurd h
-  aim-spelled parts (texts.Stored from len) h = among-rank (clip from len store) parts
-  aim-spelled parts texts.Lent h = absurd h
-  aim-spelled parts (texts.Fixed w) h = among-rank (spelled store name (texts.Fixed w)) parts
-  aim-spelled parts (texts.WithAic from len) h = absurd h
-
 -- ---- a component
 
 -- its texts that the rules read lie in the store
@@ -213,40 +208,56 @@ module _ (room store : List ℕ) (made n : ℕ) where
       }
 
 -- the name's rule in its place, or after the early rules
-early-turned : (e l f k m : Bool) (x : ℕ)
-    → pick e 61 (pick l 62 (pick f 63 (pick k (pick m 65 x) 64))) ≡ orElse (pick e 61 (pick l 62 (pick f 63 (pick k 0 64)))) (orElse (pick m 65 0) x)
-early-turned true l f k m x = refl
-early-turned false true f k m x = refl
-early-turned false false true k m x = refl
-early-turned false false false false m x = refl
-early-turned false false false true true x = refl
-early-turned false false false true false x = refl
+early-turned : (e l f m : Bool) (p x : ℕ)
+    → pick e 61 (pick l 62 (pick f 63 (orElse p (pick m 65 x)))) ≡ orElse (pick e 61 (pick l 62 (pick f 63 p))) (orElse (pick m 65 0) x)
+early-turned true l f m p x = refl
+early-turned false true f m p x = refl
+early-turned false false true m p x = refl
+early-turned false false false true p x = refl
+early-turned false false false false p x = refl
 
-module _ (room store : List ℕ) (made : ℕ) (name : List ℕ) (parts : List (List ℕ)) where
+-- the first partition of a name is the one with the name's rank
+place-says : (store name : List ℕ) (ps : List Partition)
+    → meant.placeFault (meant.firstNamed name (map (partMeant store) ps)) ≡ entries.placeFault ps (rank name (map (partName store) ps))
+place-says store name [] = refl
+place-says store name (p ∷ ps) = on (same name (partName store p)) (λ e. rw e) (λ e. rw e (place-says store name ps))
+
+module _ (room store : List ℕ) (made : ℕ) (name : List ℕ) (ps : List Partition) where
+  abbrev laid : List schemas.Partition
+  laid = map (partMeant store) ps
+
+  aim-says : (t : Text) → Named t
+      → meant.placeFault (meant.firstNamed (spelled store name t) laid) ≡ entries.placeFault ps (aim false store (map (partName store) ps) t)
+  aim-says texts.Absent h = absurd h
+  aim-says (texts.Stored from len) h = place-says store (clip from len store) ps
+  aim-says texts.Lent h = absurd h
+  aim-says (texts.Fixed w) h = place-says store (spelled store name (texts.Fixed w)) ps
+  aim-says (texts.WithAic from len) h = absurd h
+
   application-rule : (earlier : List (List ℕ)) (fault : ℕ) (pair : Pair) (a : Application) → Placing a
-      → meant.applicationFault parts earlier (applicationMeant room store made name a) ≡ markRule 65 store earlier (applicationEntry store parts fault pair a .mark)
+      → meant.applicationFault laid earlier (applicationMeant room store made name a) ≡ markRule 65 store earlier (applicationEntry store ps fault pair a .mark)
   unfolding meant.applicationFault entryFault applicationEntry entries.earlyFault
   application-rule earlier fault pair a k =
-      rw (kept-spelled store name (a .name) (k .name), empty-spelled store name (a .filename) (k .filename), aim-spelled store name parts (a .partition) (k .partition))
-      (early-turned (nil? (entries.kept store (a .name))) (long (entries.kept store (a .name))) (isEmpty store (a .filename)) (ltb (aim false store parts (a .partition)) (length parts))
-      (among (entries.kept store (a .name)) earlier) (meant.addressFault (amount (a .«load_address»))))
+      rw (kept-spelled store name (a .name) (k .name), empty-spelled store name (a .filename) (k .filename), aim-says (a .partition) (k .partition))
+      (early-turned (nil? (entries.kept store (a .name))) (long (entries.kept store (a .name))) (isEmpty store (a .filename))
+      (among (entries.kept store (a .name)) earlier) (entries.placeFault ps (aim false store (map (partName store) ps) (a .partition))) (meant.addressFault (amount (a .«load_address»))))
 
   applications-turn : (ns : List ℕ)
-      → meant.applicationRules parts (map (applicationOf room store made name 32) ns)
-      ≡ markVerdict 65 store inApplication (map (λ n. applicationAt room store made parts n .mark) ns)
+      → meant.applicationRules laid (map (applicationOf room store made name 32) ns)
+      ≡ markVerdict 65 store inApplication (map (λ n. applicationAt room store made ps n .mark) ns)
   unfolding applicationEntry meant.applicationRules
   applications-turn =
-      turns-agree (meant.applicationFault parts) (λ earlier a. withLast earlier (a .name)) (markRule 65 store) (noted store)
-      (applicationOf room store made name 32) (λ n. applicationAt room store made parts n .mark)
+      turns-agree (meant.applicationFault laid) (λ earlier a. withLast earlier (a .name)) (markRule 65 store) (noted store)
+      (applicationOf room store made name 32) (λ n. applicationAt room store made ps n .mark)
       (λ earlier n.
-      application-rule earlier (parsing.applicationAt room store made n 32 .fault) (applicationAt room store made parts n .pair) (parsing.applicationAt room store made n 32 .application)
+      application-rule earlier (parsing.applicationAt room store made n 32 .fault) (applicationAt room store made ps n .pair) (parsing.applicationAt room store made n 32 .application)
       (application-kept room store made n))
       (λ earlier n. ap (withLast earlier) (kept-spelled store name (parsing.applicationAt room store made n 32 .application .name) (application-kept room store made n .name)))
       inApplication 0 []
 
   pub applications-say : (ns : List ℕ)
-      → Says (meant.applicationRules parts (map (applicationOf room store made name 32) ns)) (applicationsFault store (map (λ n. applicationAt room store made parts n .mark) ns)) tt
-  applications-say ns = rw (applications-turn ns) (marks-say 65 store inApplication (map (λ i. applicationAt room store made parts i .mark) ns))
+      → Says (meant.applicationRules laid (map (applicationOf room store made name 32) ns)) (applicationsFault store (map (λ n. applicationAt room store made ps n .mark) ns)) tt
+  applications-say ns = rw (applications-turn ns) (marks-say 65 store inApplication (map (λ i. applicationAt room store made ps i .mark) ns))
 
 -- ---- the first partition
 

@@ -9,6 +9,7 @@ use Rattle.meaning.specs.Limits.{of01}
 use Rattle.meaning.specs.Layout as meant
 use Rattle.tree.specs.Doors.{fieldsOf}
 use Rattle.schema.specs.declared.Chip.{Chip}
+use Rattle.schema.specs.declared.Partition.{Partition}
 use Rattle.schema.specs.Words.{chipMeant}
 use Rattle.parse.specs.declared.Refusal.{Refusal}
 use Rattle.parse.specs.declared.entry.Partitions.{Partitions}
@@ -25,7 +26,7 @@ use Rattle.validate.specs.declared.uses.Pair.{Pair}
 use Rattle.validate.specs.declared.gather.Gathered.{Gathered}
 use Rattle.validate.specs.declared.gather.Applied.{Applied}
 use Rattle.validate.specs.Clashes.{clash}
-use Rattle.validate.specs.Entries.{partNames, componentAt, applicationAt}
+use Rattle.validate.specs.Entries.{componentAt, applicationAt}
 use Rattle.validate.specs.Fronts as fronts
 use Rattle.validate.specs.Gathered.{faultAt, components, applications}
 
@@ -47,7 +48,7 @@ componentsFault store ms = pick (nil? ms) (refusalAt 4 50 0) (inEntry 4 (judged 
 unfoldable pub countedFault : Fault → ℕ → Refusal
 countedFault own n = pick (eqb n 0) (refusalAt 4 50 0) (inEntry 4 own)
 
--- 61 to 66
+-- 61 to 67
 abbrev pub applicationsFault : Seq ℕ → Seq Mark → Refusal
 applicationsFault store ms = inEntry 5 (judged 65 store ms)
 
@@ -64,20 +65,23 @@ unfoldable pub gatheredFault : ℕ → Bool → Applied → Refusal
 gatheredFault cs first a = earlier (clashFault cs (cs + a .count) (a .clash)) (earlier (inEntry 5 (a .own)) (bootFault first))
 
 module _ (room store : Seq ℕ) (made : ℕ) where
-  -- ---- all of them, the partitions' names given
+  -- ---- all of them, the partitions given
 
-  module _ (parts : Seq (Seq ℕ)) where
+  module _ (ps : Seq Partition) where
+    abbrev names : Seq (Seq ℕ)
+    names = map (partName store) ps
+
     abbrev pub componentMarks : Seq Mark
-    componentMarks = map (λ n. componentAt room store made parts n .mark) (components room store made)
+    componentMarks = map (λ n. componentAt room store made names n .mark) (components room store made)
 
     abbrev pub applicationMarks : Seq Mark
-    applicationMarks = map (λ n. applicationAt room store made parts n .mark) (applications room store made)
+    applicationMarks = map (λ n. applicationAt room store made ps n .mark) (applications room store made)
 
     abbrev pub componentPairs : Seq Pair
-    componentPairs = map (λ n. componentAt room store made parts n .pair) (components room store made)
+    componentPairs = map (λ n. componentAt room store made names n .pair) (components room store made)
 
     abbrev pub applicationPairs : Seq Pair
-    applicationPairs = map (λ n. applicationAt room store made parts n .pair) (applications room store made)
+    applicationPairs = map (λ n. applicationAt room store made ps n .pair) (applications room store made)
 
     -- 60 to 70, after components of which one lies in the first partition or none
     unfoldable pub restFault : ℕ → Seq Pair → Bool → Refusal
@@ -90,7 +94,7 @@ module _ (room store : Seq ℕ) (made : ℕ) where
     unfoldable pub listsFault : Refusal
     listsFault =
         earlier (componentsFault store componentMarks)
-        (restFault (length (components room store made)) componentPairs (anyOf (λ n. componentAt room store made parts n .first) (components room store made)))
+        (restFault (length (components room store made)) componentPairs (anyOf (λ n. componentAt room store made names n .first) (components room store made)))
 
     -- records before rules, those that were judged in front and those after
     unfoldable pub applicationsJudged : Refusal → ℕ → Seq Pair → Bool → Refusal
@@ -103,10 +107,10 @@ module _ (room store : Seq ℕ) (made : ℕ) where
   -- ---- with the partitions that were read
 
   abbrev pub componentsAfter : Partitions → Refusal → Refusal
-  componentsAfter p rules = componentsJudged (partNames store (p .count) (p .items)) rules
+  componentsAfter p rules = componentsJudged (take (p .count) (p .items)) rules
 
   abbrev pub applicationsAfter : Partitions → Refusal → Gathered → Refusal
-  applicationsAfter p rules c = applicationsJudged (partNames store (p .count) (p .items)) rules (c .count) (take (c .count) (c .pairs)) (c .first)
+  applicationsAfter p rules c = applicationsJudged (take (p .count) (p .items)) rules (c .count) (take (c .count) (c .pairs)) (c .first)
 
   -- ---- of a preset
 
@@ -114,7 +118,7 @@ module _ (room store : Seq ℕ) (made : ℕ) where
   unfoldable pub layoutFault : Chip → Refusal
   layoutFault chip =
       let ps = map (λ n. partitionAt room store made n .partition) (partitionNumbers room store made (fieldsOf room made 1)) in
-      earlier (inEntry 3 (faultOf (meant.layout (chipMeant chip) (map (partMeant store) ps)))) (listsFault (map (partName store) ps))
+      earlier (inEntry 3 (faultOf (meant.layout (chipMeant chip) (map (partMeant store) ps)))) (listsFault ps)
 
   -- records before rules
   unfoldable pub partitionsJudged : Chip → Refusal → Refusal

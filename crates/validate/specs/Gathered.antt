@@ -10,6 +10,7 @@ use Rattle.meaning.specs.Refusal.{inApplication}
 use Rattle.meaning.specs.Fields.{listed}
 use Rattle.tree.specs.declared.Found.the-variants.{Nothing}
 use Rattle.tree.specs.Doors.{Rooms, fieldsOf, items}
+use Rattle.schema.specs.declared.Partition.{Partition}
 use Rattle.schema.specs.Spots.{noSpot}
 use Rattle.parse.specs.declared.Refusal.{Refusal}
 use Rattle.parse.specs.Entries.{walk, refusalAt, refusalOf, eachComponent, applicationR}
@@ -76,14 +77,14 @@ pub record Followed (room : Seq ℕ) (made end count preceding : ℕ) : Type 0 w
 
 module _ (room store : Seq ℕ) (made : ℕ) where
   -- as many, their own rules, and the first entry that clashes: their packages stand after those in front
-  pub record Follows (parts : Seq (Seq ℕ)) (ns : Seq ℕ) (front : Seq Pair) (r : Applied) : Type 0 where
-    pub listed : Listed store 65 (applicationAt room store made parts) ns (r .count) (r .own)
-    pub clashes : r .clash ≡ firstHit (clash room store made) [] (front ++ map (λ n. applicationAt room store made parts n .pair) ns)
+  pub record Follows (ps : Seq Partition) (ns : Seq ℕ) (front : Seq Pair) (r : Applied) : Type 0 where
+    pub listed : Listed store 65 (applicationAt room store made ps) ns (r .count) (r .own)
+    pub clashes : r .clash ≡ firstHit (clash room store made) [] (front ++ map (λ n. applicationAt room store made ps n .pair) ns)
 
   -- the list's length is told before its entries; what is gathered is of the first 64, with a fault or without
-  pub record Applications (place end : ℕ) (parts : Seq (Seq ℕ)) (front : Seq Pair) (r : Applied) : Type 0 where
+  pub record Applications (place end : ℕ) (ps : Seq Partition) (front : Seq Pair) (r : Applied) : Type 0 where
     pub fault : r .fault ≡ refusalOf (listed (applicationR room store made 32) inApplication 64 (walk room store end place 65 Nothing))
-    pub gathers : Follows parts (take 64 (walk room store end place 65 Nothing)) front r
+    pub gathers : Follows ps (take 64 (walk room store end place 65 Nothing)) front r
 
   -- ---- of a preset
 

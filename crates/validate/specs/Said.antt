@@ -91,14 +91,14 @@ module _ (room store : Seq ℕ) (made : ℕ) (name : Seq ℕ) where
   lists-say : (chip : schemas.Chip) → layout chip (meantBy partsIn) ≡ accepted tt
       → Says
       (firstRefusal (meant.componentRules (meant.partitionNames (meantBy partsIn)) cs)
-      (firstRefusal (meant.featureRules cs apps) (firstRefusal (meant.applicationRules (meant.partitionNames (meantBy partsIn)) apps) (meant.bootRule (meant.partitionNames (meantBy partsIn)) cs))))
-      (listsFault room store made names) tt
+      (firstRefusal (meant.featureRules cs apps) (firstRefusal (meant.applicationRules (meantBy partsIn) apps) (meant.bootRule (meant.partitionNames (meantBy partsIn)) cs))))
+      (listsFault room store made (given partsIn)) tt
   unfolding listsFault restFault
   lists-say chip e =
-      rw (parts-named partsIn)
+      rw (parts-named partsIn, ← parts-meant partsIn)
       (says-and (components-say room store made name names (components room store made))
-      (λ _. says-and (features-say room store made name names (components room store made) (applications room store made))
-      (λ _. says-and (applications-say room store made name names (applications room store made)) (λ _. boot-by chip partsIn (components room store made) e))))
+      (λ _. says-and (features-say room store made name names (given partsIn) (components room store made) (applications room store made))
+      (λ _. says-and (applications-say room store made name (given partsIn) (applications room store made)) (λ _. boot-by chip partsIn (components room store made) e))))
 
   pub rules-say : Says (meant.rules (presetMeant room store made name (fieldsOf room made 1) of01 (lentText name))) (faults.verdict room store made name) tt
   unfolding meant.rules faults.verdict layoutFault

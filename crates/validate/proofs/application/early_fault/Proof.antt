@@ -1,5 +1,5 @@
 use borrow.Author.Needs.{needs}
-use Rattle.validate.proofs.Entering.{early-empty, early-long, early-unfiled, early-known, early-unknown}
+use Rattle.validate.proofs.Entering.{early-empty, early-long, early-unfiled, early-placed}
 use Rattle.validate.proofs.application.early_fault.Statement.{statement}
 use Rattle.validate.proofs.application.early_fault.Tie as tie
 use Rattle.validate.proofs.application.early_fault.Reads as reads
@@ -31,10 +31,7 @@ returns-3 : tie.Need-returns-3
 returns-3 c = search (needs, early-unfiled)
 
 returns-4 : tie.Need-returns-4
-returns-4 c = search (needs, early-known)
-
-returns-5 : tie.Need-returns-5
-returns-5 c = search (needs, early-unknown)
+returns-4 c = search (needs, early-placed)
 
 pub early-fault-spec : {M : Type 1} → statement M
 early-fault-spec =
@@ -47,5 +44,4 @@ early-fault-spec =
     returns-2
     is-empty-requires
     returns-3
-    returns-4
-    returns-5)
+    returns-4)

@@ -9,6 +9,7 @@ use Rattle.schema.proofs.Text.length.Reads as length-reads
 use Rattle.schema.proofs.Text.start.Reads as start-reads
 use Rattle.validate.proofs.application.address_fault.Reads as address-fault-reads
 use Rattle.validate.proofs.application.early_fault.Reads as early-fault-reads
+use Rattle.validate.proofs.application.place_fault.Reads as place-fault-reads
 
 find-named-requires : tie.Need-find-named-requires
 find-named-requires c κs = search needs
@@ -18,6 +19,9 @@ start-requires c κs = search needs
 
 length-requires : tie.Need-length-requires
 length-requires c κs = search needs
+
+place-fault-requires : tie.Need-place-fault-requires
+place-fault-requires c κs = search needs
 
 early-fault-requires : tie.Need-early-fault-requires
 early-fault-requires c κs = search needs
@@ -35,6 +39,7 @@ entry-of-spec =
     find-named-requires
     start-requires
     length-requires
+    place-fault-requires
     early-fault-requires
     address-fault-requires
     returns)

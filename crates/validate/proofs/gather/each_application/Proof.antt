@@ -1,11 +1,9 @@
 -- Marks and packages of the applications met stand in the arrays, and with those to come they are those of all.
 use borrow.Author.Needs.{needs}
 use Prim.Native.Nat.{_-_}
-use mathlib.Core.List.{map}
 use mathlib.Core.Logic.{⊎-elim}
 use lib.ListN.{take}
 use Rattle.parse.proofs.Entering.{holds-end}
-use Rattle.layout.specs.Parts.{partName}
 use Rattle.validate.proofs.Gathering.{Applying, apps-start, apps-ready, apps-marked, apps-all, apps-none, apps-many, apps-stood, apps-after, apps-on}
 use Rattle.validate.proofs.gather.each_application.Statement.{statement}
 use Rattle.validate.proofs.gather.each_application.Tie as tie
@@ -21,7 +19,7 @@ use Rattle.tree.proofs.keys_of.Reads as keys-of-reads
 use Rattle.tree.proofs.next_key.Reads as next-key-reads
 
 abbrev Inv-loop : tie.InvT-loop
-Inv-loop tree store made items count components pairs₀ marks₀ fault₀ i₀ w₀ pairs marks fault i w = Applying tree store made (map (partName store) (take count items)) (take components pairs₀) components w₀ marks pairs fault w i
+Inv-loop tree store made items count components pairs₀ marks₀ fault₀ i₀ w₀ pairs marks fault i w = Applying tree store made (take count items) (take components pairs₀) components w₀ marks pairs fault w i
 
 abbrev μ-loop : tie.MeasureT-loop
 μ-loop tree store made items count components pairs₀ marks₀ fault₀ i₀ w₀ pairs marks fault i w = 65 - i
