@@ -169,7 +169,8 @@ module _ (room store bytes : List ℕ) (vs : List Slot) (x : Value) (made : ℕ)
   partition-got =
       gives-via _ (text-place-got store bytes vs x name _ _ (fs (ascii "name")))
       (gives-via _ (number-need-got store bytes vs x name _ _ (fs (ascii "offset")))
-      (gives-made _ (number-need-got store bytes vs x name _ _ (fs (ascii "size")))))
+      (gives-via _ (number-need-got store bytes vs x name _ _ (fs (ascii "size")))
+      (gives-made _ (a-flag (ascii "locked")))))
 
   -- ---- components
 

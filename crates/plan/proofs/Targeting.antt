@@ -92,7 +92,7 @@ module _ (room store : Seq ℕ) (made : ℕ) (t : Text) (l : List) (e : l ≡ pa
       pub target-low : at < p .count → at < 32
       target-low h = omega (arith, taken .fits)
 
-      pub target-scaled : at < p .count → Fits w64 (at * 24)
+      pub target-scaled : at < p .count → Fits w64 (at * 32)
       target-scaled h = record { fits = omega (arith, taken .fits) }
 
       pub target-found : (d : Partition) → at < p .count → results.At (getD (p .items) at d) ≡ partition room store made t

@@ -9,7 +9,7 @@ use lib.Dec.{eqb, ltb, leb·suc-suc}
 use lib.ListN.{length, getD}
 use Rattle.meaning.specs.Base.{pick, same, ascii}
 use Rattle.meaning.specs.Refusal.{accepted}
-use Rattle.meaning.specs.Rules.{nameOf}
+use Rattle.meaning.specs.Rules.{nameOf, firstNamed}
 use Rattle.meaning.specs.Schema as schemas
 use Rattle.meaning.specs.Plan as meant
 use Rattle.laws.specs.Cases.{on}
@@ -114,7 +114,7 @@ module _ (room store : Seq ℕ) (made : ℕ) (name : Seq ℕ) where
   ranked ps at = pick (ltb at (length ps)) (results.At (getD ps at targets.none)) results.Nothing
 
   ranked-means : (x : Seq ℕ) (ps : Seq Partition)
-      → targetMeant (ranked ps (rank x (map (partName store) ps))) ≡ meant.firstNamed x (map (partitionMeant room store made name) ps)
+      → targetMeant (ranked ps (rank x (map (partName store) ps))) ≡ firstNamed x (map (partitionMeant room store made name) ps)
   ranked-means x [] = refl
   ranked-means x (p ∷ ps) =
       on (same x (partName store p))
