@@ -1,10 +1,11 @@
 -- The lines of the listing: one law for each.
 use Prim.Native.Nat.{ℕ, _+_}
+use mathlib.Core.Bool.{Bool, true, false}
 use mathlib.Core.List.{List, [], _∷_, append-assoc, append-nil}
 use mathlib.Core.Path.{_≡_, ap}
 use Rattle.meaning.specs.Base.{ascii}
 use Rattle.meaning.specs.Schema as meant
-use Rattle.meaning.specs.Listing.{decimal, dashed, stemLine, refusedLine}
+use Rattle.meaning.specs.Listing.{decimal, lockWord, dashed, stemLine, refusedLine}
 use Rattle.schema.specs.declared.Text.{Text}
 use Rattle.schema.specs.declared.Word.{Word}
 use Rattle.schema.specs.declared.Chip.{Chip}
@@ -43,6 +44,14 @@ kind-said kinds.App w e = rw e
 kind-said kinds.Pbp w e = rw e
 kind-said kinds.Raw w e = rw e
 
+pub is-locked : (b : Bool) (o o1 : List ℕ) (n n1 : ℕ) → b ≡ true → Wrote (32 ∷ ascii "locked") o n o1 n1 → Wrote (32 ∷ lockWord b) o n o1 n1
+unfolding lockWord
+is-locked b o o1 n n1 e x = rw e x
+
+pub is-open : (b : Bool) (o o1 : List ℕ) (n n1 : ℕ) → b ≡ false → Wrote (32 ∷ ascii "open") o n o1 n1 → Wrote (32 ∷ lockWord b) o n o1 n1
+unfolding lockWord
+is-open b o o1 n n1 e x = rw e x
+
 -- ---- lines
 module _ (o o1 o2 o3 : List ℕ) (n n1 n2 n3 : ℕ) where
   pub stem-line : (s : List ℕ) → Wrote (ascii "stem") o n o1 n1 → Wrote (32 ∷ s) o1 n1 o2 n2 → Wrote (10 ∷ []) o2 n2 o3 n3 → Wrote (stemLine s) o n o3 n3
@@ -57,12 +66,14 @@ module _ (o o1 o2 o3 : List ℕ) (n n1 n2 n3 : ℕ) where
     build-line store name p k w x y z = simp append-assoc (wrote-then w (wrote-then x (wrote-then y z)))
 
     module _ (o5 : List ℕ) (n5 : ℕ) where
-      pub part-line : (store : List ℕ) (p : Partition) (s : List ℕ) (end : ℕ)
-          → Wrote (ascii "part") o n o1 n1 → Wrote (32 ∷ s) o1 n1 o2 n2 → Wrote (32 ∷ decimal (p .offset)) o2 n2 o3 n3 → Wrote (32 ∷ decimal end) o3 n3 o4 n4 → Wrote (10 ∷ []) o4 n4 o5 n5
+      pub part-line : (o6 : List ℕ) (n6 : ℕ) (store : List ℕ) (p : Partition) (s : List ℕ) (end : ℕ)
+          → Wrote (ascii "part") o n o1 n1 → Wrote (32 ∷ s) o1 n1 o2 n2 → Wrote (32 ∷ decimal (p .offset)) o2 n2 o3 n3 → Wrote (32 ∷ decimal end) o3 n3 o4 n4
+          → Wrote (32 ∷ lockWord (p .locked)) o4 n4 o5 n5 → Wrote (10 ∷ []) o5 n5 o6 n6
           → s ≡ clip (p .from) (p .len) store → end ≡ p .offset + p .size
-          → Wrote (shown.part store p) o n o5 n5
+          → Wrote (shown.part store p) o n o6 n6
       unfolding shown.part
-      part-line store p s end w x y v z e f = simp append-assoc (wrote-then w (wrote-then (field-by x e) (wrote-then y (wrote-then (field-by v (ap decimal f)) z))))
+      part-line o6 n6 store p s end w x y v l z e f =
+          simp append-assoc (wrote-then w (wrote-then (field-by x e) (wrote-then y (wrote-then (field-by v (ap decimal f)) (wrote-then l z)))))
 
       pub refused-line : (number section place : ℕ)
           → Wrote (ascii "refused") o n o1 n1 → Wrote (32 ∷ decimal number) o1 n1 o2 n2 → Wrote (32 ∷ decimal section) o2 n2 o3 n3 → Wrote (32 ∷ decimal place) o3 n3 o4 n4 → Wrote (10 ∷ []) o4 n4 o5 n5

@@ -39,7 +39,8 @@ applicationBrief a = record { «package» = a .«package»; name = a .name; part
 -- ---- a line
 
 unfoldable pub part : Seq ℕ → Partition → Seq ℕ
-part store p = line (ascii "part") (clip (p .from) (p .len) store ∷ decimal (p .offset) ∷ decimal (p .offset + p .size) ∷ [])
+part store p =
+    line (ascii "part") (clip (p .from) (p .len) store ∷ decimal (p .offset) ∷ decimal (p .offset + p .size) ∷ meant.lockWord (p .locked) ∷ [])
 
 unfoldable pub comp : Seq ℕ → Seq ℕ → ComponentBrief → Seq ℕ
 comp store name b =

@@ -2,6 +2,14 @@ use borrow.Author.Needs.{needs}
 use Rattle.report.proofs.Lining.{part-line}
 use Rattle.report.proofs.line.part.Statement.{statement}
 use Rattle.report.proofs.line.part.Tie as tie
+use Rattle.report.proofs.line.part.Reads as reads
+use Rattle.report.proofs.line.part.Lts as lts
+use Rattle.layout.proofs.end_of.Reads as end-of-reads
+use Rattle.page.proofs.field.Reads as field-reads
+use Rattle.page.proofs.number.Reads as number-reads
+use Rattle.page.proofs.put.Reads as put-reads
+use Rattle.report.proofs.line.lock.Reads as lock-reads
+use Rattle.schema.proofs.stored.Reads as stored-reads
 
 slice-aggregate-put : tie.Need-slice-aggregate-put
 slice-aggregate-put c = search needs
@@ -27,6 +35,9 @@ end-of-requires c κs = search needs
 number-requires-2 : tie.Need-number-requires-2
 number-requires-2 c κs = search needs
 
+lock-requires : tie.Need-lock-requires
+lock-requires c κs = search needs
+
 slice-aggregate-put-2 : tie.Need-slice-aggregate-put-2
 slice-aggregate-put-2 c = search needs
 
@@ -51,6 +62,7 @@ part-spec =
     number-requires
     end-of-requires
     number-requires-2
+    lock-requires
     slice-aggregate-put-2
     put-requires-2
     same-length
