@@ -17,7 +17,7 @@ use Rattle.theorems.specs.AcceptedComponents.{SoundComponent, SoundCompo
 use Rattle.theorems.proofs.Standing.{lemma-at, at-lemma}
 
 abbrev nowhere : Partition
-nowhere = record { name = []; offset = 0; size = 0 }
+nowhere = record { name = []; offset = 0; size = 0; locked = false }
 
 module _ (r : Preset) (obeys : rules r ≡ fine) where
   groups : Groups r

@@ -18,7 +18,7 @@ use Rattle.theorems.specs.AcceptedLayout.{SoundPartition, SoundLayout, A
 use Rattle.theorems.proofs.Standing.{lemma-at}
 
 abbrev nowhere : Partition
-nowhere = record { name = []; offset = 0; size = 0 }
+nowhere = record { name = []; offset = 0; size = 0; locked = false }
 
 module _ (chip : Chip) (ps : List Partition) (e : layout chip ps ≡ fine) where
   inside : (i : ℕ) (p : Partition) → At ps i p → i < length ps

@@ -13,8 +13,8 @@ use Rattle.meaning.specs.Base.{pick, nil?, same, before}
 use Rattle.meaning.specs.Refusal.{numbered, accepted, inApplication}
 use Rattle.meaning.specs.Schema.{Partition, Component, Application, Preset}
 use Rattle.meaning.specs.Verdict.{fine, among}
-use Rattle.meaning.specs.Rules.{given, nameOf, partitionNames, allUses, usesOf, rules}
-use Rattle.meaning.specs.Plan.{Selection, bootChain, app, Entry, declared, componentNames, admitted, Build, built?, Source, fromPackage, fromFile, PlannedComponent, Plan, payload, pbpPayload, planned, componentOf, chosen, composition, wanted, wantedBy, firstUses, inOrder, buildsOf, firstNamed, partitionFor, composed, planOf}
+use Rattle.meaning.specs.Rules.{given, nameOf, firstNamed, partitionNames, allUses, usesOf, rules}
+use Rattle.meaning.specs.Plan.{Selection, bootChain, app, Entry, declared, componentNames, admitted, Build, built?, Source, fromPackage, fromFile, PlannedComponent, Plan, payload, pbpPayload, planned, componentOf, chosen, composition, wanted, wantedBy, firstUses, inOrder, buildsOf, partitionFor, composed, planOf}
 use Rattle.laws.specs.Cases.{on, never}
 use Rattle.laws.specs.Order.{same-eq, eq-same}
 use Rattle.laws.specs.Accepted.{Kept, Meant, Groups, rules-groups, components-kept, layout-at, layout-meant, layout-disjoint}
@@ -22,12 +22,12 @@ use Rattle.laws.specs.Places.{At, In, at-inside, at-getD, getD-at, all-of, at-m
 use Rattle.laws.specs.Answers.{accepted-one, refused-never}
 use Rattle.laws.specs.Uses.{AllAlike, uses-alike, application-uses, uses-append}
 use Rattle.laws.specs.Builds.{First, firsts-first, firsts-has, firsts-one, asked, Agrees, wanted-use, wanted-by, by-wanted, Among, composition-in, in-composition, composition-length, order-in, in-order, builds-length}
-use Rattle.laws.specs.Chosen.{some-declared, declared-some, plan-made, chosen-in, application-known}
+use Rattle.laws.specs.Chosen.{some-declared, declared-some, plan-made, chosen-in, Open, named-among, application-open}
 use Rattle.laws.specs.Plans.{valid-rules, text-planned}
 use Rattle.laws.specs.Rooms.{valid-anywhere}
 use Rattle.theorems.specs.Words as words
 use Rattle.theorems.specs.Words.{Holds}
-use Rattle.theorems.specs.PassedPreset.{NoSemicolon, Selected, by-key, Origin, own, selected, Payload, package-only, file-only, Lies, Finds, Uses, as-payload, as-pbp, BuiltOnce, Premise1, Premise2}
+use Rattle.theorems.specs.PassedPreset.{NoSemicolon, Selected, by-key, Origin, own, selected, Payload, package-only, file-only, Lies, Finds, Uses, as-payload, as-pbp, BuiltOnce, Premise1, ApplicationIsOpen, Premise2}
 use Rattle.theorems.specs.Demand3.{PlanMeetsDemand, PlanIsSmall, PlainNameIsFound, TextMeetsDemand, AcceptedInAllLargeRooms}
 use Rattle.theorems.proofs.Standing.{lemma-at, at-lemma}
 use Rattle.theorems.proofs.Refusals.{declared-lemma, lemma-declared}
@@ -52,7 +52,7 @@ application-payload a = package-only (a .pack) refl refl refl
 -- ---- partitions
 
 abbrev nowhere : Partition
-nowhere = record { name = []; offset = 0; size = 0 }
+nowhere = record { name = []; offset = 0; size = 0; locked = false }
 
 layout-lies : (r : Preset) (name : List ℕ) → Groups r → among name (partitionNames (r .partitions)) ≡ true → Lies (r .partitions) name
 layout-lies r name g t =
@@ -78,13 +78,13 @@ first-named name (x ∷ ps) (suc i) p h e only =
     (λ t. let z : 0 ≡ suc i = only 0 x refl (sym (same-eq name (x .name) t)) in absurd (omega arith))
     (λ t. rw t (first-named name ps i p h e (λ j q g n. let z : suc j ≡ suc i = only (suc j) q g n in omega arith)))
 
+lies-first : (ps : List Partition) (name : List ℕ) (l : Lies ps name) → firstNamed name ps ≡ some (l .partition)
+lies-first ps name l =
+    first-named name ps (l .place) (l .partition) (lemma-at ps (l .place) (l .partition) (l .here)) (l .is) (λ j q h n. l .only j q (at-lemma ps j q h) n)
+
 lies-finds : (ps : List Partition) (reference : List ℕ) → Lies ps (nameOf reference) → Finds ps reference
 unfolding partitionFor
-lies-finds ps reference l =
-    record {
-      lies = l;
-      found = first-named (nameOf reference) ps (l .place) (l .partition) (lemma-at ps (l .place) (l .partition) (l .here)) (l .is) (λ j q h n. l .only j q (at-lemma ps j q h) n);
-    }
+lies-finds ps reference l = record { lies = l; found = lies-first ps (nameOf reference) l }
 
 -- ---- builds
 
@@ -235,8 +235,25 @@ module _ (r : Preset) (s : Selection) (p : Plan) (obeys : rules r ≡ fine) (mad
   component-finds : (j : ℕ) (c : Component) → At (r .components) j c → nil? (c .role .partition) ≡ false → Finds (p .partitions) (c .role .partition)
   component-finds j c h n = lies-finds (p .partitions) (c .role .partition) (known-lies (nameOf (c .role .partition)) (kept j c h .known n))
 
+  selected-open : (a : Application) → Selected r s a → Open (a .partition) (r .partitions)
+  selected-open a e = application-open (r .partitions) (r .applications) a (groups .applied) (chosen-in r s a (the-chosen a e))
+
   application-lies : (a : Application) → Selected r s a → Lies (p .partitions) (a .partition)
-  application-lies a e = known-lies (a .partition) (application-known (partitionNames (r .partitions)) (r .applications) a (groups .applied) (chosen-in r s a (the-chosen a e)))
+  application-lies a e = let o = selected-open a e in known-lies (a .partition) (named-among (a .partition) (r .partitions) (o .partition) (o .named))
+
+  -- 67: whatever the name finds is open
+  named-open : (a : Application) → Selected r s a → (q : Partition) → firstNamed (a .partition) (p .partitions) ≡ some q → q .locked ≡ false
+  named-open a e q h =
+      let o = selected-open a e in
+      let f : firstNamed (a .partition) (p .partitions) ≡ some (o .partition)
+      = subst (λ (ps : List Partition). firstNamed (a .partition) ps ≡ some (o .partition)) partitions-are (o .named) in
+      ap (λ (z : Partition). z .locked) (some-one q (o .partition) (sym h ∙ f)) ∙ o .unlocked
+
+  found-is-open : Premise1 r s → ApplicationIsOpen r s p
+  unfolding partitionFor planned componentOf
+  found-is-open plain a e q h =
+      named-open a e q
+      (subst (λ (name : List ℕ). firstNamed name (p .partitions) ≡ some q) (plain-name (a .partition) (plain .no-semicolon a e) (plain .no-white-ends a e)) h)
 
   finds-of : Premise1 r s → (c : Component) → Origin r s c → nil? (c .role .partition) ≡ false → Finds (p .partitions) (c .role .partition)
   unfolding componentOf
@@ -314,6 +331,8 @@ demand r s p obeys made =
           subst (λ (z : PlannedComponent). nil? (z .spec .role .partition) ≡ false → Finds (p .partitions) (z .spec .role .partition)) (sym (o .2)) (finds-of r s p obeys made plain (o .0) (o .1));
       own-references = λ j c h. component-finds r s p obeys made j c (lemma-at (r .components) j c h);
       exactly = application-lies r s p obeys made;
+      exactly-open = λ a e. let l = application-lies r s p obeys made a e in named-open r s p obeys made a e (l .partition) (lies-first (p .partitions) (a .partition) l);
+      found-open = found-is-open r s p obeys made;
       built-once = λ i q b h u. once r s p obeys made b (use-wanted r s p obeys made i q b (planned-at i q h) u);
       features = λ agrees i q b h u k d g. let f = built-at k d g in
           same-features r s p obeys made agrees b d (use-wanted r s p obeys made i q b (planned-at i q h) u) (f .place, f .here);

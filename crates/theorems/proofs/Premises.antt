@@ -1,6 +1,6 @@
 -- Without a premise a clause fails: what the texts read is computed, and a reference or a build of the plan is looked at.
 use Prim.Native.Nat.{ℕ, zero, suc, _≤_}
-use mathlib.Core.Bool.{false}
+use mathlib.Core.Bool.{Bool, true, false}
 use mathlib.Core.List.{List, [], _∷_}
 use mathlib.Core.Option.{Option, none, some}
 use mathlib.Core.Path.{_≡_, refl, sym, ap, subst, _∙_}
@@ -12,21 +12,23 @@ use Rattle.meaning.specs.Refusal.{accepted, acceptedThen}
 use Rattle.meaning.specs.Schema.{kindRaw, Partition, Component, Application, Preset}
 use Rattle.meaning.specs.Preset.{Read, validate}
 use Rattle.meaning.specs.Plan.{Selection, bootChain, app, built, Plan, planned, componentOf, partitionFor, composed, planOf, computes}
+use Rattle.laws.specs.Cases.{never}
 use Rattle.laws.specs.Answers.{accepted-one, after-accepted}
 use Rattle.laws.specs.Rooms.{valid-anywhere}
 use Rattle.laws.specs.Places.{none-some}
 use Rattle.examples.specs.Example as given
 use Rattle.plan.specs.ChoiceSaid.{selection}
 use Rattle.host.specs.Presets.{validated}
-use Rattle.theorems.specs.PassedPreset.{Selected, by-key, as-payload, ReferencesFind, NoSemicolon, NoWhiteEnds, SelectedGoesTo, FeaturesOfEachUse, Premise1, PassesWithout, goingTo, twoSets, NeedsNoSemicolon, NeedsNoWhiteHead, NeedsNoWhiteEnd, NeedsOneSet}
+use Rattle.theorems.specs.PassedPreset.{Declared, Selected, by-key, as-payload, ReferencesFind, ApplicationIsOpen, NoSemicolon, NoWhiteEnds, SelectedGoesTo, FeaturesOfEachUse, Premise1, PassesWithout, goingTo, besideLocked, twoSets, NeedsNoSemicolon, NeedsNoWhiteHead, NeedsNoWhiteEnd, OpenNeedsNoSemicolon, NeedsOneSet}
 use Rattle.theorems.proofs.PassedPreset.{preset-shown, plan-shown}
 
 -- ---- a text by its preset
 
 -- in rooms of the least size 01 reads a text as x, and plans x as q: so do the calls, in all rooms that are large enough
-module _ (text : List ℕ) (asked : ℕ) (key : List ℕ) (Met : Preset → Selection → Type 0) (Clause : Plan → Type 0) where
+module _ (text : List ℕ) (asked : ℕ) (key : List ℕ) (Met : Preset → Selection → Type 0) (Clause : Preset → Selection → Plan → Type 0) where
   by-read : (x : Read) (q : Plan) → validate of01 32768 65536 (ascii "board") text ≡ accepted x
-      → Met (x .preset) (selection asked key) → planOf (x .preset) (selection asked key) ≡ accepted q → (Clause q → ⊥) → PassesWithout text asked key Met Clause
+      → Met (x .preset) (selection asked key) → planOf (x .preset) (selection asked key) ≡ accepted q → (Clause (x .preset) (selection asked key) q → ⊥)
+      → PassesWithout text asked key Met Clause
   by-read x q e met made fails =
       let there : (store tree : List ℕ) → 32768 ≤ length store → 65536 ≤ length tree → validated text (ascii "board") store tree ≡ accepted x
       = λ store tree l m. valid-anywhere of01 32768 65536 (length store) (length tree) (ascii "board") text x e (record { store-takes = l; tree-takes = m }) in
@@ -41,11 +43,13 @@ module _ (text : List ℕ) (asked : ℕ) (key : List ℕ) (Met : Preset → Sele
 
   -- what matters of x is its preset
   by-preset : (p : Preset) (q : Plan) → acceptedThen (validate of01 32768 65536 (ascii "board") text) (λ x. accepted (x .preset)) ≡ accepted p
-      → Met p (selection asked key) → planOf p (selection asked key) ≡ accepted q → (Clause q → ⊥) → PassesWithout text asked key Met Clause
+      → Met p (selection asked key) → planOf p (selection asked key) ≡ accepted q → (Clause p (selection asked key) q → ⊥)
+      → PassesWithout text asked key Met Clause
   by-preset p q e met made fails =
       let x = after-accepted (λ (x : Read). accepted (x .preset)) (validate of01 32768 65536 (ascii "board") text) p e in
       let d : p ≡ x .0 .preset = sym (accepted-one (x .0 .preset) p (x .2)) in
-      by-read (x .0) q (x .1) (subst (λ (r : Preset). Met r (selection asked key)) d met) (subst (λ (r : Preset). planOf r (selection asked key) ≡ accepted q) d made) fails
+      by-read (x .0) q (x .1) (subst (λ (r : Preset). Met r (selection asked key)) d met) (subst (λ (r : Preset). planOf r (selection asked key) ≡ accepted q) d made)
+      (subst (λ (r : Preset). Clause r (selection asked key) q → ⊥) d fails)
 
 -- a component of the texts
 abbrev component : List ℕ → List ℕ → List (List ℕ) → Option (List ℕ) → List (List ℕ) → Component
@@ -66,12 +70,15 @@ component name pack features pbpPack pbpFeatures =
     }
 
 -- one erase block
-abbrev block : List ℕ → ℕ → Partition
-block name offset = record { name = name; offset = offset; size = 4096 }
+abbrev block : List ℕ → ℕ → Bool → Partition
+block name offset locked = record { name = name; offset = offset; size = 4096; locked = locked }
 
 -- ---- premise 1
 
-module _ (name : List ℕ) where
+abbrev forDesk : Selection
+forDesk = app (ascii "desk")
+
+module _ (others : List Partition) (name : List ℕ) where
   abbrev desk : Application
   desk =
       record {
@@ -90,13 +97,10 @@ module _ (name : List ℕ) where
       record {
         board = given.preset .board;
         image = given.preset .image;
-        partitions = block (ascii "boot") 0 ∷ block name 4096 ∷ [];
+        partitions = block (ascii "boot") 0 false ∷ others;
         components = component (ascii "first") (ascii "loader") [] none [] ∷ [];
         applications = desk ∷ [];
       }
-
-  abbrev forDesk : Selection
-  forDesk = app (ascii "desk")
 
   abbrev goingPlan : Plan
   goingPlan = composed going forDesk (some desk)
@@ -112,11 +116,15 @@ module _ (name : List ℕ) where
   unfolding computes
   lost some-name gone h = let f = h 0 (planned (componentOf desk)) refl some-name in none-some (f .lies .partition) (sym gone ∙ f .found)
 
+-- the second partition, of that name
+abbrev second : List ℕ → List Partition
+second name = block name 4096 false ∷ []
+
 pub needs-no-semicolon : NeedsNoSemicolon
 unfolding computes
 needs-no-semicolon =
-    by-preset (goingTo "name = \"a;b\"" "partition = \"a;b\"") 1 (ascii "desk") (SelectedGoesTo NoWhiteEnds) ReferencesFind
-    (going (ascii "a;b")) (goingPlan (ascii "a;b")) refl (goes (ascii "a;b") NoWhiteEnds refl) refl (lost (ascii "a;b") refl refl)
+    by-preset (goingTo "name = \"a;b\"" "partition = \"a;b\"") 1 (ascii "desk") (SelectedGoesTo NoWhiteEnds) (λ p s. ReferencesFind)
+    (going (second (ascii "a;b")) (ascii "a;b")) (goingPlan (second (ascii "a;b")) (ascii "a;b")) refl (goes (second (ascii "a;b")) (ascii "a;b") NoWhiteEnds refl) refl (lost (second (ascii "a;b")) (ascii "a;b") refl refl)
 
 without : NoSemicolon (ascii " a")
 without zero h = absurd (omega (arith, h))
@@ -126,8 +134,8 @@ without (suc (suc i)) h = absurd h
 pub needs-no-white-head : NeedsNoWhiteHead
 unfolding computes
 needs-no-white-head =
-    by-preset (goingTo "name = \" a\"" "partition = \" a\"") 1 (ascii "desk") (SelectedGoesTo NoSemicolon) ReferencesFind
-    (going (ascii " a")) (goingPlan (ascii " a")) refl (goes (ascii " a") NoSemicolon without) refl (lost (ascii " a") refl refl)
+    by-preset (goingTo "name = \" a\"" "partition = \" a\"") 1 (ascii "desk") (SelectedGoesTo NoSemicolon) (λ p s. ReferencesFind)
+    (going (second (ascii " a")) (ascii " a")) (goingPlan (second (ascii " a")) (ascii " a")) refl (goes (second (ascii " a")) (ascii " a") NoSemicolon without) refl (lost (second (ascii " a")) (ascii " a") refl refl)
 
 without-end : NoSemicolon (ascii "a ")
 without-end zero h = absurd (omega (arith, h))
@@ -137,8 +145,27 @@ without-end (suc (suc i)) h = absurd h
 pub needs-no-white-end : NeedsNoWhiteEnd
 unfolding computes
 needs-no-white-end =
-    by-preset (goingTo "name = \"a \"" "partition = \"a \"") 1 (ascii "desk") (SelectedGoesTo NoSemicolon) ReferencesFind
-    (going (ascii "a ")) (goingPlan (ascii "a ")) refl (goes (ascii "a ") NoSemicolon without-end) refl (lost (ascii "a ") refl refl)
+    by-preset (goingTo "name = \"a \"" "partition = \"a \"") 1 (ascii "desk") (SelectedGoesTo NoSemicolon) (λ p s. ReferencesFind)
+    (going (second (ascii "a ")) (ascii "a ")) (goingPlan (second (ascii "a ")) (ascii "a ")) refl (goes (second (ascii "a ")) (ascii "a ") NoSemicolon without-end) refl (lost (second (ascii "a ")) (ascii "a ") refl refl)
+
+-- ---- premise 1, of locked partitions
+
+-- `a` is locked, `a;b` is not
+abbrev locks : List Partition
+locks = block (ascii "a") 4096 true ∷ block (ascii "a;b") 8192 false ∷ []
+
+found-locked : ApplicationIsOpen (going locks (ascii "a;b")) forDesk (goingPlan locks (ascii "a;b")) → ⊥
+unfolding computes
+found-locked h = never {b = true} refl (h (desk locks (ascii "a;b")) (by-key (ascii "desk") 0 (desk locks (ascii "a;b")) there) (block (ascii "a") 4096 true) refl)
+  where
+    there : Declared (desk locks (ascii "a;b") ∷ []) (ascii "desk") 0 (desk locks (ascii "a;b"))
+    there = record { here = refl; is = refl; first = λ j b l g e. absurd (omega arith) }
+
+pub open-needs-no-semicolon : OpenNeedsNoSemicolon
+unfolding computes
+open-needs-no-semicolon =
+    by-preset besideLocked 1 (ascii "desk") (SelectedGoesTo NoWhiteEnds) ApplicationIsOpen
+    (going locks (ascii "a;b")) (goingPlan locks (ascii "a;b")) refl (goes locks (ascii "a;b") NoWhiteEnds refl) refl found-locked
 
 -- ---- premise 2
 
@@ -150,7 +177,7 @@ sets =
     record {
       board = given.preset .board;
       image = given.preset .image;
-      partitions = block (ascii "boot") 0 ∷ [];
+      partitions = block (ascii "boot") 0 false ∷ [];
       components = component (ascii "x") (ascii "p") (ascii "f" ∷ ascii "g" ∷ []) (some (ascii "p")) (ascii "h" ∷ []) ∷ y ∷ [];
       applications = [];
     }
@@ -171,7 +198,7 @@ boot-plain p = record { no-semicolon = λ a h. absurd (asks-for p bootChain a h)
 pub needs-one-set : NeedsOneSet
 unfolding computes
 needs-one-set =
-    by-preset twoSets 0 [] Premise1 FeaturesOfEachUse sets (composed sets bootChain none) refl (boot-plain sets) refl
+    by-preset twoSets 0 [] Premise1 (λ p s. FeaturesOfEachUse) sets (composed sets bootChain none) refl (boot-plain sets) refl
     (λ (h : FeaturesOfEachUse (composed sets bootChain none)).
     let e : _≡_ {A = List (List ℕ)} (ascii "f" ∷ ascii "g" ∷ []) (ascii "h" ∷ [])
     = h 1 (planned y) (built (ascii "p") none (ascii "h" ∷ [])) refl (as-payload refl) 0 (built (ascii "p") none (ascii "f" ∷ ascii "g" ∷ [])) refl refl in

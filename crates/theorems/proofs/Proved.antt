@@ -52,6 +52,7 @@ proved =
             needs-no-semicolon = needs.needs-no-semicolon;
             needs-no-white-head = needs.needs-no-white-head;
             needs-no-white-end = needs.needs-no-white-end;
+            open-needs-no-semicolon = needs.open-needs-no-semicolon;
             needs-one-set = needs.needs-one-set;
             refused-why = refusals.refused-why;
             why-refused = refusals.why-refused;

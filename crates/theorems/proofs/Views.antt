@@ -83,7 +83,7 @@ module _ (room store : List ℕ) (made : ℕ) (name : List ℕ) where
 
   partition-by : (f : PartitionFound) → partitionBy room store made name (records.partitionOf f) ≡ some (partitionSeen room store made name f)
   partition-by partitions.Nothing = refl
-  partition-by (partitions.At p) = refl
+  partition-by (partitions.At p) = rw (flag-by (p .locked))
 
   head-by : (f : ComponentFound) → WholeComponent f → headBy room store made name (records.headOf f) ≡ some (partOf (λ (c : schemas.Component). c .head) (componentSeen room store made name f))
   head-by components.Nothing h = refl

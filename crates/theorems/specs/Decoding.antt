@@ -156,8 +156,9 @@ module _ (tree store : List ℕ) (made : ℕ) where
       }))
 
     abbrev pub partitionBy : PartitionView → Option (Option Partition)
-    partitionBy v = foundBy (v .found)
-        (some (record { name = clip (v .from) (v .len) store; offset = v .offset; size = v .size }))
+    partitionBy v = foundBy (v .found) (do
+      locked ← flagBy (v .locked)
+      some (record { name = clip (v .from) (v .len) store; offset = v .offset; size = v .size; locked = locked }))
 
     abbrev pub headBy : HeadView → Option (Option Head)
     headBy v = foundBy (v .found) (do

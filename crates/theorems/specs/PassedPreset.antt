@@ -4,8 +4,9 @@
 -- number 0 too, for every selection and in all rooms that are large enough; or with 80, where the key is no
 -- application's; or with 81, where the application of the key has a component's name. With number 0 the views show a
 -- plan in which each component has one payload source; each partition reference finds exactly one partition, which
--- ends below 2^32 and shares no byte with another; and each package is built once, with the features of every use.
--- Two of these clauses have a premise. The end of this file shows by four texts that both are needed.
+-- ends below 2^32 and shares no byte with another; no application lies in a locked partition (W-206); and each package
+-- is built once, with the features of every use. Three of these clauses have a premise, of two in all. The end of this
+-- file shows by five texts that both are needed.
 --
 -- The statement is `APassedPresetDoesNotFailLater`; all above it are its words, from the smallest to the largest.
 use Prim.Native.Nat.{ℕ, _≤_, _<_}
@@ -101,7 +102,7 @@ pub record BuiltOnce (builds : List Build) (pack : List ℕ) : Type 0 where
   pub is : build .pack ≡ pack
   pub only : (j : ℕ) (other : Build) → At builds j other → other .pack ≡ pack → j ≡ place
 
--- ---- the two clauses that have a premise
+-- ---- the clauses that have a premise
 
 -- each partition reference of the plan finds exactly one partition
 abbrev pub ReferencesFind : Plan → Type 0
@@ -125,6 +126,13 @@ SelectedGoesTo Kind p s = (a : Application) → Selected p s a → Kind (a .part
 pub record Premise1 (p : Preset) (s : Selection) : Type 0 where
   pub no-semicolon : SelectedGoesTo NoSemicolon p s
   pub no-white-ends : SelectedGoesTo NoWhiteEnds p s
+
+-- W-206, "no planned application lies in a locked one": the partition that the reference of the selected application
+-- finds, as it is planned, is open
+abbrev pub ApplicationIsOpen : Preset → Selection → Plan → Type 0
+ApplicationIsOpen p s q = (a : Application) → Selected p s a → (found : Partition)
+    → partitionFor (q .partitions) (planned (componentOf a) .spec .role .partition) ≡ some found
+    → found .locked ≡ false
 
 -- each package that is built has the features of every use
 abbrev pub FeaturesOfEachUse : Plan → Type 0
@@ -156,6 +164,10 @@ pub record SoundPlan (p : Preset) (s : Selection) (q : Plan) : Type 0 where
   pub references : Premise1 p s → ReferencesFind q
   -- without it, the application's partition is there by its name as it is written
   pub exactly : SelectedGoesTo (Lies (q .partitions)) p s
+  -- W-206: and it is open, so that no planned application lies in a locked partition by the name that it has
+  pub exactly-open : (a : Application) (h : Selected p s a) → exactly a h .partition .locked ≡ false
+  -- W-206: nor in one that planning finds, under premise 1
+  pub found-open : Premise1 p s → ApplicationIsOpen p s q
   -- each package that a planned component uses is built exactly once
   pub built-once : (i : ℕ) (c : PlannedComponent) (b : Build) → At (q .components) i c → Uses c b
       → BuiltOnce (q .builds) (b .pack)
@@ -215,7 +227,7 @@ APassedPresetDoesNotFailLater =
 -- answers number 0 to what is asked, and the views show a plan that does not have the clause; this much of the premises
 -- is met
 pub record PassesWithout (text : List ℕ) (asked : ℕ) (key : List ℕ) (Met : Preset → Selection → Type 0)
-    (Clause : Plan → Type 0) : Type 0 where
+    (Clause : Preset → Selection → Plan → Type 0) : Type 0 where
   pub preset : Preset
   pub passes : (store tree store' tree' : List ℕ) (r : Outcome) → 32768 ≤ length store → 65536 ≤ length tree
       → ValidatePromise text (ascii "board") store tree store' tree' r
@@ -225,7 +237,7 @@ pub record PassesWithout (text : List ℕ) (asked : ℕ) (key : List ℕ) (Met :
   pub planned : (store tree store' tree' : List ℕ) (r : Outcome) → 32768 ≤ length store → 65536 ≤ length tree
       → PlanPromise text (ascii "board") asked key store tree store' tree' r
       → (r .number ≡ 0) × PlanShown (ascii "board") store' tree' (r .made) asked key plan
-  pub fails : Clause plan → ⊥
+  pub fails : Clause preset (selection asked key) plan → ⊥
 
 -- a text whose application `desk` goes to the second partition
 abbrev pub goingTo : String → String → List ℕ
@@ -252,19 +264,49 @@ goingTo name partition =
 abbrev pub NeedsNoSemicolon : Type 0
 NeedsNoSemicolon =
     PassesWithout (goingTo "name = \"a;b\"" "partition = \"a;b\"") 1 (ascii "desk")
-    (SelectedGoesTo NoWhiteEnds) ReferencesFind
+    (SelectedGoesTo NoWhiteEnds) (λ p s. ReferencesFind)
 
 -- white space at an end is trimmed, and there is no partition `a`: at the head
 abbrev pub NeedsNoWhiteHead : Type 0
 NeedsNoWhiteHead =
     PassesWithout (goingTo "name = \" a\"" "partition = \" a\"") 1 (ascii "desk")
-    (SelectedGoesTo NoSemicolon) ReferencesFind
+    (SelectedGoesTo NoSemicolon) (λ p s. ReferencesFind)
 
 -- or at the end
 abbrev pub NeedsNoWhiteEnd : Type 0
 NeedsNoWhiteEnd =
     PassesWithout (goingTo "name = \"a \"" "partition = \"a \"") 1 (ascii "desk")
-    (SelectedGoesTo NoSemicolon) ReferencesFind
+    (SelectedGoesTo NoSemicolon) (λ p s. ReferencesFind)
+
+-- W-206: `a` is locked and `a;b` is open, and the application `desk` goes to `a;b`
+abbrev pub besideLocked : List ℕ
+besideLocked =
+    lined (
+    "[[partition]]"
+    ∷ "name = \"boot\""
+    ∷ "offset = 0"
+    ∷ "size = 4096"
+    ∷ "[[partition]]"
+    ∷ "name = \"a\""
+    ∷ "offset = 4096"
+    ∷ "size = 4096"
+    ∷ "locked = true"
+    ∷ "[[partition]]"
+    ∷ "name = \"a;b\""
+    ∷ "offset = 8192"
+    ∷ "size = 4096"
+    ∷ "[[component]]"
+    ∷ "name = \"first\""
+    ∷ "package = \"loader\""
+    ∷ "partition = \"boot\""
+    ∷ "[apps.desk]"
+    ∷ "partition = \"a;b\""
+    ∷ []
+    )
+
+-- 67 compares names exactly, as 64 does, and planning finds `a`, which is locked
+abbrev pub OpenNeedsNoSemicolon : Type 0
+OpenNeedsNoSemicolon = PassesWithout besideLocked 1 (ascii "desk") (SelectedGoesTo NoWhiteEnds) ApplicationIsOpen
 
 -- `x` uses `p` with `f` and `g`, and as PBP with `h`; `y` uses it with `h`
 abbrev pub twoSets : List ℕ
@@ -291,4 +333,4 @@ twoSets =
 
 -- `p` is built with `f` and `g`, the features of its first use, and `y` uses it with `h`; premise 1 is met
 abbrev pub NeedsOneSet : Type 0
-NeedsOneSet = PassesWithout twoSets 0 [] Premise1 FeaturesOfEachUse
+NeedsOneSet = PassesWithout twoSets 0 [] Premise1 (λ p s. FeaturesOfEachUse)

@@ -7,7 +7,8 @@ use Rattle.theorems.specs.NeverMet.{NeverMet, EachRefusalHasANumber}
 use Rattle.theorems.specs.AcceptedLayout.{AcceptedLayoutIsSound, PresetLayoutIsSound, EraseBlockIsTheMedias}
 use Rattle.theorems.specs.AcceptedComponents.{AcceptedComponentsAreSound}
 use Rattle.theorems.specs.PassedPreset.{APassedPresetDoesNotFailLater}
-use Rattle.theorems.specs.PassedPreset.{NeedsNoSemicolon, NeedsNoWhiteHead, NeedsNoWhiteEnd, NeedsOneSet}
+use Rattle.theorems.specs.PassedPreset.{NeedsNoSemicolon, NeedsNoWhiteHead, NeedsNoWhiteEnd}
+use Rattle.theorems.specs.PassedPreset.{OpenNeedsNoSemicolon, NeedsOneSet}
 use Rattle.theorems.specs.Demand3.{RefusedOnlyFor80And81, AlwaysRefusedFor80And81, ElsePlanned, PlanMeetsDemand}
 use Rattle.theorems.specs.Demand3.{PlanIsSmall, PlainNameIsFound, TextMeetsDemand, TextRefusedOnlyFor80And81}
 use Rattle.theorems.specs.Demand3.{TextRefusedByValidation, TextAlwaysRefusedFor80And81}
@@ -75,6 +76,8 @@ pub record Planning : Type 0 where
   pub needs-no-white-head : NeedsNoWhiteHead
   -- or ends with it
   pub needs-no-white-end : NeedsNoWhiteEnd
+  -- or it may find a locked partition (W-206)
+  pub open-needs-no-semicolon : OpenNeedsNoSemicolon
   -- without premise 2 a package may be built with other features than a use has
   pub needs-one-set : NeedsOneSet
   -- its parts: planning is refused for no other reason than 80 and 81
