@@ -13,6 +13,7 @@ use Rattle.schema.specs.declared.Text.{Text}
 use Rattle.schema.specs.declared.Text.the-variants as texts
 use Rattle.schema.specs.declared.Number.{Number}
 use Rattle.schema.specs.declared.Features.{Features}
+use Rattle.schema.specs.declared.Partition.{Partition}
 use Rattle.schema.specs.declared.Component.{Component}
 use Rattle.schema.specs.declared.Application.{Application}
 use Rattle.schema.specs.Words.{Put}
@@ -21,6 +22,7 @@ use Rattle.features.specs.declared.Feature.the-variants as items
 use Rattle.features.specs.Pieces.{pieces, nextOf}
 use Rattle.parse.specs.declared.front.Front.{Front}
 use Rattle.parse.specs.declared.view.PartitionFound.{PartitionFound}
+use Rattle.parse.specs.declared.view.PartitionFound.the-variants as partitions
 use Rattle.parse.specs.declared.view.ComponentFound.{ComponentFound}
 use Rattle.parse.specs.declared.view.ComponentFound.the-variants as components
 use Rattle.parse.specs.declared.view.ApplicationFound.{ApplicationFound}
@@ -128,8 +130,9 @@ module _ (f : ComponentFound) where
     load-shown r h = h ∙ ap loadOf e
 
 -- ---- the others
-pub partition-told : (f g : PartitionFound) → f ≡ g → partitionOf g ≡ partitionOf f
-partition-told f g e = ap partitionOf (sym e)
+pub partition-told : (f : PartitionFound) (p : Partition) (l : ℕ) → f ≡ partitions.At p → l ≡ flagNumber (p .locked)
+    → record { found = 1; offset = p .offset; size = p .size; from = p .from; len = p .len; locked = l } ≡ partitionOf f
+partition-told f p l e el = rw (el, e)
 
 pub application-told : (f : ApplicationFound) (a : Application) (p n q i t : Bytes) (s : FeatureList) (l o : Amount) → f ≡ applications.At a
     → p ≡ bytesOf (a .«package») → n ≡ bytesOf (a .name) → q ≡ bytesOf (a .partition) → i ≡ bytesOf (a .filename) → t ≡ bytesOf (a .attr)

@@ -4,6 +4,7 @@ use Rattle.host.proofs.records.partition_of.Statement.{statement}
 use Rattle.host.proofs.records.partition_of.Tie as tie
 use Rattle.host.proofs.records.partition_of.Reads as reads
 use Rattle.host.proofs.records.partition_of.Lts as lts
+use Rattle.host.proofs.records.flag_number.Reads as flag-number-reads
 use Rattle.host.proofs.records.no_partition.Reads as no-partition-reads
 
 enum-told : tie.Need-enum-told
@@ -15,6 +16,9 @@ no-partition-requires c κs = search needs
 enum-known-f : tie.Need-enum-known-f
 enum-known-f c = search needs
 
+flag-number-requires : tie.Need-flag-number-requires
+flag-number-requires c κs = search needs
+
 returns : tie.Need-returns
 returns c = search needs
 
@@ -23,4 +27,4 @@ returns-2 c = search (needs, partition-told)
 
 pub partition-of-spec : {M : Type 1} → statement M
 partition-of-spec =
-    tie.close (tie.spec enum-told no-partition-requires enum-known-f returns returns-2)
+    tie.close (tie.spec enum-told no-partition-requires enum-known-f flag-number-requires returns returns-2)
