@@ -303,6 +303,7 @@ fn of_application(
         60 => clash::of(preset, refusal).map(|clash| clash.said(tree)),
         62 => Some(long(&own.name)),
         64 => Some(absent(preset, tree, refusal, &own.partition)),
+        67 => Some(shut(preset, tree, refusal, &own.partition)),
         65 => {
             let earlier = preset.apps.values().position(|a| a.name == own.name)?;
             Some(twin(tree, Section::Application, &own.name, earlier))
@@ -335,15 +336,38 @@ fn unknown_partition(preset: &Preset, name: &str, taken: &str) -> String {
     )
 }
 
-// The default's name stands nowhere in the text, so it is told to be one.
-fn absent(preset: &Preset, tree: &Tree, refusal: &Refusal, partition: &str) -> String {
+// Whether an application's partition stands in the text: the default's name does not, so it is told to be one.
+fn referred(tree: &Tree, refusal: &Refusal) -> bool {
     let entry = tree.entry(refusal.section, refusal.place as usize);
     let written = entry.and_then(|entry| tree.field(entry, "partition"));
-    let taken = match written {
-        Some(_) => "",
-        None => ", which is taken where no `partition` is written",
+    written.is_some()
+}
+
+fn absent(preset: &Preset, tree: &Tree, refusal: &Refusal, partition: &str) -> String {
+    let taken = if referred(tree, refusal) {
+        ""
+    } else {
+        ", which is taken where no `partition` is written"
     };
     unknown_partition(preset, partition, taken)
+}
+
+// A partition that takes no applications, and which ones do.
+fn shut(preset: &Preset, tree: &Tree, refusal: &Refusal, partition: &str) -> String {
+    let taken = if referred(tree, refusal) {
+        ""
+    } else {
+        "; it is taken where no `partition` is written"
+    };
+    let open = preset.partitions.iter().filter(|p| !p.locked);
+    let open: Vec<&str> = open.map(|p| p.name.as_str()).collect();
+    let are = match open.len() {
+        0 => "none is open",
+        1 => "open is ",
+        _ => "open are ",
+    };
+    let open = plain(&open.join(", "));
+    format!("{} is locked{taken}; {are}{open}", quoted(partition))
 }
 
 // An application that is not there: it may be asked for by its name, or be misspelled.
