@@ -280,7 +280,7 @@ fn of_component(preset: &Preset, tree: &Tree, refusal: &Refusal, shown: Number) 
         52 => Some(long(&own.name)),
         58 => {
             let name = PartitionSpec::name_of(&own.partition);
-            Some(unknown_partition(preset, name, ""))
+            Some(unknown_partition(preset, name, "", |_| ""))
         }
         59 => {
             let reserve = u32::try_from(own.ext_reserve).ok()?;
@@ -321,14 +321,21 @@ fn of_application(
     }
 }
 
-// A partition that is not there: which one is likely meant, and which there are.
-fn unknown_partition(preset: &Preset, name: &str, taken: &str) -> String {
-    let there: Vec<&str> = preset.partitions.iter().map(|p| p.name.as_str()).collect();
+// A partition that is not there: which one is likely meant, and which there are, each with a mark.
+fn unknown_partition(
+    preset: &Preset,
+    name: &str,
+    taken: &str,
+    mark: fn(&PartitionSpec) -> &str,
+) -> String {
+    let all = &preset.partitions;
+    let there: Vec<&str> = all.iter().map(|p| p.name.as_str()).collect();
     // an application's reference is not cut at a semicolon, though one may think so
     let cut = PartitionSpec::name_of(name);
     let near = likeliest(cut, &there);
     let are = if there.len() == 1 { "is" } else { "are" };
-    let there = plain(&there.join(", "));
+    let marked = all.iter().map(|p| format!("{}{}", p.name, mark(p)));
+    let there = plain(&marked.collect::<Vec<_>>().join(", "));
     format!(
         "{}{}{taken}; there {are} {there}",
         quoted(name),
@@ -349,7 +356,9 @@ fn absent(preset: &Preset, tree: &Tree, refusal: &Refusal, partition: &str) -> S
     } else {
         ", which is taken where no `partition` is written"
     };
-    unknown_partition(preset, partition, taken)
+    // one that is locked would be refused next
+    let mark = |p: &PartitionSpec| if p.locked { " (locked)" } else { "" };
+    unknown_partition(preset, partition, taken, mark)
 }
 
 // A partition that takes no applications, and which ones do.
