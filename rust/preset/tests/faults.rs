@@ -344,7 +344,7 @@ fn locks_are_told_at_the_application() {
         told([false, false, true], "name = \"k\""),
         format!("20: {LOCKED} \"app\" is locked; {taken}")
     );
-    // what is misspelled is not led into a locked one
+    // whoever mends a misspelled name is told which ones are locked
     let there = "(\"calib\"?); there are boot (locked), calib (locked), app";
     let misspelled = told([true, true, false], "partition = \"calb\"");
     assert!(misspelled.ends_with(there), "{misspelled}");
