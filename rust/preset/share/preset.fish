@@ -14,4 +14,4 @@ complete -c preset -n '__fish_seen_subcommand_from plan map' -l app -x -d 'with 
 complete -c preset -n '__fish_seen_subcommand_from map' -l svg -r -F -d 'draw into this file'
 complete -c preset -n '__fish_seen_subcommand_from explain' -k -a '
     1 2 3 4 5 6 7 8 9 10 11 12 13 14 15 16 17 20 21 22 23 24 25 30 31 32 33 34 35 40 41 42 43 44 45 46 47 48
-    50 51 52 53 54 55 56 57 58 59 60 61 62 63 64 65 66 70 80 81'
+    50 51 52 53 54 55 56 57 58 59 60 61 62 63 64 65 66 67 70 80 81'

@@ -280,7 +280,7 @@ fn of_component(preset: &Preset, tree: &Tree, refusal: &Refusal, shown: Number) 
         52 => Some(long(&own.name)),
         58 => {
             let name = PartitionSpec::name_of(&own.partition);
-            Some(unknown_partition(preset, name, ""))
+            Some(unknown_partition(preset, name, "", |_| ""))
         }
         59 => {
             let reserve = u32::try_from(own.ext_reserve).ok()?;
@@ -303,6 +303,7 @@ fn of_application(
         60 => clash::of(preset, refusal).map(|clash| clash.said(tree)),
         62 => Some(long(&own.name)),
         64 => Some(absent(preset, tree, refusal, &own.partition)),
+        67 => Some(shut(preset, tree, refusal, &own.partition)),
         65 => {
             let earlier = preset.apps.values().position(|a| a.name == own.name)?;
             Some(twin(tree, Section::Application, &own.name, earlier))
@@ -320,14 +321,21 @@ fn of_application(
     }
 }
 
-// A partition that is not there: which one is likely meant, and which there are.
-fn unknown_partition(preset: &Preset, name: &str, taken: &str) -> String {
-    let there: Vec<&str> = preset.partitions.iter().map(|p| p.name.as_str()).collect();
+// A partition that is not there: which one is likely meant, and which there are, each with a mark.
+fn unknown_partition(
+    preset: &Preset,
+    name: &str,
+    taken: &str,
+    mark: fn(&PartitionSpec) -> &str,
+) -> String {
+    let all = &preset.partitions;
+    let there: Vec<&str> = all.iter().map(|p| p.name.as_str()).collect();
     // an application's reference is not cut at a semicolon, though one may think so
     let cut = PartitionSpec::name_of(name);
     let near = likeliest(cut, &there);
     let are = if there.len() == 1 { "is" } else { "are" };
-    let there = plain(&there.join(", "));
+    let marked = all.iter().map(|p| format!("{}{}", p.name, mark(p)));
+    let there = plain(&marked.collect::<Vec<_>>().join(", "));
     format!(
         "{}{}{taken}; there {are} {there}",
         quoted(name),
@@ -335,15 +343,40 @@ fn unknown_partition(preset: &Preset, name: &str, taken: &str) -> String {
     )
 }
 
-// The default's name stands nowhere in the text, so it is told to be one.
-fn absent(preset: &Preset, tree: &Tree, refusal: &Refusal, partition: &str) -> String {
+// Whether an application's partition stands in the text: the default's name does not, so it is told to be one.
+fn referred(tree: &Tree, refusal: &Refusal) -> bool {
     let entry = tree.entry(refusal.section, refusal.place as usize);
     let written = entry.and_then(|entry| tree.field(entry, "partition"));
-    let taken = match written {
-        Some(_) => "",
-        None => ", which is taken where no `partition` is written",
+    written.is_some()
+}
+
+fn absent(preset: &Preset, tree: &Tree, refusal: &Refusal, partition: &str) -> String {
+    let taken = if referred(tree, refusal) {
+        ""
+    } else {
+        ", which is taken where no `partition` is written"
     };
-    unknown_partition(preset, partition, taken)
+    // one that is locked would be refused next
+    let mark = |p: &PartitionSpec| if p.locked { " (locked)" } else { "" };
+    unknown_partition(preset, partition, taken, mark)
+}
+
+// A partition that takes no applications, and which ones do.
+fn shut(preset: &Preset, tree: &Tree, refusal: &Refusal, partition: &str) -> String {
+    let taken = if referred(tree, refusal) {
+        ""
+    } else {
+        "; it is taken where no `partition` is written"
+    };
+    let open = preset.partitions.iter().filter(|p| !p.locked);
+    let open: Vec<&str> = open.map(|p| p.name.as_str()).collect();
+    let are = match open.len() {
+        0 => "none is open",
+        1 => "open is ",
+        _ => "open are ",
+    };
+    let open = plain(&open.join(", "));
+    format!("{} is locked{taken}; {are}{open}", quoted(partition))
 }
 
 // An application that is not there: it may be asked for by its name, or be misspelled.

@@ -109,25 +109,26 @@ fn entry(tree: &Tree, refusal: &Refusal) -> String {
     }
 }
 
+fn first(words: &str) -> &str {
+    words.split(' ').next().unwrap_or(words)
+}
+
 impl fmt::Display for Fault {
     fn fmt(&self, f: &mut fmt::Formatter) -> fmt::Result {
         if let Some(entry) = &self.entry {
             write!(f, "{entry}: ")?;
         }
-        write!(
-            f,
-            "refused {}: {}",
-            self.refusal.number,
-            self.refusal.words()
-        )?;
-        // a name goes on with these words, as in `unknown partition "bot"`
-        let between = match self.refusal.number {
-            43 | 51 | 58 | 60 | 65 | 70 => " ",
-            _ => ": ",
+        let (number, words) = (self.refusal.number, self.refusal.words());
+        write!(f, "refused {number}: ")?;
+        let Some(detail) = &self.detail else {
+            return f.write_str(words);
         };
-        match &self.detail {
-            Some(detail) => write!(f, "{between}{detail}"),
-            None => Ok(()),
+        match number {
+            // a name goes on with these words, as in `unknown partition "bot"`
+            43 | 51 | 58 | 60 | 65 | 70 => write!(f, "{words} {detail}"),
+            // and with the first of these, as in `partition "calib" is locked`
+            67 => write!(f, "{} {detail}", first(words)),
+            _ => write!(f, "{words}: {detail}"),
         }
     }
 }

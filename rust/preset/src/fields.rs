@@ -36,6 +36,7 @@ const PARTITION: Fields = &[
     ("name", Want::Text),
     ("offset", Want::Integer),
     ("size", Want::Integer),
+    ("locked", Want::Boolean),
 ];
 
 const COMPONENT: Fields = &[
@@ -190,7 +191,7 @@ fn ruled(number: u32) -> Option<&'static str> {
         53 => "file",
         55 => "pbp_package",
         56 => "updater",
-        57 | 58 | 64 => "partition",
+        57 | 58 | 64 | 67 => "partition",
         59 => "ext_reserve",
         63 => "filename",
         66 => "load_address",

@@ -44,6 +44,8 @@ pub struct Area {
     pub lands: Vec<Land>,
     /// Whether the refusal names it.
     pub faulty: bool,
+    /// Whether no application may lie in it.
+    pub locked: bool,
 }
 
 /// A component or an application that lands in an area.
@@ -74,6 +76,7 @@ pub(crate) enum Row {
 }
 
 pub(crate) const UNASSIGNED: &str = "(unassigned)";
+pub(crate) const LOCKED: &str = "locked: takes no application";
 
 // How wide a terminal is, and how much of a name its table shows.
 const WIDTH: usize = 80;
@@ -244,7 +247,7 @@ impl Columns {
         format!("{mark} {name}{blanks}  0x{from:0d$X}  0x{to:0d$X}  {size:>s$}  [{bar}]")
     }
 
-    // `#` an area, `!` the faulty one, `X` what an earlier one has too, `|` one of size 0, `.` a gap.
+    // `#` an area, `L` a locked one, `!` the faulty one, `X` what an earlier one has too, `|` one of size 0, `.` a gap.
     fn bar(&self, drawing: &Drawing, row: Row) -> String {
         let (end, mut cells) = (drawing.end(), vec![' '; self.cells]);
         let mut paint = |(from, to), c| {
@@ -260,6 +263,8 @@ impl Columns {
                     '!'
                 } else if area.size == 0 {
                     '|'
+                } else if area.locked {
+                    'L'
                 } else {
                     '#'
                 };
@@ -270,17 +275,19 @@ impl Columns {
         cells.into_iter().collect()
     }
 
-    // The lines below an area's: what it shares with earlier ones, and what lands in it.
+    // The lines below an area's: whether it is locked, what it shares with earlier ones, and what lands in it.
     fn notes(&self, drawing: &Drawing, row: Row) -> Vec<String> {
         let Row::Area(i) = row else {
             return Vec::new();
         };
         let indent = 5 + self.name;
         let room = WIDTH.saturating_sub(indent);
-        let overlap = drawing.overlap_words(i).into_iter();
-        let overlap = overlap.map(|o| o.split(' ').map(String::from).collect());
-        let lands = lands(&drawing.areas[i]).into_iter();
-        let notes = overlap.chain(lands);
+        let area = &drawing.areas[i];
+        let lock = area.locked.then(|| LOCKED.into()).into_iter();
+        let overlap = drawing.overlap_words(i);
+        let said = lock.chain(overlap);
+        let said = said.map(|o: String| o.split(' ').map(String::from).collect());
+        let notes = said.chain(lands(area));
         let lines = notes.flat_map(|words: Vec<String>| filled(words.into_iter(), room));
         lines.map(|l| " ".repeat(indent) + &l).collect()
     }

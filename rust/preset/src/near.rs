@@ -37,11 +37,21 @@ pub(crate) fn likeliest<'a>(word: &str, known: &[&'a str]) -> Option<&'a str> {
         let long = own.len().min(other.len()) >= PART;
         long && (other.contains(&own) || own.contains(&other))
     };
-    near(word, known).or_else(|| {
-        let mut parts = known.iter().filter(|other| part(other));
-        let only = parts.next()?;
-        parts.next().is_none().then_some(*only)
-    })
+    near(word, known).or_else(|| only(known, part))
+}
+
+/// The one known word that begins with the word, as with one that is cut short.
+pub(crate) fn begun<'a>(word: &str, known: &[&'a str]) -> Option<&'a str> {
+    let own = alike(word);
+    let long = own.len() >= PART;
+    only(known, |other| long && alike(other).starts_with(&own))
+}
+
+// The known word of a sort, where there is no second one.
+fn only<'a>(known: &[&'a str], sort: impl Fn(&str) -> bool) -> Option<&'a str> {
+    let mut found = known.iter().filter(|other| sort(other));
+    let first = found.next()?;
+    found.next().is_none().then_some(*first)
 }
 
 // The letters that make a word, whatever their size.
@@ -73,7 +83,7 @@ fn slips(a: &[char], b: &[char]) -> usize {
 
 #[cfg(test)]
 mod tests {
-    use super::{likeliest, near, slips};
+    use super::{begun, likeliest, near, slips};
 
     #[test]
     fn slips_are_counted() {
@@ -129,6 +139,17 @@ mod tests {
         assert_eq!(likeliest("no", &["spi-nor", "spi-nand"]), None);
         assert_eq!(likeliest("", &["spi-nor"]), None);
         assert_eq!(likeliest("cat", &["catalog", "cap"]), Some("cap"));
+    }
+
+    #[test]
+    fn a_beginning_leads_to_the_only_word_with_it() {
+        let known = ["name", "locked", "entry_point", "entry_offset"];
+        assert_eq!(near("lock", &known), None);
+        assert_eq!(begun("Lock", &known), Some("locked"));
+        assert_eq!(begun("entry_p", &known), Some("entry_point"));
+        for word in ["", "lo", "entry", "ocked", "locked by"] {
+            assert_eq!(begun(word, &known), None, "{word}");
+        }
     }
 
     // In a short word one letter more or less makes another word.

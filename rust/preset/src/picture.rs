@@ -66,6 +66,7 @@ fn areas(preset: &Preset, app: Option<&str>) -> Vec<Area> {
         size: partition.size.into(),
         lands: lands(preset, partition, app),
         faulty: false,
+        locked: partition.locked,
     });
     areas.collect()
 }
@@ -104,7 +105,11 @@ fn marked(mut areas: Vec<Area>, preset: &Preset, fault: &Fault) -> Vec<Area> {
         _ => None,
     };
     let found = reference.and_then(|reference| {
-        let name = PartitionSpec::name_of(reference);
+        let name = match fault.refusal.number {
+            // the rule compares whole names
+            67 => reference.as_str(),
+            _ => PartitionSpec::name_of(reference),
+        };
         preset.partitions.iter().position(|p| p.name == name)
     });
     let found = match fault.refusal.section {
@@ -127,6 +132,7 @@ fn written(tree: &Tree, fault: &Fault) -> Vec<Area> {
         let refusal = fault.refusal;
         refusal.section == Section::Partition && refusal.place as usize == at
     };
+    let locked = |entry| tree.boolean(tree.field(entry, "locked")?);
     let entries = tree.list(Section::Partition).into_iter().enumerate();
     let areas = entries.filter_map(|(at, entry)| {
         Some(Area {
@@ -135,6 +141,7 @@ fn written(tree: &Tree, fault: &Fault) -> Vec<Area> {
             size: number(entry, "size")?,
             lands: Vec::new(),
             faulty: faulty(at),
+            locked: locked(entry) == Some(true),
         })
     });
     areas.collect()

@@ -1,6 +1,8 @@
 //! The drawing as a self-contained SVG: the flash to scale on the left, and on the right a card
 //! for each stretch of it, tied to its place by a band.
-use crate::map::{Area, Drawing, LandKind, Row, bounds, clean, filled, name_of, size_words, width};
+use crate::map::{
+    Area, Drawing, LOCKED, LandKind, Row, bounds, clean, filled, name_of, size_words, width,
+};
 use std::collections::BTreeMap;
 use std::iter::once;
 
@@ -17,6 +19,7 @@ const BAR_LEAST: f64 = 260.0;
 const THIN: f64 = 3.0;
 const CHIP: f64 = 20.0;
 const LINE: f64 = 26.0;
+const NOTE: f64 = 20.0;
 // A column of the even font that chips and places are set in, at 12 pixels.
 const COLUMN: f64 = 7.3;
 
@@ -45,6 +48,18 @@ const HATCHED: &str = r##"<defs>
 <line x1="0" y1="0" x2="0" y2="8" stroke="#b4bcc7" stroke-width="3"/>
 </pattern>
 </defs>"##;
+
+// What is laid over a locked partition: a dark lattice, since no look of its own is dark.
+const LATTICE: &str = r##"<defs>
+<pattern id="preset-lock" width="8" height="8" patternUnits="userSpaceOnUse">
+<path d="M-2 2 L2 -2 M0 8 L8 0 M6 10 L10 6 M-2 6 L2 10 M0 0 L8 8 M6 -2 L10 2" stroke="#1b2430"/>
+</pattern>
+</defs>"##;
+const BARRED: &str = r#"rx="2" fill="url(#preset-lock)""#;
+
+// A padlock, 10 wide and 13 high, from its upper left corner on.
+const PADLOCK: &str = r##"<path d="M2.5 6 V3.5 a2.5 2.5 0 0 1 5 0 V6" fill="none" stroke="#1b2430" stroke-width="1.6"/>
+<path d="M0 6 H10 V13 H0 Z" fill="#1b2430"/>"##;
 
 // The looks of partitions, as many as there may be and more.
 const LOOKS: usize = HUES.len() * (1 + MARKS.len());
@@ -109,6 +124,12 @@ impl Sheet {
         self.line(&format!("<rect {place} {look}/>"));
     }
 
+    fn padlock(&mut self, (x, y): (f64, f64)) {
+        self.line(&format!(r#"<g transform="translate({x:.1} {y:.1})">"#));
+        self.line(PADLOCK);
+        self.line("</g>");
+    }
+
     fn text(&mut self, (x, y): (f64, f64), look: &str, words: &str) {
         let (place, words) = (format!(r#"x="{x:.1}" y="{y:.1}""#), escaped(words));
         self.line(&format!("<text {place} {look}>{words}</text>"));
@@ -122,6 +143,7 @@ struct Card {
     from: u64,
     to: u64,
     faulty: bool,
+    locked: bool,
     hue: &'static str,
     fill: String,
     note: Option<String>,
@@ -198,6 +220,9 @@ impl Page<'_> {
         sheet.line(&format!("<title>{title}</title>"));
         sheet.line(&format!("<desc>{}</desc>", escaped(&each.join("; "))));
         sheet.line(HATCHED);
+        if self.cards.iter().any(|card| card.locked) {
+            sheet.line(LATTICE);
+        }
         let looks = 0..self.drawing.areas.len().min(LOOKS);
         let patterns: Vec<_> = looks.filter_map(pattern).collect();
         if !patterns.is_empty() {
@@ -260,6 +285,15 @@ impl Page<'_> {
         };
         sheet.line(&format!("<g><title>{}</title>", escaped(&card.words())));
         sheet.rect([x, y, wide, height], &look);
+        if card.locked {
+            sheet.rect([x, y, wide, height], BARRED);
+        }
+        if card.locked && height > 21.0 && wide > 21.0 {
+            let (x, y) = (x + wide / 2.0, y + height / 2.0);
+            let look = r##"rx="4" fill="#ffffff""##;
+            sheet.rect([x - 9.0, y - 9.5, 18.0, 19.0], look);
+            sheet.padlock((x - 5.0, y - 6.5));
+        }
         sheet.line("</g>");
     }
 
@@ -279,11 +313,11 @@ impl Page<'_> {
             let edge = format!(r#"rx="2" fill="{}""#, card.fill);
             sheet.rect([CARD, y, 5.0, height], &edge);
         }
-        card.headline(sheet, y, self.drawing.end());
-        if let Some(note) = &card.note {
-            let red = format!(r#"font-size="12" font-weight="600" fill="{RED}""#);
-            sheet.text((CARD + INSET, y + 43.0), &red, note);
+        if card.locked {
+            sheet.rect([CARD, y, 5.0, height], BARRED);
         }
+        card.headline(sheet, y, self.drawing.end());
+        card.notes(sheet, y);
         card.chips.iter().for_each(|c| c.draw(sheet, y));
     }
 
@@ -322,6 +356,7 @@ impl Card {
             Row::Gap(..) => None,
         };
         let faulty = area.is_some_and(|(_, a)| a.faulty);
+        let locked = area.is_some_and(|(_, a)| a.locked);
         let (hue, fill) = match area {
             None => ("#9aa4b1", String::new()),
             Some((_, area)) if area.faulty => (RED, RED.into()),
@@ -329,7 +364,7 @@ impl Card {
         };
         let note = area.and_then(|(i, a)| note(drawing, i, a));
         let note = note.map(|n| clean(&n, 80));
-        let above = if note.is_some() { 54.0 } else { 34.0 };
+        let above = 34.0 + NOTE * f64::from(u8::from(locked) + u8::from(note.is_some()));
         let chips = area.map_or(Vec::new(), |(_, a)| chips(a, above));
         let lines = chips.last().map_or(0.0, |c| c.y - above + LINE + 2.0);
         Card {
@@ -338,6 +373,7 @@ impl Card {
             from,
             to,
             faulty,
+            locked,
             hue,
             fill,
             note,
@@ -350,7 +386,26 @@ impl Card {
 
     fn words(&self) -> String {
         let (name, from, to) = (&self.name, self.from, self.to);
-        format!("{name}: 0x{from:X} to 0x{to:X}, {}", size_words(to - from))
+        let lock = if self.locked { ", locked" } else { "" };
+        format!(
+            "{name}: 0x{from:X} to 0x{to:X}, {}{lock}",
+            size_words(to - from)
+        )
+    }
+
+    // Below its headline, each in a line of its own: that it is locked, and what is wrong with it.
+    fn notes(&self, sheet: &mut Sheet, y: f64) {
+        let mut y = y + 43.0;
+        if self.locked {
+            let bold = format!(r#"font-size="12" font-weight="600" fill="{INK}""#);
+            sheet.padlock((CARD + INSET, y - 11.0));
+            sheet.text((CARD + INSET + INSET, y), &bold, LOCKED);
+            y += NOTE;
+        }
+        if let Some(note) = &self.note {
+            let red = format!(r#"font-size="12" font-weight="600" fill="{RED}""#);
+            sheet.text((CARD + INSET, y), &red, note);
+        }
     }
 
     // Its name, from where up to where it goes, and its size.

@@ -2,7 +2,7 @@
 //! else tells that one is misspelled.
 use crate::fields::fields;
 use crate::lines;
-use crate::near::near;
+use crate::near::{begun, near};
 use crate::notes::tables::{Table, tables};
 use crate::refusal::Section;
 use crate::shown::quoted;
@@ -73,7 +73,7 @@ fn strange(tree: &Tree, table: Table) -> Found {
         let unknown = Unknown {
             line: None,
             entry: table.entry.clone(),
-            near: near(&key, known),
+            near: near(&key, known).or_else(|| abbreviated(&key, known)),
             key,
         };
         Some((value, unknown))
@@ -81,14 +81,19 @@ fn strange(tree: &Tree, table: Table) -> Found {
     each.collect()
 }
 
-impl Unknown {
-    // Where the rules do know it: the headers of other tables.
-    fn elsewhere(&self) -> Vec<&'static str> {
-        let known = |section: &Section| fields(*section).iter().any(|(key, _)| self.key == *key);
-        let others = Section::READ.into_iter().filter(known);
-        others.map(Section::header).collect()
-    }
+// A key that is no other table's may be the beginning of one of these.
+fn abbreviated(key: &str, known: &[&'static str]) -> Option<&'static str> {
+    begun(key, known).filter(|_| headers(key).is_empty())
+}
 
+// The headers of the tables that have a key.
+fn headers(key: &str) -> Vec<&'static str> {
+    let known = |section: &Section| fields(*section).iter().any(|(own, _)| key == *own);
+    let others = Section::READ.into_iter().filter(known);
+    others.map(Section::header).collect()
+}
+
+impl Unknown {
     // A key of the root that the rules know is passed over beside another one only.
     fn doubles(&self) -> bool {
         let known = |section: Section| roots(section).contains(&self.key.as_str());
@@ -108,7 +113,7 @@ impl fmt::Display for Unknown {
             }
             Some(near) => write!(f, "unknown key {key} is passed over ({near}?)"),
             None => {
-                let known = self.elsewhere().join(", ");
+                let known = headers(&self.key).join(", ");
                 let known = match known.as_str() {
                     "" if self.key.starts_with('[') => {
                         " (a header stands alone in its line)".into()

@@ -97,7 +97,7 @@ impl Preset {
     ///
     /// let text = std::fs::read("../../presets/example.toml").unwrap();
     /// let listing = Preset::listing(&text, b"example").unwrap();
-    /// assert!(listing.starts_with(b"ok d13x spi-nor 2 1 1 21\npart boot 0 262144\n"));
+    /// assert!(listing.starts_with(b"ok d13x spi-nor 2 1 1 21\npart boot 0 262144 open\n"));
     /// ```
     pub fn listing(text: &[u8], name: &[u8]) -> Result<Vec<u8>, Refusal> {
         use port::listing::{list, out_min};

@@ -6,6 +6,7 @@ use std::process::{Command, Stdio};
 
 const EXAMPLE: &str = include_str!("../../../presets/example.toml");
 const STAGE: &str = include_str!("../../../presets/stage-d13x.toml");
+const CALIB: &str = include_str!("../../../presets/calib-d13x.toml");
 
 #[derive(Debug, PartialEq, Eq)]
 struct Said {
@@ -217,6 +218,36 @@ fn check_leads_to_the_fault() {
     let explained = explained.map(|n| format!("preset explain {n}")).join(", ");
     let advice = format!("what it means and how it is mended: {explained}\n");
     assert_eq!(got.err, format!("{advice}12 files: 12 refused\n"));
+}
+
+// An application in a locked partition, told as any other refusal by each command.
+#[test]
+fn locked_partitions_are_told() {
+    let file = "presets/calib-d13x.toml";
+    let ok = format!("{file}: ok: d13x, spi-nor, 6 partitions, 3 components, 3 applications\n");
+    assert_eq!(preset(&["check", "--deny", "notes", file]), accepted(ok));
+    let text = CALIB.replace("\"trims\"\nfeatures", "\"calib\"\nfeatures");
+    let moved = written("locked", "moved.toml", &text);
+    let at = line_told(&text, text.lines().count(), "partition    = \"calib\"");
+    let told = format!(
+        "{}:{at}: application 2 \"trim-editor\": refused 67: partition \"calib\" is locked; \
+         open are boot, env, profiles, trims, logs\n    partition    = \"calib\"\n",
+        word(&moved)
+    );
+    let got = preset(&["check", word(&moved)]);
+    assert_eq!(
+        (got.status, got.out, got.err),
+        (1, told.clone(), advice(67))
+    );
+    for order in ["plan", "listing"] {
+        let got = preset(&[order, word(&moved)]);
+        assert_eq!((got.status, got.out.as_str()), (1, ""), "{order}");
+        assert_eq!(got.err, format!("{told}{}", advice(67)), "{order}");
+    }
+    let got = preset(&["map", word(&moved)]);
+    let drawn = "!! calib         0x042000  0x080000  248 KiB  [  !!                            ]\n                 \
+                 locked: takes no application\n";
+    assert!(got.out.contains(drawn), "{}", got.out);
 }
 
 // What is told of a line that nobody can guess.
@@ -619,6 +650,47 @@ fn maps() {
         "{}",
         got.err
     );
+}
+
+#[test]
+fn maps_of_locked_partitions() {
+    let got = preset(&["map", "presets/calib-d13x.toml", "--app", "follow-spot"]);
+    let map = "\
+calib-d13x: d13x, spi-nor
+follow spot 1.2.0, with application follow-spot
+
+   name          start     end          size   0                          4 MiB
+   boot          0x000000  0x040000  256 KiB  [##                              ]
+                 component: loader
+   env           0x040000  0x042000    8 KiB  [  #                             ]
+                 component: env
+   calib         0x042000  0x080000  248 KiB  [  LL                            ]
+                 locked: takes no application
+                 component: factory calibration
+   profiles      0x080000  0x280000    2 MiB  [    ################            ]
+                 chosen application: follow-spot
+   trims         0x280000  0x380000    1 MiB  [                    ########    ]
+                 application: trim-editor
+   (unassigned)  0x380000  0x3C0000  256 KiB  [                            ..  ]
+   logs          0x3C0000  0x400000  256 KiB  [                              ##]
+                 application: lamp-log
+";
+    assert_eq!(got, accepted(map));
+    let drawn = preset(&["map", "presets/calib-d13x.toml", "--svg", "-"]);
+    assert_eq!((drawn.status, drawn.err.as_str()), (0, ""));
+    assert_eq!(
+        drawn
+            .out
+            .matches(">locked: takes no application</text>")
+            .count(),
+        1
+    );
+    // also where records are not whole, as far as locks can be read
+    let text = CALIB.replace("chip = \"d13x\"", "chip = 13");
+    let file = written("maps", "locked.toml", text);
+    let got = preset(&["map", word(&file)]);
+    assert_eq!(got.status, 1);
+    assert_eq!(got.out.matches("locked: takes no application").count(), 1);
 }
 
 // Neither by its own path nor by a link, and not where standard input is the file.

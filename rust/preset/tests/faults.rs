@@ -4,6 +4,7 @@ use preset::{Fault, Preset, Section, Selection};
 
 const STAGE: &str = include_str!("../../../presets/stage-d13x.toml");
 const TOUR: &str = include_str!("../../../presets/tour-d21x.toml");
+const CALIB: &str = include_str!("../../../presets/calib-d13x.toml");
 
 fn fault(text: &[u8]) -> Fault {
     let refusal = Preset::validate(text, b"board").expect_err("refused");
@@ -44,7 +45,7 @@ fn header(text: &str, line: usize) -> usize {
 
 #[test]
 fn every_field_of_the_wrong_kind() {
-    for text in [STAGE, TOUR] {
+    for text in [STAGE, TOUR, CALIB] {
         let all = assignments(text);
         assert!(all.len() > 40, "{}", all.len());
         for (line, key, _) in all {
@@ -63,7 +64,7 @@ fn every_field_of_the_wrong_kind() {
 
 #[test]
 fn every_number_out_of_range() {
-    for text in [STAGE, TOUR] {
+    for text in [STAGE, TOUR, CALIB] {
         for (line, key, value) in assignments(text) {
             if !value.starts_with(|c: char| c.is_ascii_digit()) {
                 continue;
@@ -104,7 +105,7 @@ fn every_list_that_is_too_long() {
 #[test]
 fn every_field_that_is_needed() {
     let mut met = 0;
-    for text in [STAGE, TOUR] {
+    for text in [STAGE, TOUR, CALIB] {
         for (line, key, _) in assignments(text) {
             let Err(refusal) = Preset::read(spoilt(text, line, "").as_bytes(), b"") else {
                 continue;
@@ -311,6 +312,55 @@ fn odd_lists() {
     assert_eq!(
         at("[[partition]]\nname = 1\nname = \"x\"\noffset = 0\noffset = \"0\""),
         (20, Some(5), "partition 0 \"x\"".into())
+    );
+}
+
+// What is told of an application with that line, where there are three partitions with these locks.
+fn with_locks(names: [&str; 3], locks: [bool; 3], app: &str) -> String {
+    let part = |i: usize| {
+        let (name, at, locked) = (names[i], i * 4096, locks[i]);
+        format!("[[partition]]\nname = \"{name}\"\noffset = {at}\nsize = 4096\nlocked = {locked}\n")
+    };
+    let parts: String = (0..3).map(part).collect();
+    let first = names[0];
+    said(format!(
+        "{parts}[[component]]\nname = \"x\"\nfile = \"f\"\npartition = \"{first}\"\n[apps.k]\n{app}\n"
+    ))
+}
+
+const LOCKED: &str = "application 0 \"k\": refused 67: partition";
+
+// At the key that names the partition, else at the application, and with the partitions that are left to it.
+#[test]
+fn locks_are_told_at_the_application() {
+    let told = |locks, app| with_locks(["boot", "calib", "app"], locks, app);
+    let calib = |locks| told(locks, "partition = \"calib\"");
+    let own = |rest: &str| format!("21: {LOCKED} \"calib\" is locked; {rest}");
+    assert_eq!(calib([false, true, false]), own("open are boot, app"));
+    assert_eq!(calib([true, true, false]), own("open is app"));
+    assert_eq!(calib([true; 3]), own("none is open"));
+    let taken = "it is taken where no `partition` is written; open are boot, calib";
+    assert_eq!(
+        told([false, false, true], "name = \"k\""),
+        format!("20: {LOCKED} \"app\" is locked; {taken}")
+    );
+    // whoever mends a misspelled name is told which ones are locked
+    let there = "(\"calib\"?); there are boot (locked), calib (locked), app";
+    let misspelled = told([true, true, false], "partition = \"calb\"");
+    assert!(misspelled.ends_with(there), "{misspelled}");
+}
+
+// Whole names are compared, and shown so that no terminal obeys them.
+#[test]
+fn locks_of_odd_names() {
+    let told = |locks, app| with_locks(["a", "a;b", "\u{1b}"], locks, app);
+    assert_eq!(
+        told([false, true, false], "partition = \"a;b\""),
+        format!("21: {LOCKED} \"a;b\" is locked; open are a, \\u{{1b}}")
+    );
+    assert_eq!(
+        told([true, false, true], "\npartition = \"\u{1b}\""),
+        format!("22: {LOCKED} \"\\u{{1b}}\" is locked; open is a;b")
     );
 }
 

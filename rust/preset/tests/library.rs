@@ -3,10 +3,11 @@ use preset::*;
 use replay::harness::ask::{plan, records};
 use replay::model;
 
-const PRESETS: [&str; 3] = [
+const PRESETS: [&str; 4] = [
     include_str!("../../../presets/example.toml"),
     include_str!("../../../presets/stage-d13x.toml"),
     include_str!("../../../presets/tour-d21x.toml"),
+    include_str!("../../../presets/calib-d13x.toml"),
 ];
 
 // Every field is used by one of these, so that none is compared by its default alone.
@@ -46,6 +47,35 @@ fn plans_are_the_definitions() {
             }
         }
     }
+}
+
+// A lock is in the records, in the plan's and on the listing's lines.
+#[test]
+fn locks_are_kept() {
+    let [.., text] = PRESETS.map(str::as_bytes);
+    let preset = Preset::validate(text, b"n").expect("accepted");
+    let locked = |p: &&PartitionSpec| p.locked;
+    let names = |all: &[PartitionSpec]| -> Vec<String> {
+        let locked = all.iter().filter(locked);
+        locked.map(|p| p.name.clone()).collect()
+    };
+    assert_eq!(names(&preset.partitions), ["calib"]);
+    let plan = Preset::plan(text, b"n", &Selection::App("trim-editor".into())).expect("a plan");
+    assert_eq!(names(&plan.partitions), ["calib"]);
+    let into = plan.components.iter().filter_map(|c| c.partition.clone());
+    assert_eq!(names(&into.collect::<Vec<_>>()), ["calib"]);
+    let listing = Preset::listing(text, b"n").expect("lines");
+    let listing = String::from_utf8(listing).expect("UTF-8");
+    let lines: Vec<&str> = listing.lines().filter(|l| l.starts_with("part ")).collect();
+    let want = [
+        "part boot 0 262144 open",
+        "part env 262144 270336 open",
+        "part calib 270336 524288 locked",
+        "part profiles 524288 2621440 open",
+        "part trims 2621440 3670016 open",
+        "part logs 3932160 4194304 open",
+    ];
+    assert_eq!(lines, want);
 }
 
 // The words that the library gives by default, and takes.
@@ -129,6 +159,10 @@ fn refusals_in_words() {
     let long = "#".repeat(TEXT_MAX + 1);
     let partition = "[[partition]]\nname = \"a\"\noffset = 0\nsize = 0x1000\n";
     let bad = format!("{partition}[[component]]\nname = \"x\"\nfile = \"f\"\npartition = \"b\"\n");
+    let locked = bad
+        .replace("\"b\"", "\"a\"")
+        .replace("0x1000", "0x1000\nlocked = true");
+    let locked = locked + "[apps.k]\npartition = \"a\"\n";
     let words = [
         ("\na = b", "refused 12 at line 2: not an integer"),
         (&long, "refused 1: text too long"),
@@ -139,6 +173,7 @@ fn refusals_in_words() {
         ("", "refused 40 at partitions: no partitions"),
         (partition, "refused 50 at components: no components"),
         (&bad, "refused 58 at component 0: unknown partition"),
+        (&locked, "refused 67 at application 0: partition is locked"),
         (
             "[image]\nmedia = 1",
             "refused 20 at image: wrong kind of value",

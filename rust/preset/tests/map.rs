@@ -28,6 +28,13 @@ fn faulty(area: Area) -> Area {
     }
 }
 
+fn locked(area: Area) -> Area {
+    Area {
+        locked: true,
+        ..area
+    }
+}
+
 fn drawing(areas: Vec<Area>) -> Drawing {
     Drawing {
         title: "desk".into(),
@@ -55,6 +62,21 @@ fn refused() -> Drawing {
         area("logs", 0x60000, 0x20000),
     ]);
     all.refusal = Some("desk.toml:7: refused 47: partition starts before the previous end".into());
+    all
+}
+
+// One with a component, one that an application is refused in, one of size 0 and one that shares bytes.
+fn locks() -> Drawing {
+    let calib = locked(area("calib", 0x20000, 0x20000));
+    let keys = faulty(locked(area("keys", 0x40000, 0x20000)));
+    let mut all = drawing(vec![
+        area("boot", 0, 0x20000),
+        landing(calib, LandKind::Component, &["lens"]),
+        landing(keys, LandKind::Application, &["spots"]),
+        locked(area("none", 0x60000, 0)),
+        locked(area("late", 0x50000, 0x30000)),
+    ]);
+    all.refusal = Some("desk.toml:9: refused 67: partition \"keys\" is locked".into());
     all
 }
 
@@ -100,6 +122,7 @@ impl Dice {
     fn area(&mut self) -> Area {
         let mut area = area(&self.name(), self.number(), self.number());
         area.faulty = self.roll(8) == 0;
+        area.locked = self.roll(4) == 0;
         for _ in 0..self.roll(4) {
             let kinds = [LandKind::Component, LandKind::Application, LandKind::Chosen];
             let name = self.name();
@@ -132,6 +155,7 @@ fn drawings() -> Vec<Drawing> {
     let by_hand = [
         example(),
         refused(),
+        locks(),
         thirty_two(),
         drawing(nasty),
         drawing(most.into()),
@@ -178,6 +202,32 @@ d13x, spi-nor
 !! desk.toml:7: refused 47: partition starts before the previous end
 ";
     assert_eq!(refused().terminal(), expected);
+}
+
+#[test]
+fn locks_in_a_terminal() {
+    let expected = "\
+desk
+d13x, spi-nor
+
+   name   start     end          size   0                               512 KiB
+   boot   0x000000  0x020000  128 KiB  [##########                             ]
+   calib  0x020000  0x040000  128 KiB  [          LLLLLLLLLL                   ]
+          locked: takes no application
+          component: lens
+!! keys   0x040000  0x060000  128 KiB  [                    !!!!!!!!!          ]
+          locked: takes no application
+          application: spots
+   none   0x060000  0x060000      0 B  [                             |         ]
+          locked: takes no application
+   late   0x050000  0x080000  192 KiB  [                        XXXXXLLLLLLLLLL]
+          locked: takes no application
+          overlaps keys by 64 KiB
+
+!! desk.toml:9: refused 67: partition \"keys\" is locked
+";
+    assert_eq!(locks().terminal(), expected);
+    assert!(!example().terminal().contains('L') && !refused().terminal().contains('L'));
 }
 
 #[test]
@@ -448,6 +498,27 @@ fn svg_names_everything() {
     }
     assert!(picture.contains(">desk.toml:7: refused 47: partition starts"));
     assert!(Drawing::default().svg().contains(">No partitions.</text>"));
+}
+
+// By a lattice in the bar and on the card's edge, by a padlock where there is space, and in words.
+#[test]
+fn locks_in_svg() {
+    let picture = locks().svg();
+    let count = |part: &str| picture.matches(part).count();
+    assert_eq!(count(">locked: takes no application</text>"), 4);
+    assert_eq!(count("fill=\"url(#preset-lock)\""), 8);
+    assert_eq!(count("<pattern id=\"preset-lock\""), 1);
+    // on each card; in the bar the one of size 0 is too thin for it
+    assert_eq!(count("<g transform="), 4 + 3);
+    let calib = "calib: 0x20000 to 0x40000, 128 KiB, locked";
+    assert_eq!(count(&format!("<g><title>{calib}</title>")), 1);
+    assert_eq!(count(&format!("; {calib}; keys: ")), 1);
+    assert_eq!(count("boot: 0x0 to 0x20000, 128 KiB, locked"), 0);
+    assert_eq!(count(">refused here</text>"), 1);
+    for open in [example(), refused(), thirty_two()] {
+        let picture = open.svg();
+        assert!(!picture.contains("lock") && !picture.contains("<g transform="));
+    }
 }
 
 // The bar's part of an area: the line after its title.

@@ -9,6 +9,7 @@ use std::process::Command;
 const EXAMPLE: &str = include_str!("../../../presets/example.toml");
 const STAGE: &str = include_str!("../../../presets/stage-d13x.toml");
 const TOUR: &str = include_str!("../../../presets/tour-d21x.toml");
+const CALIB: &str = include_str!("../../../presets/calib-d13x.toml");
 
 // Each as `LINE: what is said`.
 fn told(text: impl AsRef<[u8]>) -> Vec<String> {
@@ -30,6 +31,7 @@ fn nothing() -> Vec<String> {
 fn presets_have_few() {
     assert_eq!(told(EXAMPLE), nothing());
     assert_eq!(told(STAGE), nothing());
+    assert_eq!(told(CALIB), nothing());
     let shared = "131: application 0 \"fallback\": it shares partition \"fallback\" with \
                   component 2 \"recovery\" (line 88)";
     assert_eq!(told(TOUR), [shared]);
@@ -347,6 +349,15 @@ fn references_that_lead_elsewhere() {
         [said("partition 1 \"profiles\"", "profiles", "profiles;x")]
     );
     assert_eq!(told(app(";")), [said("no partition", "", ";")]);
+    // also where the one that it finds is locked; as written it would be refused
+    let free = |lock: &str| {
+        format!("[[partition]]\nname = \"free\"\noffset = 0x141000\nsize = 0x1000\n{lock}")
+    };
+    let into = |lock: &str| told(app("free;x") + &free(lock));
+    let open = "partition 3 \"free\"";
+    assert_eq!(into("locked = false\n"), [said(open, "free", "free;x")]);
+    let locked = format!("{open}, which is locked");
+    assert_eq!(into("locked = true\n"), [said(&locked, "free", "free;x")]);
     // a component's reference is looked up as it was compared
     assert_eq!(
         told(EXAMPLE.replace("\"boot;mtd\"", "\"\\tboot ;mtd\"")),

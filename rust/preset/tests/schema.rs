@@ -83,6 +83,12 @@ fn odd() -> Vec<String> {
     edited(&[
         ("[board]", "partitions = 5\ncomponents = [\"x\"]\n[board]"),
         ("[[partition]]", "[[partitions]]"),
+        ("offset = 0\n", "offset = 0\nlocked = true\n"),
+        ("offset = 0\n", "locked = false\noffset = 0\nlock = 1\n"),
+        (
+            "[[component]]",
+            "[[partitions]]\nlocked = 1\n[[component]]\nlocked = 1",
+        ),
         ("[[component]]", "[[components]]"),
         (
             "[board]",
@@ -137,6 +143,8 @@ fn wrong() -> Vec<String> {
         ("size = 0x100000", "size = 0x100000000"),
         ("kind = \"app\"", "kind = \"App\""),
         ("kind = \"app\"", "updater = 1"),
+        ("size = 0x100000", "size = 0x100000\nlocked = 1"),
+        ("size = 0x100000", "size = 0x100000\nlocked = \"true\""),
         ("kind = \"app\"", "ext_reserve = 256"),
         ("\"first\"", "\"a name of more than 32 characters\""),
         ("\"pan tilt\"", "[1, 2]"),
@@ -203,7 +211,7 @@ fn fields_are_the_crates_and_no_other() {
     });
     let own: Vec<_> = own.collect();
     assert_eq!(own, known());
-    assert_eq!(own.len(), 44);
+    assert_eq!(own.len(), 45);
 }
 
 // Every field, with the heading of its section.
@@ -254,7 +262,7 @@ fn defaults_are_the_librarys() {
             "{line}"
         );
     }
-    assert_eq!(met, 16);
+    assert_eq!(met, 17);
 }
 
 // Prints whether each of some values passes a schema.

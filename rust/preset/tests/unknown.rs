@@ -5,10 +5,11 @@ use preset::unknown::{Unknown, keys};
 use replay::generators::mixed;
 use replay::generators::random::Rng;
 
-const PRESETS: [&str; 3] = [
+const PRESETS: [&str; 4] = [
     include_str!("../../../presets/example.toml"),
     include_str!("../../../presets/stage-d13x.toml"),
     include_str!("../../../presets/tour-d21x.toml"),
+    include_str!("../../../presets/calib-d13x.toml"),
 ];
 
 // Each as `LINE: what is said`.
@@ -129,6 +130,24 @@ fn keys_in_another_case() {
         "2: unknown key \"APPS\" is passed over (apps?)",
         "4: image: unknown key \"MEDIA_DEV_ID\" is passed over (media_dev_id?)",
         "5: image: unknown key \"Prodcut\" is passed over (product?)",
+    ];
+    assert_eq!(told(text), want);
+}
+
+// A key that is cut short leads to the only one that begins so, and never away from a table that has it.
+#[test]
+fn keys_that_are_cut_short() {
+    let text = "[[partition]]\nlock = true\noff = 0\nsi = 0\n[[component]]\nentry = 1\npart = \"x\"\ntarget = \"x\"\n\
+                [apps.k]\nfile = \"x\"\nlock = true\n";
+    let want = [
+        "2: partition 0: unknown key \"lock\" is passed over (locked?)",
+        "3: partition 0: unknown key \"off\" is passed over (offset?)",
+        "4: partition 0: unknown key \"si\" is passed over",
+        "6: component 0: unknown key \"entry\" is passed over",
+        "7: component 0: unknown key \"part\" is passed over (partition?)",
+        "8: component 0: unknown key \"target\" is passed over (a key of [board])",
+        "10: application 0 \"k\": unknown key \"file\" is passed over (a key of [[component]])",
+        "11: application 0 \"k\": unknown key \"lock\" is passed over",
     ];
     assert_eq!(told(text), want);
 }

@@ -132,8 +132,12 @@ fn elsewhere(
     let number = |name: &str| preset.partitions.iter().position(|p| p.name == name);
     let meant = number(&app.partition)?;
     let entry = entries.called(Section::Application, place);
-    let into = match planned.and_then(|partition| number(&partition.name)) {
-        Some(other) => format!("into {}", entries.called(Section::Partition, other)),
+    let found = planned.and_then(|partition| Some((number(&partition.name)?, partition.locked)));
+    let into = match found {
+        Some((other, locked)) => {
+            let lock = if locked { ", which is locked" } else { "" };
+            format!("into {}{lock}", entries.called(Section::Partition, other))
+        }
         None => "into no partition".into(),
     };
     let looked = quoted(PartitionSpec::name_of(&app.partition));

@@ -1,11 +1,12 @@
-//! Mistakes that people make in presets, typed into an example, each with all that `preset check` tells of it.
+//! Mistakes that people make in presets, typed into examples, each with all that `preset check` tells of it.
+mod locks;
 mod noted;
 mod refused;
 
 use std::path::{Path, PathBuf};
 use std::process::Command;
 
-/// What a person did to the example, and what the person should be told.
+/// What a person did to an example, and what the person should be told.
 pub struct Mistake {
     pub what: &'static str,
     /// One after the other: what stands in the text exactly once then, and what is typed in its place.
@@ -14,16 +15,22 @@ pub struct Mistake {
     pub told: &'static [&'static str],
 }
 
-const EXAMPLE: &str = include_str!("../../../../presets/stage-d13x.toml");
+const STAGE: &str = include_str!("../../../../presets/stage-d13x.toml");
+const CALIB: &str = include_str!("../../../../presets/calib-d13x.toml");
 
 #[test]
 fn refusals_lead_to_the_mend() {
-    asked("refused", refused::ALL);
+    asked("refused", STAGE, refused::ALL);
 }
 
 #[test]
 fn nothing_passes_without_a_word() {
-    asked("noted", noted::ALL);
+    asked("noted", STAGE, noted::ALL);
+}
+
+#[test]
+fn mistakes_with_locks() {
+    asked("locks", CALIB, locks::ALL);
 }
 
 #[test]
@@ -32,12 +39,12 @@ fn at_least_a_hundred_are_asked() {
 }
 
 // All mistakes are tried, by one call, before one that is told otherwise fails the test.
-fn asked(table: &str, mistakes: &[Mistake]) {
+fn asked(table: &str, example: &str, mistakes: &[Mistake]) {
     let folder = Path::new(env!("CARGO_TARGET_TMPDIR")).join(table);
     std::fs::create_dir_all(&folder).expect("target/ can be written");
     let files = mistakes.iter().enumerate().map(|(n, mistake)| {
         let file = folder.join(format!("{n}.toml"));
-        std::fs::write(&file, edited(mistake)).expect("target/ can be written");
+        std::fs::write(&file, edited(example, mistake)).expect("target/ can be written");
         file
     });
     let files: Vec<PathBuf> = files.collect();
@@ -51,8 +58,8 @@ fn asked(table: &str, mistakes: &[Mistake]) {
     assert!(wrong.is_empty(), "told otherwise:\n\n{}", wrong.join("\n"));
 }
 
-fn edited(mistake: &Mistake) -> String {
-    let mut text = EXAMPLE.to_string();
+fn edited(example: &str, mistake: &Mistake) -> String {
+    let mut text = example.to_string();
     for (old, new) in mistake.edits {
         let met = text.matches(old).count();
         assert_eq!(met, 1, "{}: {old:?} is met {met} times", mistake.what);
