@@ -441,7 +441,7 @@ word-empty = refl
 
 -- the plural alone: `[[partitions]]`
 pub plural : seen (λ p. p .partitions) (reads "[[partitions]]\nname = \"a\"\noffset = 2\nsize = 1")
-    ≡ accepted (record { name = ascii "a"; offset = 2; size = 1 } ∷ [])
+    ≡ accepted (record { name = ascii "a"; offset = 2; size = 1; locked = false } ∷ [])
 unfolding computes
 plural = refl
 
@@ -458,7 +458,7 @@ singular-kind = refl
 
 -- `[partitions]` beside `[[partition]]` is not looked at
 pub plural-unseen : seen (λ p. p .partitions) (reads "[partitions]\n[[partition]]\nname = \"a\"\noffset = 2\nsize = 1")
-    ≡ accepted (record { name = ascii "a"; offset = 2; size = 1 } ∷ [])
+    ≡ accepted (record { name = ascii "a"; offset = 2; size = 1; locked = false } ∷ [])
 unfolding computes
 plural-unseen = refl
 

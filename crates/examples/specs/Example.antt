@@ -98,10 +98,10 @@ image = record {
 }
 
 abbrev boot : Partition
-boot = record { name = ascii "boot"; offset = 0; size = 262144 }
+boot = record { name = ascii "boot"; offset = 0; size = 262144; locked = false }
 
 abbrev profiles : Partition
-profiles = record { name = ascii "profiles"; offset = 262144; size = 1048576 }
+profiles = record { name = ascii "profiles"; offset = 262144; size = 1048576; locked = false }
 
 abbrev pub first : Component
 first =
@@ -161,12 +161,12 @@ pub example-preset : whole.read of01 32768 65536 (ascii "board") example
 unfolding whole.computes
 example-preset = refl
 
--- "Output", byte for byte
+-- "Output", byte for byte; by W-206 with ` open` behind each `part` line
 pub example-listing : printed (listing of01 32768 65536 (outSize (ascii "board")) (ascii "board") example)
     ≡ lined (
     "ok d13x spi-nor 2 1 1 21"
-    ∷ "part boot 0 262144"
-    ∷ "part profiles 262144 1310720"
+    ∷ "part boot 0 262144 open"
+    ∷ "part profiles 262144 1310720 open"
     ∷ "comp first app boot;mtd"
     ∷ "app desk desk profiles"
     ∷ "build loader 0"

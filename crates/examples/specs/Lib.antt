@@ -8,3 +8,4 @@ pub mod CornersDocument
 pub mod CornersRecords
 pub mod CornersRules
 pub mod CornersPlan
+pub mod CornersLocks

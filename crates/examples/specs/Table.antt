@@ -1,5 +1,6 @@
 -- 01, "Either side of the line": "Proved as one table over the definitions (P)".
 use Prim.Native.Nat.{ℕ}
+use mathlib.Core.Bool.{false}
 use mathlib.Core.List.{List, [], _∷_}
 use mathlib.Core.Path.{_≡_, refl}
 use lib.IntN.{pos, negsuc}
@@ -21,8 +22,8 @@ use Rattle.meaning.specs.Preset.{validate}
 
 -- two partitions on NOR, the first of 0x1000 bytes at 0, the second as long
 abbrev twoAt : ℕ → List Partition
-twoAt offset = record { name = ascii "a"; offset = 0; size = 4096 }
-    ∷ record { name = ascii "b"; offset = offset; size = 4096 } ∷ []
+twoAt offset = record { name = ascii "a"; offset = 0; size = 4096; locked = false }
+    ∷ record { name = ascii "b"; offset = offset; size = 4096; locked = false } ∷ []
 
 pub record P : Type 0 where
   -- P1 "`0x-5` is -5"
