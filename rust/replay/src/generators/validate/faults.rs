@@ -142,6 +142,7 @@ fn later(p: &mut Preset, n: usize, change: impl FnOnce(&mut PartitionSpec, u64, 
             name: "later".into(),
             offset: block,
             size: block,
+            locked: false,
         });
     }
     if let [before @ .., _] = &p.partitions[..]

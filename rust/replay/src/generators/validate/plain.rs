@@ -58,6 +58,7 @@ pub fn lists(mut p: Preset, counts: [u32; 3]) -> Preset {
         name: name(i),
         offset: i * block,
         size: block,
+        locked: false,
     };
     let built = |i: u32| ComponentSpec {
         package: Some("p".into()),

@@ -119,8 +119,12 @@ fn partitions(r: &mut Rng, chip: Chip) -> Vec<PartitionSpec> {
         };
         let (offset, size) = (end + room * block, [1, 1, 2, 5, 64][r.below(5)] * block);
         end = offset + size;
-        let name = name.into();
-        out.push(PartitionSpec { name, offset, size });
+        out.push(PartitionSpec {
+            name: name.into(),
+            offset,
+            size,
+            locked: false,
+        });
     }
     if r.below(6) == 0 {
         let last = out.last_mut().expect("one at least");
