@@ -75,7 +75,7 @@ fn rules_of_records() {
 #[test]
 fn every_field_in_every_spelling() {
     let mut host = Host::default();
-    for base in [Draft::bare(), Draft::full()] {
+    for base in Draft::all() {
         for edit in edits() {
             let text = edited(&base, &edit);
             let want = model::read(text.as_bytes(), b"board");

@@ -11,7 +11,7 @@ use replay::harness::vector::document as vector;
 #[test]
 fn every_field_in_every_spelling() {
     let mut judge = Judge::records();
-    for base in [Draft::bare(), Draft::full()] {
+    for base in Draft::all() {
         for edit in edits() {
             judge.check(edited(&base, &edit).as_bytes());
         }
@@ -24,7 +24,7 @@ fn every_field_in_every_spelling() {
 #[test]
 fn faults_in_pairs() {
     let (mut judge, faults) = (Judge::records(), faults());
-    for base in [Draft::bare(), Draft::full()] {
+    for base in Draft::all() {
         for first in &faults {
             for second in &faults {
                 judge.check(paired(&base, first, second).as_bytes());

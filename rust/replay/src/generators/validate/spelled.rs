@@ -23,9 +23,16 @@ pub fn text(r: &mut Rng, p: &Preset) -> String {
     let mut draft = Draft::default();
     front(r, p, &mut draft);
     let word = plural(r, "partition", p.partitions.is_empty(), &mut draft);
+    let said = r.below(16) == 0;
     for part in &p.partitions {
-        let lines = partition(r, part);
+        let lines = partition(r, part, said);
         draft.blocks.push(block(Section::Partition, &word, lines));
+    }
+    if word == "[[partition]]" && !p.partitions.is_empty() && r.below(32) == 0 {
+        let lines = vec![("locked".into(), format!(" = {}", any_lock(r)))];
+        draft
+            .blocks
+            .push(block(Section::Partition, "[[partitions]]", lines));
     }
     let word = plural(r, "component", p.components.is_empty(), &mut draft);
     for c in &p.components {
@@ -229,12 +236,25 @@ fn image(r: &mut Rng, p: &Preset, platform: bool) -> Vec<(String, String)> {
     lines.out
 }
 
-fn partition(r: &mut Rng, p: &PartitionSpec) -> Vec<(String, String)> {
+// That a partition is open is mostly not said; a lock is seldom said twice, and the last counts.
+fn partition(r: &mut Rng, p: &PartitionSpec, said: bool) -> Vec<(String, String)> {
     let mut lines = Lines::of(r);
     lines.text("name", &p.name);
     lines.number("offset", p.offset);
     lines.number("size", p.size);
+    if p.locked || said && lines.r.below(2) == 0 {
+        if lines.r.below(8) == 0 {
+            let first = any_lock(lines.r);
+            lines.put("locked", first);
+        }
+        lines.put("locked", p.locked.to_string());
+    }
     lines.out
+}
+
+// Also of the wrong kind.
+fn any_lock(r: &mut Rng) -> String {
+    r.pick(&["true", "false", "1", "\"true\"", "[]"]).into()
 }
 
 fn component(r: &mut Rng, c: &ComponentSpec) -> Vec<(String, String)> {
