@@ -181,7 +181,7 @@ impl Lines<'_> {
     }
 }
 
-fn quoted(s: &str) -> String {
+pub(crate) fn quoted(s: &str) -> String {
     let mut out = String::from("\"");
     for c in s.chars() {
         match c {
@@ -195,12 +195,20 @@ fn quoted(s: &str) -> String {
     out + "\""
 }
 
-fn key(r: &mut Rng, s: &str) -> String {
+// A key as it is, or in quotes where it must be.
+pub(crate) fn segment(s: &str) -> String {
     let plain = |b: u8| b.is_ascii_alphanumeric() || matches!(b, b'-' | b'_');
-    if s.bytes().all(plain) && r.below(4) > 0 {
+    if s.bytes().all(plain) {
         s.into()
     } else {
         quoted(s)
+    }
+}
+
+fn key(r: &mut Rng, s: &str) -> String {
+    match r.below(4) {
+        0 => quoted(s),
+        _ => segment(s),
     }
 }
 
