@@ -1,6 +1,6 @@
 //! Presets on all sides: the port, the definitions and the original.
 use differ::record::RECORDS;
-use differ::records::compare::{Judge, RECORDS as ASKED, answer, check_random};
+use differ::records::compare::{Judge, RECORDS as ASKED, answers, check_random};
 use replay::generators::random::{Rng, turns};
 use replay::generators::records::draft::Draft;
 use replay::generators::records::edits::{edited, edits, faults, paired};
@@ -82,7 +82,8 @@ const LEAST: usize = 100;
 
 #[test]
 fn random_presets() {
-    check_random("random presets, read", Judge::records, SEED, COUNT);
+    let met = check_random("random presets, read", Judge::records, SEED, COUNT);
+    assert!(met.for_locks(20) >= LEAST, "{}", met.summary());
 }
 
 // The second derivation alone, on other presets than above.
@@ -91,7 +92,7 @@ fn definitions_against_the_original() {
     let mut r = Rng::new(SEED + 10);
     for _ in 0..turns(COUNT / 10) {
         let (name, text) = (name(&mut r), text(&mut r));
-        let read = answer(&ASKED, &text, &name);
+        let read = answers(&ASKED, &text, &name);
         read.map_err(|e| panic!("{}: {e}", text.escape_ascii()))
             .ok();
     }

@@ -39,5 +39,6 @@ const SEED: u64 = 20_241_115;
 
 #[test]
 fn random_presets() {
-    check_random("random presets, validated", judge, SEED, 100_000);
+    let met = check_random("random presets, validated", judge, SEED, 100_000);
+    assert!(met.for_locks(67) >= 1_000, "{}", met.summary());
 }
