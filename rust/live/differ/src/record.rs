@@ -28,8 +28,8 @@ pub struct Record {
 }
 
 // Of texts that the original is not asked about.
-const OF_LOCKS: &str = "# The original does not know `locked`: what is told of a text with it in a partition is that of \
-                        rust/replay/src/model, once the original says of the text without it what that says.\n";
+const OF_LOCKS: &str = "# The original does not know `locked`: a text with it in a partition is answered by \
+                        rust/replay/src/model, with which the original agrees once the key is taken out.\n";
 
 pub const TEXT: Record = Record {
     file: "text.txt",

@@ -52,7 +52,7 @@ pub fn preset(r: &mut Rng) -> Preset {
         components: components(r, &names),
         apps: applications(r, &names),
     };
-    if r.below(4) == 0 {
+    if r.below(3) == 0 {
         lock(r, &mut p);
     }
     p
