@@ -51,18 +51,20 @@ pub fn unlocked(text: &[u8]) -> Option<Table> {
     found.then_some(root)
 }
 
-/// The number of a refusal that is told of a text and not of the same without its locks.
-pub fn for_lock<T>(told: &Result<T, Refusal>, without: &Result<T, Refusal>) -> Option<u32> {
-    let own = told.as_ref().err()?;
-    let same = without.as_ref().err() == Some(own);
-    (!same).then_some(own.number)
+/// The refusal that is told of a text and not of the same without its locks.
+pub fn for_lock<T>(told: &Result<T, Refusal>, without: &Result<T, Refusal>) -> Option<Refusal> {
+    let [own, other] = [told, without].map(|told| told.as_ref().err().copied());
+    own.filter(|_| own != other)
 }
 
 /// Nothing but the records of partitions and the refusals 20 and 67 goes by locks.
 pub fn nothing_else(told: &Read, without: &Read) -> Result<(), String> {
     let same = match (told, without) {
         (Ok(own), Ok(open)) => opened(own.preset.clone()) == open.preset,
-        (Err(_), _) => matches!(for_lock(told, without), None | Some(20 | 67)),
+        (Err(_), _) => {
+            let own = for_lock(told, without).map(|e| (e.number, e.section));
+            matches!(own, None | Some((20, 3) | (67, 5)))
+        }
         (Ok(_), Err(_)) => false,
     };
     same.then_some(()).ok_or(format!(

@@ -63,7 +63,8 @@ impl Judge {
         let Some((open, without)) = without else {
             return Ok(());
         };
-        self.met.leave_out(for_lock(&told, &without));
+        let for_lock = for_lock(&told, &without);
+        self.met.leave_out(for_lock.map(|e| e.number));
         let held = self.held(&open, &without);
         held.map_err(|e| format!("without its locks, {e}"))
     }
