@@ -67,9 +67,8 @@ pub fn nothing_else(told: &Read, without: &Read) -> Result<(), String> {
         }
         (Ok(_), Err(_)) => false,
     };
-    same.then_some(()).ok_or(format!(
-        "more than its locks goes by them: {told:?} against {without:?} without"
-    ))
+    same.then_some(())
+        .ok_or_else(|| format!("more goes by its locks: {told:?}, without them {without:?}"))
 }
 
 fn opened(mut preset: Preset) -> Preset {

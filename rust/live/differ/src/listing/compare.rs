@@ -63,8 +63,8 @@ impl Judge {
         let Some((open, without)) = without else {
             return Ok(());
         };
-        let for_lock = for_lock(&told, &without);
-        self.met.leave_out(for_lock.map(|e| e.number));
+        self.met
+            .leave_out(for_lock(&told, &without).map(|e| e.number));
         let held = self.held(&open, &without);
         held.map_err(|e| format!("without its locks, {e}"))
     }

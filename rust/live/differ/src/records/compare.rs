@@ -150,8 +150,8 @@ impl Judge {
         let Some((open, without)) = without else {
             return Ok(());
         };
-        let for_lock = for_lock(&told.0, &without.0);
-        self.met.leave_out(for_lock.map(|e| e.number));
+        self.met
+            .leave_out(for_lock(&told.0, &without.0).map(|e| e.number));
         nothing_else(&told.0, &without.0)?;
         let held = self.held(&open, &without);
         held.map_err(|e| format!("without its locks, {e}"))

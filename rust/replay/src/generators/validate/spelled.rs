@@ -22,18 +22,7 @@ pub fn each(cases: &[Case], seed: u64, mut asked: impl FnMut(&[u8])) {
 pub fn text(r: &mut Rng, p: &Preset) -> String {
     let mut draft = Draft::default();
     front(r, p, &mut draft);
-    let word = plural(r, "partition", p.partitions.is_empty(), &mut draft);
-    let said = r.below(16) == 0;
-    for part in &p.partitions {
-        let lines = partition(r, part, said);
-        draft.blocks.push(block(Section::Partition, &word, lines));
-    }
-    if word == "[[partition]]" && !p.partitions.is_empty() && r.below(32) == 0 {
-        let lines = vec![("locked".into(), format!(" = {}", any_lock(r)))];
-        draft
-            .blocks
-            .push(block(Section::Partition, "[[partitions]]", lines));
-    }
+    partitions(r, p, &mut draft);
     let word = plural(r, "component", p.components.is_empty(), &mut draft);
     for c in &p.components {
         let lines = component(r, c);
@@ -52,6 +41,21 @@ pub fn text(r: &mut Rng, p: &Preset) -> String {
         mixed(r, &mut draft);
     }
     draft.text()
+}
+
+// Beside the list that is read there is seldom one that is ignored, with a lock of any kind.
+fn partitions(r: &mut Rng, p: &Preset, draft: &mut Draft) {
+    let word = plural(r, "partition", p.partitions.is_empty(), draft);
+    let said = r.below(16) == 0;
+    for part in &p.partitions {
+        let lines = partition(r, part, said);
+        draft.blocks.push(block(Section::Partition, &word, lines));
+    }
+    if word == "[[partition]]" && !p.partitions.is_empty() && r.below(32) == 0 {
+        let lines = vec![("locked".into(), format!(" = {}", any_lock(r)))];
+        let ignored = block(Section::Partition, "[[partitions]]", lines);
+        draft.blocks.push(ignored);
+    }
 }
 
 fn block(section: Section, header: &str, lines: Vec<(String, String)>) -> Block {

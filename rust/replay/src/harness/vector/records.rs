@@ -3,7 +3,8 @@
 //! `NAME TEXT ok MADE PRESET` or `NAME TEXT refused NUMBER SECTION PLACE`. A text is as in
 //! `document`. A preset is its board, its image, then its partitions, components and applications,
 //! each list in `[` and `]`; a record is its fields, one after the other, in the order in which
-//! they are read, `-` for an absent one; a partition's last is `open` or `locked`; features stand in `[` and `]`.
+//! they are read, `-` for an absent one; features stand in `[` and `]`; the lock of a partition is
+//! `open` or `locked`.
 use super::document::{Parts, parts, quoted};
 use super::line::{Reader, quote};
 use crate::model::answer::records::{Preset, Refusal};
