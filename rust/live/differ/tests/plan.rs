@@ -44,7 +44,7 @@ const COUNT: usize = 30_000;
 #[test]
 fn random_presets() {
     let met = check_random("random presets, planned", judge, SEED, COUNT);
-    assert!(met.for_locks(67) >= 50, "{}", met.summary());
+    assert!(met.for_locks(67) >= turns(50), "{}", met.summary());
 }
 
 // The second derivation alone, on other presets than above.
