@@ -230,8 +230,8 @@ fn told(asked: &Question, text: &[u8]) -> Answers {
 
 fn preset_lines(asked: &Question, t: &Parts) -> Vec<String> {
     let text = joined(t);
-    let (read, _) = told(asked, &text);
-    let recorded = read.map(|answer| (answer.text.made, answer.preset));
+    let told = told(asked, &text);
+    let recorded = told.read.map(|answer| (answer.text.made, answer.preset));
     vec![replay::harness::vector::records::write(
         lent(&text),
         t,
@@ -242,7 +242,7 @@ fn preset_lines(asked: &Question, t: &Parts) -> Vec<String> {
 // Of the keys that are not declared, one.
 fn plan_lines(t: &Parts) -> Vec<String> {
     let text = joined(t);
-    let (read, all) = told(&plan::compare::PLAN, &text);
+    let Answers { read, all } = told(&plan::compare::PLAN, &text);
     let undeclared = |one: &Answered| one.refusal.is_some_and(|e| e.number == 80);
     let (others, mut told): (Vec<_>, Vec<_>) = all.into_iter().partition(undeclared);
     let count = others.len().max(1);

@@ -55,8 +55,8 @@ fn definitions_against_the_original() {
         let (name, text) = (name(&mut r), random::text(&mut r));
         let told = answers(&ASKED, &text, &name);
         let told = told.unwrap_or_else(|e| panic!("{}: {e}", text.escape_ascii()));
-        let (_, told) = told.told;
-        let numbers = told.iter().map(|one| one.refusal.map_or(0, |e| e.number));
+        let told = told.told.all.into_iter();
+        let numbers = told.map(|one| one.refusal.map_or(0, |e| e.number));
         numbers.for_each(|number| met.count(number));
     }
     met.print("random presets, planned by definitions and original alone");

@@ -27,13 +27,13 @@ pub fn judge() -> Judge {
 }
 
 // The original plans the same of a preset that is accepted.
-fn agreed(text: &[u8], name: &[u8], (read, all): &Answers) -> Result<(), String> {
-    let Ok(answer) = read else {
+fn agreed(text: &[u8], name: &[u8], told: &Answers) -> Result<(), String> {
+    let Ok(answer) = &told.read else {
         return Ok(());
     };
     let text = std::str::from_utf8(text).map_err(|e| format!("not refused with 2: {e}"))?;
     let theirs = parsed(text, name).map_err(|told| format!("accepted against {told:?}"))?;
-    for Answered { selected: key, .. } in all {
+    for Answered { selected: key, .. } in &told.all {
         let same = same(&answer.preset, &theirs, key.as_deref());
         same.map_err(|e| format!("{}definition against original, {e}", about(key)))?;
     }

@@ -23,12 +23,17 @@ pub struct Question {
     pub random: fn(&mut Rng) -> Vec<u8>,
     /// What is told for all that may be selected, where a preset is answered like this.
     pub selected: fn(&Read) -> Vec<Answered>,
-    /// Holds all of that against the original.
-    pub agreed: fn(&[u8], &[u8], &Answers) -> Result<(), String>,
+    pub agreed: Agreed,
 }
 
+/// Holds what is told of a text and a lent name against the original.
+pub type Agreed = fn(&[u8], &[u8], &Answers) -> Result<(), String>;
+
 /// What is told of a preset, and for all that may be selected.
-pub type Answers = (Read, Vec<Answered>);
+pub struct Answers {
+    pub read: Read,
+    pub all: Vec<Answered>,
+}
 
 /// Their records.
 pub const RECORDS: Question = Question {
@@ -76,7 +81,7 @@ pub fn answers(asked: &Question, text: &[u8], name: &[u8]) -> Result<Both<Answer
 
 fn with_selected(asked: &Question, read: Read) -> Answers {
     let all = (asked.selected)(&read);
-    (read, all)
+    Answers { read, all }
 }
 
 fn number(read: &Read) -> u32 {
@@ -145,25 +150,28 @@ impl Judge {
     fn all(&mut self, text: &[u8]) -> Result<(), String> {
         let Both { told, without } = answers(&self.asked, text, &self.name)?;
         self.held(text, &told)?;
-        let numbers = told.1.iter().map(|one| one.refusal.map_or(0, |e| e.number));
-        numbers.for_each(|number| self.met.count(number));
+        for one in &told.all {
+            self.met.count(one.refusal.map_or(0, |e| e.number));
+        }
         let Some((open, without)) = without else {
             return Ok(());
         };
         self.met
-            .leave_out(for_lock(&told.0, &without.0).map(|e| e.number));
-        nothing_else(&told.0, &without.0)?;
+            .leave_out(for_lock(&told.read, &without.read).map(|e| e.number));
+        nothing_else(&told.read, &without.read)?;
         let held = self.held(&open, &without);
         held.map_err(|e| format!("without its locks, {e}"))
     }
 
-    fn held(&mut self, text: &[u8], (read, all): &Answers) -> Result<(), String> {
-        let (host, name) = (&mut self.host, &self.name);
-        let mut told = all
-            .iter()
-            .map(|one| host.selecting(one, text, name, read, self.differed));
-        let told = told.try_for_each(|told| told);
-        told.map_err(|e| format!("port against definition, {e}"))
+    fn held(&mut self, text: &[u8], told: &Answers) -> Result<(), String> {
+        let Answers { read, all } = told;
+        for one in all {
+            let held = self
+                .host
+                .selecting(one, text, &self.name, read, self.differed);
+            held.map_err(|e| format!("port against definition, {e}"))?;
+        }
+        Ok(())
     }
 
     /// Compares and, on a difference, panics with the shortest failing preset.
