@@ -139,7 +139,7 @@ fn layouts() -> String {
             found, media, media_dev_id, platform, product, version, media_id, app
         }
         preset_count_view = records::Counts { partitions, components, applications }
-        preset_partition_view = records::PartitionView { found, offset, size, from, len }
+        preset_partition_view = records::PartitionView { found, offset, size, from, len, locked }
         preset_head_view = records::HeadView { found, kind, name, package, bin, file, filename }
         preset_role_view = records::RoleView {
             found, features, pbp_features, partition, attr, target_attr, target_filename

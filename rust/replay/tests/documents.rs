@@ -4,6 +4,7 @@ use port::text::TEXT_MAX;
 use port::value::{SLOT, STORE_MIN, TREE_MIN};
 use replay::generators::document as random;
 use replay::generators::random::{Rng, turns};
+use replay::generators::tree;
 use replay::harness::ask::document::Host;
 use replay::harness::rooms::holds;
 use replay::model::document as model;
@@ -177,4 +178,27 @@ fn views_of_a_preset() {
         (find(ROOT, b""), find(ROOT, b"ab"), find(7, b"c")),
         (None, None, None)
     );
+}
+
+// A tree that is written again is read as the same, of no more values.
+#[test]
+fn trees_as_texts() {
+    let (mut r, mut count) = (Rng::new(8), 0);
+    let fixed =
+        ["a = [1, [2]]\n[[a]]\nb.c = [\"x\"]\nb.d = \"\\r\\n#\"\n[[a]]\n[\"e ]\".f]\n[g]\n"];
+    let deep = format!("[a{}]\nb{} = 1", ".a".repeat(15), ".b".repeat(15));
+    let fixed = fixed.into_iter().chain([&*deep]);
+    let fixed = fixed.map(|text| text.as_bytes().to_vec());
+    let random = (0..turns(10_000)).map(|_| random::text(&mut r));
+    for text in fixed.chain(random) {
+        let Ok(want) = model::read(&text) else {
+            continue;
+        };
+        let again = tree::text(&want.root);
+        let got = model::read(again.as_bytes()).unwrap_or_else(|e| panic!("{again}: {e:?}"));
+        assert_eq!(got.root, want.root, "{again}");
+        assert!(got.made <= want.made, "{again}");
+        count += 1;
+    }
+    assert!(count > turns(2_000), "{count}");
 }

@@ -27,12 +27,20 @@ fn example_by_definition() {
 }
 
 // A text and what 01 says of a part of its listing.
-const RULES: [(&str, &str); 9] = [
+const RULES: [(&str, &str); 11] = [
     ("", "ok d13x spi-nor 1 1 0 10\n"),
     ("", "stem board\n"),
     ("[board]\nname = \"n m\"\n", "stem n m\n"),
     ("[board]\nchip = \"d21x\"\n", "ok d21x spi-nand 1 1 0 12\n"),
-    ("", "part p 0 262144\n"),
+    ("", "part p 0 262144 open\n"),
+    (
+        "[[partition]]\nname = \"q open\\nr\"\noffset = 0x40000\nsize = 4096\nlocked = true\n",
+        "part q open\nr 262144 266240 locked\ncomp c raw  p \n",
+    ),
+    (
+        "[[partition]]\nname = \"q\"\noffset = 0x40000\nsize = 4096\nlocked = false\n",
+        "part q 262144 266240 open\n",
+    ),
     ("", "comp c raw  p \n"),
     ("[apps.k]\nname = \"n\"\npartition = \"p\"\n", "app k n p\n"),
     ("", "build b 0\n"),

@@ -1,4 +1,5 @@
 //! The port against the recorded answers of the original.
+use preset::PartitionSpec;
 use replay::harness::ask::records::{Host, VALIDATE};
 use replay::harness::met::Met;
 use replay::harness::{ask, vector};
@@ -138,4 +139,26 @@ fn every_recorded_listing() {
     assert_eq!(met.unmet(), [80, 81], "{}", met.summary());
     assert!(met.of(0) >= 150, "{}", met.summary());
     assert!(met.of(0) + met.refused() >= 500, "{}", met.summary());
+}
+
+// Accepted presets with a locked partition, of those that are recorded by themselves and with their plans.
+#[test]
+fn recorded_locks() {
+    let locked = |all: &[PartitionSpec]| all.iter().any(|part| part.locked);
+    for file in ["records.txt", "validate.txt"] {
+        let each = lines(file)
+            .into_iter()
+            .map(|line| vector::records::read(&line));
+        let read = each.map(|line| line.expect("read above").2);
+        let count = read
+            .flatten()
+            .filter(|(_, preset)| locked(&preset.partitions));
+        assert!(count.count() >= 10, "{file}");
+    }
+    let each = lines("plan.txt")
+        .into_iter()
+        .map(|line| vector::plan::read(&line));
+    let read = each.map(|line| line.expect("read above").3);
+    let count = read.flatten().filter(|(_, plan)| locked(&plan.partitions));
+    assert!(count.count() >= 10, "plan.txt");
 }

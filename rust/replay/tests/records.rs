@@ -22,7 +22,7 @@ fn judged(host: &mut Host, text: &[u8], name: &[u8]) {
 }
 
 // Preset, refusal number (0: accepted), section, place.
-const RULES: [(&str, u32, u32, usize); 24] = [
+const RULES: [(&str, u32, u32, usize); 26] = [
     ("", 0, 0, 0),
     ("x", 5, 0, 1),
     ("board = 1", 20, 1, 0),
@@ -48,6 +48,8 @@ const RULES: [(&str, u32, u32, usize); 24] = [
     ("[[component]]\nkind = \"z\"", 22, 4, 0),
     ("[[component]]\nkind = 1", 20, 4, 0),
     ("[[partition]]\nsize = true", 24, 3, 0),
+    ("[[partition]]\nlocked = 1\nname = 1", 20, 3, 0),
+    ("[[partition]]\nlocked = 1", 24, 3, 0),
     ("[apps]\nb = 1\n[apps.a]", 23, 5, 1),
     ("[apps.b]\nname = 1\n[apps.a]\nfeatures = [1]", 20, 5, 0),
     ("partition = []\n[[partitions]]", 0, 0, 0),
@@ -75,7 +77,7 @@ fn rules_of_records() {
 #[test]
 fn every_field_in_every_spelling() {
     let mut host = Host::default();
-    for base in [Draft::bare(), Draft::full()] {
+    for base in Draft::all() {
         for edit in edits() {
             let text = edited(&base, &edit);
             let want = model::read(text.as_bytes(), b"board");

@@ -119,7 +119,7 @@ const COMPONENTS: [Rule; 19] = [
     }),
 ];
 
-const OTHERS: [Rule; 24] = [
+const OTHERS: [Rule; 33] = [
     (60, 4, 2, |p| featured(p, 2, "f")),
     (60, 4, 1, |p| featured(p, 0, "f")),
     (0, 0, 0, |p| (0..4).for_each(|i| featured(p, i, "f"))),
@@ -150,6 +150,39 @@ const OTHERS: [Rule; 24] = [
     (64, 5, 3, |p| nth_app(p, 3).partition = "p3;x".into()),
     (64, 5, 3, |p| nth_app(p, 3).partition = " p3".into()),
     (64, 5, 0, |p| nth_app(p, 0).partition.clear()),
+    (67, 5, 0, |p| p.partitions[0].locked = true),
+    (67, 5, 3, |p| p.partitions[3].locked = true),
+    (67, 5, 1, |p| {
+        p.partitions[3].locked = true;
+        p.partitions[1].locked = true;
+    }),
+    (63, 5, 1, |p| {
+        p.partitions[1].locked = true;
+        nth_app(p, 1).filename.clear();
+    }),
+    (64, 5, 0, |p| {
+        p.partitions[0].locked = true;
+        nth_app(p, 0).partition = "p0;".into();
+    }),
+    (67, 5, 1, |p| {
+        p.partitions[1].locked = true;
+        nth_app(p, 1).name = "a00".into();
+        nth_app(p, 1).load_address = Some(1);
+    }),
+    (65, 5, 1, |p| {
+        p.partitions[2].locked = true;
+        nth_app(p, 1).name = "a00".into();
+    }),
+    (0, 0, 0, |p| {
+        p.partitions[1].name = "p0;x".into();
+        p.components[1].partition = "p0".into();
+        (0..4).for_each(|i| nth_app(p, i).partition = "p0;x".into());
+        p.partitions[0].locked = true;
+    }),
+    (0, 0, 0, |p| {
+        p.apps.clear();
+        p.partitions.iter_mut().for_each(|part| part.locked = true);
+    }),
     (65, 5, 1, |p| nth_app(p, 0).name = "a01".into()),
     (65, 5, 2, |p| {
         nth_app(p, 3).name = "a00".into();

@@ -3,6 +3,7 @@ pub mod compare;
 pub mod corners;
 pub mod document;
 pub mod listing;
+pub mod locks;
 pub mod long;
 pub mod original;
 pub mod picked;

@@ -1,11 +1,10 @@
 //! The recorded answers: of each kind picked texts and a fixed number of random ones.
 use crate::picked::plain;
-use crate::records::compare::{Question, answers};
+use crate::records::compare::{Answers, Question, answers};
 use crate::{corners, document, listing, original, plan, records, validate, value};
 use replay::generators::plan::keys::Answered;
 use replay::generators::random::Rng;
 use replay::harness::vector::document::{Parts, joined};
-use replay::model::answer::records::Read;
 use replay::model::value as model;
 use std::ops::RangeInclusive;
 
@@ -15,7 +14,7 @@ pub struct Record {
     pub file: &'static str,
     // whose answers to which picked texts, for the header
     asked: fn() -> String,
-    note: &'static str,
+    notes: &'static [&'static str],
     picked: fn() -> Vec<Parts>,
     seed: u64,
     random: usize,
@@ -28,6 +27,10 @@ pub struct Record {
     lines: fn(&Parts) -> Vec<String>,
 }
 
+// Of texts that the original is not asked about.
+const OF_LOCKS: &str = "# The original does not know `locked`: a text with it in a partition is answered by \
+                        rust/replay/src/model, with which the original agrees once the key is taken out.\n";
+
 pub const TEXT: Record = Record {
     file: "text.txt",
     asked: || {
@@ -37,7 +40,7 @@ pub const TEXT: Record = Record {
              brackets_balanced, quotes_closed and str::trim to {corners} picked"
         )
     },
-    note: "",
+    notes: &[],
     picked: || plain(corners::CORNERS),
     seed: 7,
     random: 400,
@@ -62,7 +65,7 @@ pub const VALUE: Record = Record {
              to {corners} picked"
         )
     },
-    note: "",
+    notes: &[],
     picked: || plain(value::corners::CORNERS),
     seed: 11,
     random: 400,
@@ -89,8 +92,10 @@ pub const DOCUMENT: Record = Record {
              around the limits, the presets of presets/"
         )
     },
-    note: "# Line, count of values and store, and the numbers 1, 2, 14, 15 and 16, which the \
-           original does not have, are those of rust/replay/src/model/document.rs.\n",
+    notes: &[
+        "# Line, count of values and store, and the numbers 1, 2, 14, 15 and 16, which the \
+         original does not have, are those of rust/replay/src/model/document.rs.\n",
+    ],
     picked: document::corners::picked,
     seed: 13,
     random: 300,
@@ -116,8 +121,11 @@ pub const RECORDS: Record = Record {
              {limits} around the limits, the presets of presets/, {faults} with one fault"
         )
     },
-    note: "# Section, place and count of values, and the numbers 1, 2, 14, 15, 16 and 25, which the \
-           original does not have, are those of rust/replay/src/model/records.rs.\n",
+    notes: &[
+        "# Section, place and count of values, and the numbers 1, 2, 14, 15, 16 and 25, which the \
+         original does not have, are those of rust/replay/src/model/records.rs.\n",
+        OF_LOCKS,
+    ],
     picked: records::corners::picked,
     seed: 17,
     random: 250,
@@ -130,15 +138,18 @@ pub const RECORDS: Record = Record {
 pub const VALIDATE: Record = Record {
     file: "validate.txt",
     asked: || {
-        let corners = validate::corners::CORNERS.len();
+        let corners = validate::corners::CORNERS.len() + validate::corners::locked().len();
         let faults = 2 * replay::generators::validate::faults::FAULTS.len();
         format!(
             "Preset::parse and validate, the records or the number of the message, to {corners} \
              picked presets, the presets of presets/, {faults} with one fault"
         )
     },
-    note: "# Section, place and count of values are those of rust/replay/src/model/validate.rs, which \
-           the names in messages bear out.\n",
+    notes: &[
+        "# Section, place and count of values are those of rust/replay/src/model/validate.rs, which \
+         the names in messages bear out.\n",
+        OF_LOCKS,
+    ],
     picked: validate::corners::picked,
     seed: 19,
     random: 20,
@@ -157,8 +168,11 @@ pub const PLAN: Record = Record {
              declared application and another key, to {corners} picked presets, the presets of presets/"
         )
     },
-    note: "# Count of values is that of rust/replay/src/model/plan.rs, as is what is told of a key that is \
-           not UTF-8, and of presets that break a rule section and place.\n",
+    notes: &[
+        "# Count of values is that of rust/replay/src/model/plan.rs, as is what is told of a key that is \
+         not UTF-8, and of presets that break a rule section and place.\n",
+        OF_LOCKS,
+    ],
     picked: plan::corners::picked,
     seed: 23,
     random: 30,
@@ -178,8 +192,11 @@ pub const LISTING: Record = Record {
              records.txt"
         )
     },
-    note: "# Count of values is that of rust/replay/src/model/document.rs; of refusals section and place, and the \
-           numbers 1, 2, 14, 15, 16 and 25, are those of rust/replay/src/model/validate.rs.\n",
+    notes: &[
+        "# Count of values is that of rust/replay/src/model/document.rs; of refusals section and place, and the \
+         numbers 1, 2, 14, 15, 16 and 25, are those of rust/replay/src/model/validate.rs.\n",
+        OF_LOCKS,
+    ],
     picked: listing::corners::picked,
     seed: 29,
     random: 350,
@@ -193,7 +210,7 @@ pub const LISTING: Record = Record {
         vec![replay::harness::vector::listing::write(
             lent(&text),
             t,
-            &listed,
+            &listed.told,
         )]
     },
 };
@@ -205,15 +222,16 @@ fn lent(text: &[u8]) -> &'static [u8] {
 }
 
 // All answers to a question about a preset.
-fn told(asked: &Question, text: &[u8]) -> (Read, Vec<Answered>) {
+fn told(asked: &Question, text: &[u8]) -> Answers {
     let answers = answers(asked, text, lent(text));
-    answers.unwrap_or_else(|e| panic!("{}: {e}", text.escape_ascii()))
+    let answers = answers.unwrap_or_else(|e| panic!("{}: {e}", text.escape_ascii()));
+    answers.told
 }
 
 fn preset_lines(asked: &Question, t: &Parts) -> Vec<String> {
     let text = joined(t);
-    let (read, _) = told(asked, &text);
-    let recorded = read.map(|answer| (answer.text.made, answer.preset));
+    let told = told(asked, &text);
+    let recorded = told.read.map(|answer| (answer.text.made, answer.preset));
     vec![replay::harness::vector::records::write(
         lent(&text),
         t,
@@ -224,7 +242,7 @@ fn preset_lines(asked: &Question, t: &Parts) -> Vec<String> {
 // Of the keys that are not declared, one.
 fn plan_lines(t: &Parts) -> Vec<String> {
     let text = joined(t);
-    let (read, all) = told(&plan::compare::PLAN, &text);
+    let Answers { read, all } = told(&plan::compare::PLAN, &text);
     let undeclared = |one: &Answered| one.refusal.is_some_and(|e| e.number == 80);
     let (others, mut told): (Vec<_>, Vec<_>) = all.into_iter().partition(undeclared);
     let count = others.len().max(1);
@@ -260,10 +278,11 @@ impl Record {
     }
 
     fn header(&self) -> String {
-        let (asked, random, seed, note) = ((self.asked)(), self.random, self.seed, self.note);
+        let (asked, random, seed) = ((self.asked)(), self.random, self.seed);
+        let notes = self.notes.concat();
         format!(
             "# Answers of the original's {asked} and {random} random texts (seed {seed}); made, \
-             and made again, by `cargo run --release --bin record` in rust/live.\n{note}"
+             and made again, by `cargo run --release --bin record` in rust/live.\n{notes}"
         )
     }
 

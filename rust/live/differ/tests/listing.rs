@@ -41,4 +41,6 @@ fn random_presets() {
     let met = run.go(|_| ()).unwrap_or_else(|e| panic!("{}", e.told));
     met.print("random presets, listed");
     assert_eq!(met.unmet(), [80, 81], "{}", met.summary());
+    let often = 3_000..10_000;
+    assert!(often.contains(&met.left_out()), "{}", met.summary());
 }

@@ -15,6 +15,7 @@ const RUN: Run = Run {
 fn few_texts_of_all_sorts() {
     let met = RUN.go(|_| ()).unwrap_or_else(|e| panic!("{}", e.told));
     assert!(met.of(0) > 100 && met.numbers() > 40, "{}", met.summary());
+    assert!((100..400).contains(&met.left_out()), "{}", met.summary());
     assert_eq!(enough(&RUN, &met), Ok(()));
     let many = Run {
         count: 100_000,

@@ -43,7 +43,8 @@ const COUNT: usize = 30_000;
 
 #[test]
 fn random_presets() {
-    check_random("random presets, planned", judge, SEED, COUNT);
+    let met = check_random("random presets, planned", judge, SEED, COUNT);
+    assert!(met.for_locks(67) >= turns(50), "{}", met.summary());
 }
 
 // The second derivation alone, on other presets than above.
@@ -53,8 +54,9 @@ fn definitions_against_the_original() {
     for _ in 0..turns(COUNT) {
         let (name, text) = (name(&mut r), random::text(&mut r));
         let told = answers(&ASKED, &text, &name);
-        let (_, told) = told.unwrap_or_else(|e| panic!("{}: {e}", text.escape_ascii()));
-        let numbers = told.iter().map(|one| one.refusal.map_or(0, |e| e.number));
+        let told = told.unwrap_or_else(|e| panic!("{}: {e}", text.escape_ascii()));
+        let told = told.told.all.into_iter();
+        let numbers = told.map(|one| one.refusal.map_or(0, |e| e.number));
         numbers.for_each(|number| met.count(number));
     }
     met.print("random presets, planned by definitions and original alone");

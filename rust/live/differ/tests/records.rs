@@ -1,6 +1,6 @@
 //! Presets on all sides: the port, the definitions and the original.
 use differ::record::RECORDS;
-use differ::records::compare::{Judge, RECORDS as ASKED, answer, check_random};
+use differ::records::compare::{Judge, RECORDS as ASKED, answers, check_random};
 use replay::generators::random::{Rng, turns};
 use replay::generators::records::draft::Draft;
 use replay::generators::records::edits::{edited, edits, faults, paired};
@@ -11,7 +11,7 @@ use replay::harness::vector::document as vector;
 #[test]
 fn every_field_in_every_spelling() {
     let mut judge = Judge::records();
-    for base in [Draft::bare(), Draft::full()] {
+    for base in Draft::all() {
         for edit in edits() {
             judge.check(edited(&base, &edit).as_bytes());
         }
@@ -24,7 +24,7 @@ fn every_field_in_every_spelling() {
 #[test]
 fn faults_in_pairs() {
     let (mut judge, faults) = (Judge::records(), faults());
-    for base in [Draft::bare(), Draft::full()] {
+    for base in Draft::all() {
         for first in &faults {
             for second in &faults {
                 judge.check(paired(&base, first, second).as_bytes());
@@ -82,7 +82,8 @@ const LEAST: usize = 100;
 
 #[test]
 fn random_presets() {
-    check_random("random presets, read", Judge::records, SEED, COUNT);
+    let met = check_random("random presets, read", Judge::records, SEED, COUNT);
+    assert!(met.for_locks(20) >= turns(5 * LEAST), "{}", met.summary());
 }
 
 // The second derivation alone, on other presets than above.
@@ -91,7 +92,7 @@ fn definitions_against_the_original() {
     let mut r = Rng::new(SEED + 10);
     for _ in 0..turns(COUNT / 10) {
         let (name, text) = (name(&mut r), text(&mut r));
-        let read = answer(&ASKED, &text, &name);
+        let read = answers(&ASKED, &text, &name);
         read.map_err(|e| panic!("{}: {e}", text.escape_ascii()))
             .ok();
     }

@@ -2,7 +2,7 @@
 use differ::record::VALIDATE;
 use differ::records::compare::check_random;
 use differ::validate::compare::judge;
-use replay::generators::random::Rng;
+use replay::generators::random::{Rng, turns};
 use replay::generators::records::random::NAMES;
 use replay::generators::validate::cases::CASES;
 use replay::generators::validate::spelled;
@@ -39,5 +39,6 @@ const SEED: u64 = 20_241_115;
 
 #[test]
 fn random_presets() {
-    check_random("random presets, validated", judge, SEED, 100_000);
+    let met = check_random("random presets, validated", judge, SEED, 100_000);
+    assert!(met.for_locks(67) >= turns(1_000), "{}", met.summary());
 }

@@ -2,28 +2,60 @@
 use crate::model::plan;
 use crate::model::validate;
 
-/// By number, 0 being none.
+// By number, 0 being none.
+type Counts = [usize; 82];
+
+/// All that was told, and of texts that the original was not asked about for their locks.
 #[derive(Clone, Debug)]
-pub struct Met([usize; 82]);
+pub struct Met {
+    told: Counts,
+    left_out: usize,
+    // what is told of these and not without their locks
+    for_locks: Counts,
+}
 
 impl Default for Met {
     fn default() -> Self {
-        Met([0; 82])
+        Met {
+            told: [0; 82],
+            left_out: 0,
+            for_locks: [0; 82],
+        }
     }
 }
 
 impl Met {
     pub fn count(&mut self, number: u32) {
-        self.0[number as usize] += 1;
+        self.told[number as usize] += 1;
+    }
+
+    /// A text that the original was not asked about, and with which number it is refused for its locks alone.
+    pub fn leave_out(&mut self, for_lock: Option<u32>) {
+        self.left_out += 1;
+        if let Some(number) = for_lock {
+            self.for_locks[number as usize] += 1;
+        }
     }
 
     pub fn add(&mut self, other: &Met) {
-        let each = self.0.iter_mut().zip(other.0);
-        each.for_each(|(sum, n)| *sum += n);
+        let told = self.told.iter_mut().zip(other.told);
+        let for_locks = self.for_locks.iter_mut().zip(other.for_locks);
+        told.chain(for_locks).for_each(|(sum, n)| *sum += n);
+        self.left_out += other.left_out;
     }
 
     pub fn of(&self, number: u32) -> usize {
-        self.0[number as usize]
+        self.told[number as usize]
+    }
+
+    /// How many texts were left out.
+    pub fn left_out(&self) -> usize {
+        self.left_out
+    }
+
+    /// How many of these were refused with that number for their locks alone.
+    pub fn for_locks(&self, number: u32) -> usize {
+        self.for_locks[number as usize]
     }
 
     /// The first of these numbers that was met less often.
@@ -34,12 +66,12 @@ impl Met {
 
     /// How many refusals there were.
     pub fn refused(&self) -> usize {
-        self.0[1..].iter().sum()
+        self.told[1..].iter().sum()
     }
 
     /// With how many numbers.
     pub fn numbers(&self) -> usize {
-        self.0[1..].iter().filter(|n| **n > 0).count()
+        self.told[1..].iter().filter(|n| **n > 0).count()
     }
 
     /// The numbers of 01 that were never met; 17 goes by the rooms alone.
@@ -57,13 +89,21 @@ impl Met {
 
     /// In one line.
     pub fn summary(&self) -> String {
-        let met = self.0.iter().enumerate().skip(1).filter(|(_, n)| **n > 0);
-        let refused: Vec<_> = met.map(|(number, n)| format!("{number}: {n}")).collect();
-        let refused = if refused.is_empty() {
-            "none".into()
-        } else {
-            refused.join(", ")
-        };
-        format!("{} accepted; refused {refused}", self.of(0))
+        let told = format!("{} accepted; refused {}", self.of(0), listed(&self.told));
+        if self.left_out == 0 {
+            return told;
+        }
+        let (texts, numbers) = (self.left_out, listed(&self.for_locks));
+        format!("{told}; {texts} texts left out for locks, refused for these alone {numbers}")
+    }
+}
+
+fn listed(counts: &Counts) -> String {
+    let met = counts.iter().enumerate().skip(1).filter(|(_, n)| **n > 0);
+    let refused: Vec<_> = met.map(|(number, n)| format!("{number}: {n}")).collect();
+    if refused.is_empty() {
+        "none".into()
+    } else {
+        refused.join(", ")
     }
 }

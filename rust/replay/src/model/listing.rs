@@ -1,7 +1,7 @@
 //! The lines of a listing by 01, from a preset and its plan.
 use super::answer::records::{Preset, Refusal};
 use super::plan::plan;
-use super::records::{CHIPS, KINDS, MEDIA, named};
+use super::records::{CHIPS, KINDS, LOCKS, MEDIA, named};
 use super::validate::{self, end};
 use preset::{AppSpec, BuildRequirement, ComponentSpec, ImagePlan, PartitionSpec};
 
@@ -30,7 +30,8 @@ fn ok(made: usize, p: &Preset) -> String {
 }
 
 fn part(p: &PartitionSpec) -> String {
-    format!("part {} {} {}\n", p.name, p.offset, end(p))
+    let lock = named(&LOCKS, p.locked);
+    format!("part {} {} {} {lock}\n", p.name, p.offset, end(p))
 }
 
 fn dashed(reference: &str) -> &str {

@@ -193,6 +193,8 @@ pub(crate) const KINDS: [(&str, ComponentKind); 3] = [
     ("raw", ComponentKind::Raw),
 ];
 
+pub(crate) const LOCKS: [(&str, bool); 2] = [("open", false), ("locked", true)];
+
 pub(crate) fn named<T: PartialEq>(words: &[(&str, T)], meant: T) -> String {
     let word = words.iter().find(|(_, m)| *m == meant);
     word.expect("each has a word").0.into()

@@ -6,9 +6,9 @@ use super::text::trim;
 use preset::{AppSpec, Chip, ComponentSpec, Media, PartitionSpec};
 
 /// Every number that validation refuses with.
-pub const NUMBERS: [u32; 33] = [
+pub const NUMBERS: [u32; 34] = [
     30, 31, 32, 33, 34, 35, 40, 41, 42, 43, 44, 45, 46, 47, 48, 50, 51, 52, 53, 54, 55, 56, 57, 58,
-    59, 60, 61, 62, 63, 64, 65, 66, 70,
+    59, 60, 61, 62, 63, 64, 65, 66, 67, 70,
 ];
 
 /// First the records, then the rules.
@@ -149,6 +149,12 @@ fn known(p: &Preset, name: &str) -> bool {
     p.partitions.iter().any(|part| part.name == name)
 }
 
+// Whether no application may lie there.
+fn locked(p: &Preset, name: &str) -> bool {
+    let mut parts = p.partitions.iter();
+    parts.any(|part| part.locked && part.name == name)
+}
+
 fn component(p: &Preset, before: &[ComponentSpec], own: &ComponentSpec) -> u32 {
     let (package, file) = (own.package.is_some(), own.file.is_some());
     let nowhere = own.partition.is_empty();
@@ -212,6 +218,7 @@ fn application(p: &Preset, before: &[&AppSpec], own: &&AppSpec) -> u32 {
         (62, long(&own.name)),
         (63, own.filename.is_empty()),
         (64, !known(p, &own.partition)),
+        (67, locked(p, &own.partition)),
         (65, before.iter().any(|other| other.name == own.name)),
         (66, own.load_address.is_some_and(|at| at % 4 != 0)),
     ])

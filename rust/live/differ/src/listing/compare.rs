@@ -1,5 +1,6 @@
 //! One preset's listing by the port, the original and the definitions.
 use super::original;
+use crate::locks::{Both, both, for_lock};
 use crate::plan::compare::PLAN;
 use crate::records::compare::answer;
 use crate::run::sides::Sides;
@@ -12,8 +13,14 @@ use replay::harness::ask::records::differing;
 use replay::harness::met::Met;
 use replay::model;
 
-/// The lines by the definitions, once the original has the same.
-pub fn listed(text: &[u8], name: &[u8]) -> Result<Lines, String> {
+/// The lines by the definitions, once the original has the same where it can.
+pub fn listed(text: &[u8], name: &[u8]) -> Result<Both<Lines>, String> {
+    let defined = |text: &[u8]| model::listing::read(text, name);
+    both(text, |text| agreed(text, name), defined)
+}
+
+// Of a preset without locks.
+fn agreed(text: &[u8], name: &[u8]) -> Result<Lines, String> {
     let answer = match answer(&PLAN, text, name)? {
         Ok(answer) => answer,
         Err(refusal) => return Ok(Err(refusal)),
@@ -50,12 +57,23 @@ impl Judge {
     }
 
     fn all(&mut self, text: &[u8]) -> Result<(), String> {
-        let want = listed(text, &self.name)?;
-        self.met.count(want.as_ref().err().map_or(0, |e| e.number));
+        let Both { told, without } = listed(text, &self.name)?;
+        self.met.count(told.as_ref().err().map_or(0, |e| e.number));
+        self.held(text, &told)?;
+        let Some((open, without)) = without else {
+            return Ok(());
+        };
+        self.met
+            .leave_out(for_lock(&told, &without).map(|e| e.number));
+        let held = self.held(&open, &without);
+        held.map_err(|e| format!("without its locks, {e}"))
+    }
+
+    fn held(&mut self, text: &[u8], want: &Lines) -> Result<(), String> {
         let told = if self.differed {
-            self.host.judge_fully(text, &self.name, &want)
+            self.host.judge_fully(text, &self.name, want)
         } else {
-            self.host.judge(text, &self.name, &want)
+            self.host.judge(text, &self.name, want)
         };
         told.map_err(|e| format!("port against definition, {e}"))
     }

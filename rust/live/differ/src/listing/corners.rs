@@ -101,6 +101,9 @@ pub const CORNERS: &[&[&str]] = &[
     &[A],
     &[X],
     &["["],
+    &["= 1\n", A, X],
+    &["a = \"\\q\"\n", A, X],
+    &["\"a.b\" = 1\n", A, X],
 ];
 
 /// The corners, those of planning and validation, and the limits of texts and lists.

@@ -29,7 +29,8 @@ fn written(out: &mut String, p: &Preset, plan: &ImagePlan, made: usize) -> std::
     )?;
     for part in &plan.partitions {
         let end = u64::from(part.offset) + u64::from(part.size);
-        writeln!(out, "part {} {} {end}", part.name, part.offset)?;
+        // it has all fields but the last word, and is asked about presets without locks: no name need be told from that
+        writeln!(out, "part {} {} {end} open", part.name, part.offset)?;
     }
     for PlannedComponent { spec, .. } in &plan.components {
         let kind = match spec.kind {

@@ -1,6 +1,6 @@
 //! What each side says of a text, in words.
 use crate::records::original::{Told, read};
-use crate::{document, listing, plan, validate};
+use crate::{document, listing, locks, plan, validate};
 use port::document::Outcome;
 use port::listing::out_min;
 use port::plans;
@@ -12,7 +12,10 @@ use replay::model::answer::records::{Read, Refusal};
 /// Of the port, of the original and of the definitions, one function after the other.
 pub fn answers(text: &[u8], name: &[u8]) -> String {
     let lent = format!("lent name \"{}\"", name.escape_ascii());
-    let (ours, theirs) = (ours(text, name), theirs(text, name));
+    let (ours, mut theirs) = (ours(text, name), theirs(text, name));
+    if locks::unlocked(text).is_some() {
+        theirs += "\noriginal: left out, since it does not know locks";
+    }
     let read = replay::model::plan::read(text, name, None);
     let defined = format!("definitions: {}", shown(&read));
     let made = read.map(|answer| answer.text.made);

@@ -9,7 +9,6 @@ use replay::generators::plan::keys::{Answered, answers};
 use replay::generators::plan::random;
 use replay::harness::ask::plan::{PLAN as DOOR, difference};
 use replay::harness::ask::records::{Host, about};
-use replay::model::answer::records::Read;
 use replay::model::plan as model;
 
 /// What is planned for all that may be selected.
@@ -17,7 +16,8 @@ pub const PLAN: Question = Question {
     original: original::read,
     numbers: &model::NUMBERS,
     random: random::text,
-    selected,
+    selected: answers,
+    agreed,
     ..VALIDATE
 };
 
@@ -26,19 +26,18 @@ pub fn judge() -> Judge {
     Judge::new(PLAN, Host::new(DOOR))
 }
 
-// By the definitions, once the original plans the same of a preset that is accepted.
-fn selected(text: &[u8], name: &[u8], read: &Read) -> Answers {
-    let all = answers(read);
-    let Ok(answer) = read else {
-        return Ok(all);
+// The original plans the same of a preset that is accepted.
+fn agreed(text: &[u8], name: &[u8], told: &Answers) -> Result<(), String> {
+    let Ok(answer) = &told.read else {
+        return Ok(());
     };
     let text = std::str::from_utf8(text).map_err(|e| format!("not refused with 2: {e}"))?;
     let theirs = parsed(text, name).map_err(|told| format!("accepted against {told:?}"))?;
-    for Answered { selected: key, .. } in &all {
+    for Answered { selected: key, .. } in &told.all {
         let same = same(&answer.preset, &theirs, key.as_deref());
         same.map_err(|e| format!("{}definition against original, {e}", about(key)))?;
     }
-    Ok(all)
+    Ok(())
 }
 
 // A key that is not UTF-8 cannot be handed to the original.

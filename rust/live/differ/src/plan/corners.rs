@@ -117,6 +117,18 @@ pub const CORNERS: &[&[&str]] = &[
         X,
         "partition = \"app\"\n[apps.k]\n",
     ],
+    // locks: of a component's partition, of no application's, and of one whose name an application's begins with
+    &[A, "locked = true\n", X],
+    &[A, "locked = false\n", X, K],
+    &[A, "locked = true\n", X, K],
+    &[A, "locked = true\n", B, X, K, "partition = \"b\"\n"],
+    &[
+        A,
+        "locked = true\n[[partition]]\nname = \"a;b\"\noffset = 4096\nsize = 4096\n",
+        X,
+        K,
+        "partition = \"a;b\"\n",
+    ],
 ];
 
 /// The corners and the presets of the repository.

@@ -1,5 +1,6 @@
 //! One preset through the port, the original and the definitions, which have limits.
 use super::original::{self, Told};
+use crate::locks::{Both, both, for_lock, nothing_else};
 use crate::shorten::shortest_difference;
 use preset::Preset;
 use replay::generators::plan::keys::Answered;
@@ -21,11 +22,18 @@ pub struct Question {
     /// Presets to ask about.
     pub random: fn(&mut Rng) -> Vec<u8>,
     /// What is told for all that may be selected, where a preset is answered like this.
-    pub selected: fn(&[u8], &[u8], &Read) -> Answers,
+    pub selected: fn(&Read) -> Vec<Answered>,
+    pub agreed: Agreed,
 }
 
-/// All answers, or where definitions and original differ.
-pub type Answers = Result<Vec<Answered>, String>;
+/// Holds what is told of a text and a lent name against the original.
+pub type Agreed = fn(&[u8], &[u8], &Answers) -> Result<(), String>;
+
+/// What is told of a preset, and for all that may be selected.
+pub struct Answers {
+    pub read: Read,
+    pub all: Vec<Answered>,
+}
 
 /// Their records.
 pub const RECORDS: Question = Question {
@@ -33,11 +41,12 @@ pub const RECORDS: Question = Question {
     original: original::read,
     numbers: &[20, 21, 22, 23, 24, 25],
     random: random::text,
-    selected: |_, _, read| Ok(vec![Answered::boot_chain(read)]),
+    selected: |read| vec![Answered::boot_chain(read)],
+    agreed: |_, _, _| Ok(()),
 };
 
-/// What the definitions say of a preset, once the original says the same where it can.
-pub fn answer(asked: &Question, text: &[u8], name: &[u8]) -> Result<Read, String> {
+/// What the definitions say of a preset without locks, once the original says the same where it can.
+pub(crate) fn answer(asked: &Question, text: &[u8], name: &[u8]) -> Result<Read, String> {
     let defined = (asked.defined)(text, name, &LIMITS);
     let number = number(&defined);
     // the original has none of these limits, and no text that is not UTF-8 can be handed to it
@@ -58,15 +67,21 @@ pub fn answer(asked: &Question, text: &[u8], name: &[u8]) -> Result<Read, String
     Ok(defined)
 }
 
-/// The same, and for all that may be selected.
-pub fn answers(
-    asked: &Question,
-    text: &[u8],
-    name: &[u8],
-) -> Result<(Read, Vec<Answered>), String> {
-    let read = answer(asked, text, name)?;
-    let all = (asked.selected)(text, name, &read)?;
-    Ok((read, all))
+/// What the definitions say of a preset and for all that may be selected, once the original says the same where it can.
+pub fn answers(asked: &Question, text: &[u8], name: &[u8]) -> Result<Both<Answers>, String> {
+    both(
+        text,
+        |text| {
+            let told = with_selected(asked, answer(asked, text, name)?);
+            (asked.agreed)(text, name, &told).map(|()| told)
+        },
+        |text| with_selected(asked, (asked.defined)(text, name, &LIMITS)),
+    )
+}
+
+fn with_selected(asked: &Question, read: Read) -> Answers {
+    let all = (asked.selected)(&read);
+    Answers { read, all }
 }
 
 fn number(read: &Read) -> u32 {
@@ -124,7 +139,8 @@ impl Judge {
         }
     }
 
-    /// The definitions against the original, and everything the port leaves against the definitions.
+    /// The definitions against the original, and everything the port leaves against the definitions; where a preset has
+    /// locks, all of that without them, and the port against the definitions with them.
     pub fn compare(&mut self, text: &[u8]) -> Result<(), String> {
         let told = self.all(text);
         self.differed |= told.is_err();
@@ -132,13 +148,28 @@ impl Judge {
     }
 
     fn all(&mut self, text: &[u8]) -> Result<(), String> {
-        let (read, all) = answers(&self.asked, text, &self.name)?;
-        for one in all {
-            let told = self
-                .host
-                .selecting(&one, text, &self.name, &read, self.differed);
-            told.map_err(|e| format!("port against definition, {e}"))?;
+        let Both { told, without } = answers(&self.asked, text, &self.name)?;
+        self.held(text, &told)?;
+        for one in &told.all {
             self.met.count(one.refusal.map_or(0, |e| e.number));
+        }
+        let Some((open, without)) = without else {
+            return Ok(());
+        };
+        self.met
+            .leave_out(for_lock(&told.read, &without.read).map(|e| e.number));
+        nothing_else(&told.read, &without.read)?;
+        let held = self.held(&open, &without);
+        held.map_err(|e| format!("without its locks, {e}"))
+    }
+
+    fn held(&mut self, text: &[u8], told: &Answers) -> Result<(), String> {
+        let Answers { read, all } = told;
+        for one in all {
+            let held = self
+                .host
+                .selecting(one, text, &self.name, read, self.differed);
+            held.map_err(|e| format!("port against definition, {e}"))?;
         }
         Ok(())
     }
@@ -169,8 +200,8 @@ impl Judge {
 }
 
 /// Checks so many random presets, side by side in parts with a seed each; all numbers of the
-/// question are met often.
-pub fn check_random(what: &str, judge: fn() -> Judge, seed: u64, count: usize) {
+/// question are met often, and presets with locks and without.
+pub fn check_random(what: &str, judge: fn() -> Judge, seed: u64, count: usize) -> Met {
     const PARTS: u64 = 4;
     const LEAST: usize = 100;
     let part = move |i| {
@@ -185,4 +216,8 @@ pub fn check_random(what: &str, judge: fn() -> Judge, seed: u64, count: usize) {
     }
     all.met.print(what);
     assert_eq!(all.seldom(LEAST), None, "met too seldom");
+    let often = turns(count) / 6..turns(count) / 3;
+    let left_out = all.met.left_out();
+    assert!(often.contains(&left_out), "{left_out} with locks");
+    all.met
 }

@@ -99,6 +99,12 @@ pub const CORNERS: &[&str] = &[
     "[[partition]]\nname = \"a\"\noffset = 0\nsize = 1\n[[partition]]\nname = \"b\"\noffset = 2",
     "[[partition]]\nname = \"` is missing `name`\"\nsize = 1",
     "[[partition]]\nname = \"is out of range: \"\noffset = true",
+    "[[partition]]\nname = \"a\"\noffset = 0\nsize = 1\nlocked = true\n[[partition]]\nname = \"b\"\noffset = 1\nsize = 1\nlocked = false",
+    "[[partition]]\nname = \"a\"\noffset = 0\nsize = 1\nlocked = 1\n[[partition]]",
+    "[[partition]]\nname = \"a\"\noffset = 0\nsize = -1\nlocked = 1",
+    "[[partition]]\nname = \"a\"\noffset = 0\nlocked = 1",
+    "[[partition]]\nname = \"a\"\noffset = 0\nsize = 1\nlocked.x = true",
+    "[[partition]]\nname = \"a\"\noffset = 0\nsize = 1\n[[partitions]]\nlocked = 1",
     // components
     "[[component]]",
     "[[component]]\nkind = \"z\"",

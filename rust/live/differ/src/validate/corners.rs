@@ -1,5 +1,7 @@
 //! Presets on which validators of this sort go wrong.
 use crate::picked;
+use replay::generators::locks;
+pub(crate) use replay::generators::locks::{A, B, K, X, Y};
 use replay::generators::random::Rng;
 use replay::generators::records::random::EXAMPLES;
 use replay::generators::validate::cases::CHIPS;
@@ -7,12 +9,6 @@ use replay::generators::validate::faults::FAULTS;
 use replay::generators::validate::{plain, spelled};
 use replay::harness::vector::document::Parts;
 
-// A partition, one after it, a component for each, an application.
-pub(crate) const A: &str = "[[partition]]\nname = \"a\"\noffset = 0\nsize = 4096\n";
-pub(crate) const B: &str = "[[partition]]\nname = \"b\"\noffset = 4096\nsize = 4096\n";
-pub(crate) const X: &str = "[[component]]\nname = \"x\"\npackage = \"p\"\npartition = \"a\"\n";
-pub(crate) const Y: &str = "[[component]]\nname = \"y\"\npackage = \"q\"\npartition = \"b\"\n";
-pub(crate) const K: &str = "[apps.k]\npartition = \"a\"\n";
 // 32 and 33 bytes.
 const L32: &str = "éééééééééééééééé";
 const L33: &str = "ééééééééééééééééx";
@@ -303,11 +299,18 @@ pub const CORNERS: &[&[&str]] = &[
     ],
 ];
 
-/// The corners, the presets of the repository, and two presets for each fault.
+/// The corners, those of locks, the presets of the repository, and two presets for each fault.
 pub fn picked() -> Vec<Parts> {
     let corners = picked::pieced(CORNERS).into_iter();
+    let corners = corners.chain(locked());
     let presets = picked::plain(&EXAMPLES);
     corners.chain(presets).chain(faults()).collect()
+}
+
+/// Presets with locks.
+pub(crate) fn locked() -> Vec<Parts> {
+    let pieces: Vec<_> = locks::all().map(|(pieces, _)| *pieces).collect();
+    picked::pieced(&pieces)
 }
 
 // On both chips, at the second and the third entry.

@@ -1,20 +1,21 @@
 //! All presets around one sort of what plans go by, for one sort after the other.
 use super::random::{KINDS, PATHS};
 use crate::generators::records::spelling::paths;
-use crate::generators::validate::cases::{Case, references};
+use crate::generators::validate::cases::{Case, locks, references};
 use crate::generators::validate::near::wants;
 use crate::generators::validate::plain::{app, insert, nth_app, plain};
 use crate::model::answer::records::Preset;
 use preset::{Chip, ComponentKind, ComponentSpec};
 
 /// Each sort by its name.
-pub const CASES: [Case; 6] = [
+pub const CASES: [Case; 7] = [
     ("places", places),
     ("names", names),
     ("uses of packages", uses),
     ("stems", stems),
     ("references", references),
     ("full lists", full_lists),
+    ("locks", locks),
 ];
 
 // It writes the flash and stays nowhere.

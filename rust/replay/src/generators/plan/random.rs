@@ -1,7 +1,7 @@
 //! Random presets to plan: sound ones, changed in what plans go by.
 use crate::generators::random::Rng;
 use crate::generators::validate::near::{Near, drawn, wants};
-use crate::generators::validate::plain::{app, insert, nth_app, texts};
+use crate::generators::validate::plain::{app, insert, nth_app, open, texts};
 use crate::generators::validate::{random as validate, sound, spelled};
 use crate::model::answer::records::Preset;
 use crate::model::records::{bare, filename_for};
@@ -69,13 +69,14 @@ fn shared(r: &mut Rng, p: &mut Preset) {
         wants(c, [own.0, pbp.0], [own.1, pbp.1]);
         c.filename = filename_for(&c.bin, &c.file, &c.package);
     }
-    let partition = p.partitions[r.below(p.partitions.len())].name.clone();
+    let open = open(p);
     for (key, features) in PACKAGES {
         if let Some(key) = key
             && r.below(2) == 0
             && p.apps.len() < 60
+            && !open.is_empty()
         {
-            let mut more = app(key, &partition);
+            let mut more = app(key, &open[r.below(open.len())]);
             more.features = texts(features);
             insert(p, more);
         }
@@ -174,12 +175,12 @@ fn other_paths(r: &mut Rng, p: &mut Preset) {
 
 // Cut and trimmed to a partition's name, where that is what is left of it; an application's exactly.
 fn references(r: &mut Rng, p: &mut Preset) {
-    let names: Vec<_> = p.partitions.iter().map(|part| part.name.clone()).collect();
+    let open = open(p);
     for c in p.components.iter_mut().filter(|c| !c.partition.is_empty()) {
         let name = reference(&c.partition).to_string();
         c.partition = sound::reference(r, &name);
     }
     for a in p.apps.values_mut() {
-        a.partition = names[r.below(names.len())].clone();
+        a.partition = open[r.below(open.len())].clone();
     }
 }

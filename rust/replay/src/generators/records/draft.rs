@@ -1,5 +1,5 @@
 //! Presets in blocks of lines, and changes of them.
-use super::spelling::{SECTIONS, Section, Sort, spellings};
+use super::spelling::{LOCK, SECTIONS, Section, Sort, spellings};
 
 /// One header and the lines below it, each a key and what stands after it.
 #[derive(Clone, Debug)]
@@ -70,9 +70,23 @@ impl Draft {
         Draft::of(Block::bare)
     }
 
-    /// The same with every field.
+    /// The same with every field that the original knows.
     pub fn full() -> Draft {
+        let mut draft = Draft::locked();
+        for block in &mut draft.blocks {
+            block.lines.retain(|(key, _)| key != LOCK.0);
+        }
+        draft
+    }
+
+    /// The same with every field.
+    pub fn locked() -> Draft {
         Draft::of(Block::full)
+    }
+
+    /// All of them.
+    pub fn all() -> [Draft; 3] {
+        [Draft::bare(), Draft::full(), Draft::locked()]
     }
 
     /// The text.

@@ -3,7 +3,7 @@ use super::draft::{Draft, Edit};
 use super::spelling::{Field, SECTIONS, Section, Sort, many_features, spellings};
 
 // Keys of the root that hold something else, entries that are no tables, lists of the other name.
-const INSTEAD: [&str; 33] = [
+const INSTEAD: [&str; 35] = [
     "board = 1",
     "board = \"x\"",
     "board = false",
@@ -25,6 +25,8 @@ const INSTEAD: [&str; 33] = [
     "[partition]",
     "[partitions]\nname = 1",
     "[[partitions]]\nname = \"q\"\noffset = 1\nsize = 2",
+    "[[partitions]]\nname = \"q\"\noffset = 1\nsize = 2\nlocked = true",
+    "[[partitions]]\nname = \"q\"\noffset = 1\nsize = 2\nlocked = 1",
     "component = 1",
     "component = \"x\"",
     "component = [\"x\", 1]",
@@ -39,7 +41,7 @@ const INSTEAD: [&str; 33] = [
     "apps.a.name = \"x\"",
 ];
 
-const BESIDE: [&str; 14] = [
+const BESIDE: [&str; 17] = [
     "board = 1",
     "image = []",
     "partition = []",
@@ -48,6 +50,9 @@ const BESIDE: [&str; 14] = [
     "[partition.name]",
     "[partitions]\nname = 1",
     "[[partitions]]\nname = \"q\"\noffset = 1\nsize = 2",
+    "[[partitions]]\nname = \"q\"\noffset = 1\nsize = 2\nlocked = true",
+    "[[partitions]]\nname = \"q\"\noffset = 1\nsize = 2\nlocked = 1",
+    "[[partition]]\nlocked = \"x\"",
     "component = [[]]",
     "components = 1",
     "[[components]]\nname = 1",

@@ -51,11 +51,15 @@ const IMAGE: [Field; 7] = [
     ("app", Sort::Text),
 ];
 
-const PARTITION: [Field; 3] = [
+const PARTITION: [Field; 4] = [
     ("name", Sort::Text),
     ("offset", Sort::Number),
     ("size", Sort::Number),
+    LOCK,
 ];
+
+/// The field that the original does not know.
+pub const LOCK: Field = ("locked", Sort::Flag);
 
 const COMPONENT: [Field; 23] = [
     ("kind", Sort::Kind),

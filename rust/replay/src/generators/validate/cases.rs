@@ -13,7 +13,7 @@ pub const CHIPS: [Chip; 2] = [Chip::D13x, Chip::D21x];
 pub type Case = (&'static str, fn() -> Vec<Preset>);
 
 /// Each boundary by its name.
-pub const CASES: [Case; 9] = [
+pub const CASES: [Case; 10] = [
     ("faults in pairs", pairs),
     ("full lists", full_lists),
     ("layouts", layouts),
@@ -23,6 +23,7 @@ pub const CASES: [Case; 9] = [
     ("feature sets", feature_sets),
     ("targets", targets),
     ("multiples", multiples),
+    ("locks", locks),
 ];
 
 // Every two faults in both orders, in one entry and in two; the chips take turns.
@@ -193,6 +194,31 @@ fn multiples() -> Vec<Preset> {
         all[1].components[1].load_address = Some(n);
         nth_app(&mut all[2], 1).load_address = Some(n);
         out.extend(all);
+    }
+    out
+}
+
+// Three partitions, the last named like the second but for what a component's reference drops, locked in every way; two
+// applications, with two names or one, each in any of them or in none, and a component in the same as the first.
+pub(crate) fn locks() -> Vec<Preset> {
+    let mut out = Vec::new();
+    for name in ["a;b", " a", "a "] {
+        let places = ["p0", "a", name, "a;"];
+        let each = places.iter().flat_map(|a| places.map(|b| (*a, b)));
+        for ((first, second), bits) in each.flat_map(|pair| (0..8).map(move |bits| (pair, bits))) {
+            let mut p = plain(Chip::D13x, [3, 2, 2]);
+            p.partitions[1].name = "a".into();
+            p.partitions[2].name = name.into();
+            for (i, part) in p.partitions.iter_mut().enumerate() {
+                part.locked = bits >> i & 1 == 1;
+            }
+            p.components[1].partition = first.into();
+            nth_app(&mut p, 0).partition = first.into();
+            nth_app(&mut p, 1).partition = second.into();
+            out.push(p.clone());
+            nth_app(&mut p, 1).name = "a00".into();
+            out.push(p);
+        }
     }
     out
 }

@@ -1,5 +1,5 @@
 //! For each rule a way to break it.
-use super::plain::{app, insert, nth_app, texts};
+use super::plain::{app, insert, nth_app, open, texts};
 use super::sound::{self, brim};
 use crate::generators::random::Rng;
 use crate::model::answer::records::Preset;
@@ -11,7 +11,7 @@ use preset::{AppSpec, Chip, ComponentSpec, Media, PartitionSpec};
 pub type Fault = fn(&mut Preset, usize, &mut Rng);
 
 /// Every number with a fault that is refused with it, where nothing else is wrong.
-pub const FAULTS: [(u32, Fault); 33] = [
+pub const FAULTS: [(u32, Fault); 34] = [
     (30, |p, _, _| p.image.media = other_media(p.image.media)),
     (31, |p, _, r| p.image.platform = other_word(r, p.board.chip)),
     (32, |p, _, _| p.board.profile.clear()),
@@ -72,6 +72,7 @@ pub const FAULTS: [(u32, Fault); 33] = [
             it.load_address = Some(r.draw() as u32 | bit(r, 4))
         })
     }),
+    (67, |p, n, _| lock(p, n)),
     (70, |p, _, r| away(p, r)),
 ];
 
@@ -142,6 +143,7 @@ fn later(p: &mut Preset, n: usize, change: impl FnOnce(&mut PartitionSpec, u64, 
             name: "later".into(),
             offset: block,
             size: block,
+            locked: false,
         });
     }
     if let [before @ .., _] = &p.partitions[..]
@@ -269,12 +271,12 @@ fn built(c: &mut ComponentSpec, feature: &str) {
     c.pbp_features = c.features.clone();
 }
 
-// At least so many applications.
+// At least so many applications, the added ones in a partition that is not locked; where all are, the first is opened.
 fn at_least(p: &mut Preset, count: usize) {
-    let partition = p
-        .partitions
-        .first()
-        .map_or("boot".into(), |p| p.name.clone());
+    if p.apps.len() < count && p.partitions.iter().all(|part| part.locked) {
+        part(p, 0, |it, _| it.locked = false);
+    }
+    let partition = open(p).into_iter().next().unwrap_or("boot".into());
     for key in ["n1", "n2"] {
         if p.apps.len() < count {
             insert(p, app(key, &partition));
@@ -292,6 +294,17 @@ fn same_names(p: &mut Preset, n: usize) {
     at_least(p, 2);
     let (early, late) = twins(n, p.apps.len());
     nth_app(p, late).name = nth_app(p, early).name.clone();
+}
+
+// The partition of an application is locked, where there is one of that name.
+fn lock(p: &mut Preset, n: usize) {
+    at_least(p, 1);
+    let count = p.apps.len();
+    let name = nth_app(p, n % count).partition.clone();
+    let mut parts = p.partitions.iter_mut();
+    if let Some(part) = parts.find(|part| part.name == name) {
+        part.locked = true;
+    }
 }
 
 // All components refer to another partition than the first.

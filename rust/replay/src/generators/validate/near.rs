@@ -1,5 +1,5 @@
 //! Presets around every boundary.
-use super::plain::{app, insert, texts};
+use super::plain::{app, insert, nth_app, texts};
 use crate::generators::random::Rng;
 use crate::model::answer::records::Preset;
 use crate::model::validate::erase_block;
@@ -8,7 +8,9 @@ use preset::ComponentSpec;
 /// A change of one sort that may break a rule or not.
 pub type Near = fn(&mut Rng, &mut Preset);
 
-pub const NEAR: [Near; 7] = [layout, names, references, uses, lengths, targets, multiples];
+pub const NEAR: [Near; 8] = [
+    layout, names, references, uses, lengths, targets, multiples, locks,
+];
 
 const TOP: i64 = 1 << 32;
 
@@ -185,4 +187,20 @@ fn multiples(r: &mut Rng, p: &mut Preset) {
             a.load_address = Some(drawn(r, &MULTIPLES));
         }
     }
+}
+
+// Some partitions are locked, whoever lies in them; seldom one is named like the one before it but for what a
+// component's reference drops, and an application lies there.
+fn locks(r: &mut Rng, p: &mut Preset) {
+    for part in &mut p.partitions {
+        part.locked = r.below(3) == 0;
+    }
+    if r.below(3) > 0 || p.partitions.len() < 2 || p.apps.is_empty() {
+        return;
+    }
+    let (at, app) = (1 + r.below(p.partitions.len() - 1), r.below(p.apps.len()));
+    let around = drawn(r, &[("", ";b"), (" ", ""), ("", " "), ("", "\u{A0};")]);
+    let name = [around.0, &p.partitions[at - 1].name, around.1].concat();
+    nth_app(p, app).partition.clone_from(&name);
+    p.partitions[at].name = name;
 }

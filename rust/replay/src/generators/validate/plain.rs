@@ -42,6 +42,12 @@ pub fn insert(p: &mut Preset, app: AppSpec) {
     p.apps.insert(app.package.clone(), app);
 }
 
+/// The names of the partitions that applications may lie in.
+pub fn open(p: &Preset) -> Vec<String> {
+    let open = p.partitions.iter().filter(|part| !part.locked);
+    open.map(|part| part.name.clone()).collect()
+}
+
 /// A board and an image with every default, and so many partitions, components and applications.
 pub fn plain(chip: Chip, counts: [u32; 3]) -> Preset {
     let (word, ..) = belongings(chip);
@@ -58,6 +64,7 @@ pub fn lists(mut p: Preset, counts: [u32; 3]) -> Preset {
         name: name(i),
         offset: i * block,
         size: block,
+        locked: false,
     };
     let built = |i: u32| ComponentSpec {
         package: Some("p".into()),

@@ -45,12 +45,24 @@ pub fn preset(r: &mut Rng) -> Preset {
     let chip = [Chip::D13x, Chip::D21x][r.below(2)];
     let partitions = partitions(r, chip);
     let names: Vec<_> = partitions.iter().map(|p| p.name.clone()).collect();
-    Preset {
+    let mut p = Preset {
         board: board(r, chip),
         image: image(r, chip),
         partitions,
         components: components(r, &names),
         apps: applications(r, &names),
+    };
+    if r.below(3) == 0 {
+        lock(r, &mut p);
+    }
+    p
+}
+
+// Most partitions that no application lies in; components lie in them all the same, also in the first.
+fn lock(r: &mut Rng, p: &mut Preset) {
+    for part in &mut p.partitions {
+        let claimed = p.apps.values().any(|app| app.partition == part.name);
+        part.locked = !claimed && r.below(4) > 0;
     }
 }
 
@@ -119,8 +131,12 @@ fn partitions(r: &mut Rng, chip: Chip) -> Vec<PartitionSpec> {
         };
         let (offset, size) = (end + room * block, [1, 1, 2, 5, 64][r.below(5)] * block);
         end = offset + size;
-        let name = name.into();
-        out.push(PartitionSpec { name, offset, size });
+        out.push(PartitionSpec {
+            name: name.into(),
+            offset,
+            size,
+            locked: false,
+        });
     }
     if r.below(6) == 0 {
         let last = out.last_mut().expect("one at least");

@@ -22,11 +22,7 @@ pub fn each(cases: &[Case], seed: u64, mut asked: impl FnMut(&[u8])) {
 pub fn text(r: &mut Rng, p: &Preset) -> String {
     let mut draft = Draft::default();
     front(r, p, &mut draft);
-    let word = plural(r, "partition", p.partitions.is_empty(), &mut draft);
-    for part in &p.partitions {
-        let lines = partition(r, part);
-        draft.blocks.push(block(Section::Partition, &word, lines));
-    }
+    partitions(r, p, &mut draft);
     let word = plural(r, "component", p.components.is_empty(), &mut draft);
     for c in &p.components {
         let lines = component(r, c);
@@ -45,6 +41,21 @@ pub fn text(r: &mut Rng, p: &Preset) -> String {
         mixed(r, &mut draft);
     }
     draft.text()
+}
+
+// Beside the list that is read there is seldom one that is ignored, with a lock of any kind.
+fn partitions(r: &mut Rng, p: &Preset, draft: &mut Draft) {
+    let word = plural(r, "partition", p.partitions.is_empty(), draft);
+    let said = r.below(16) == 0;
+    for part in &p.partitions {
+        let lines = partition(r, part, said);
+        draft.blocks.push(block(Section::Partition, &word, lines));
+    }
+    if word == "[[partition]]" && !p.partitions.is_empty() && r.below(32) == 0 {
+        let lines = vec![("locked".into(), format!(" = {}", any_lock(r)))];
+        let ignored = block(Section::Partition, "[[partitions]]", lines);
+        draft.blocks.push(ignored);
+    }
 }
 
 fn block(section: Section, header: &str, lines: Vec<(String, String)>) -> Block {
@@ -174,7 +185,7 @@ impl Lines<'_> {
     }
 }
 
-fn quoted(s: &str) -> String {
+pub(crate) fn quoted(s: &str) -> String {
     let mut out = String::from("\"");
     for c in s.chars() {
         match c {
@@ -188,12 +199,20 @@ fn quoted(s: &str) -> String {
     out + "\""
 }
 
-fn key(r: &mut Rng, s: &str) -> String {
+// A key as it is, or in quotes where it must be.
+pub(crate) fn segment(s: &str) -> String {
     let plain = |b: u8| b.is_ascii_alphanumeric() || matches!(b, b'-' | b'_');
-    if s.bytes().all(plain) && r.below(4) > 0 {
+    if s.bytes().all(plain) {
         s.into()
     } else {
         quoted(s)
+    }
+}
+
+fn key(r: &mut Rng, s: &str) -> String {
+    match r.below(4) {
+        0 => quoted(s),
+        _ => segment(s),
     }
 }
 
@@ -229,12 +248,25 @@ fn image(r: &mut Rng, p: &Preset, platform: bool) -> Vec<(String, String)> {
     lines.out
 }
 
-fn partition(r: &mut Rng, p: &PartitionSpec) -> Vec<(String, String)> {
+// That a partition is open is mostly not said; a lock is seldom said twice, and the last counts.
+fn partition(r: &mut Rng, p: &PartitionSpec, said: bool) -> Vec<(String, String)> {
     let mut lines = Lines::of(r);
     lines.text("name", &p.name);
     lines.number("offset", p.offset);
     lines.number("size", p.size);
+    if p.locked || said && lines.r.below(2) == 0 {
+        if lines.r.below(8) == 0 {
+            let first = any_lock(lines.r);
+            lines.put("locked", first);
+        }
+        lines.put("locked", p.locked.to_string());
+    }
     lines.out
+}
+
+// Also of the wrong kind.
+fn any_lock(r: &mut Rng) -> String {
+    r.pick(&["true", "false", "1", "\"true\"", "[]"]).into()
 }
 
 fn component(r: &mut Rng, c: &ComponentSpec) -> Vec<(String, String)> {

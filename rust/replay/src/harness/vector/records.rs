@@ -3,11 +3,12 @@
 //! `NAME TEXT ok MADE PRESET` or `NAME TEXT refused NUMBER SECTION PLACE`. A text is as in
 //! `document`. A preset is its board, its image, then its partitions, components and applications,
 //! each list in `[` and `]`; a record is its fields, one after the other, in the order in which
-//! they are read, `-` for an absent one; features stand in `[` and `]`.
+//! they are read, `-` for an absent one; features stand in `[` and `]`; the lock of a partition is
+//! `open` or `locked`.
 use super::document::{Parts, parts, quoted};
 use super::line::{Reader, quote};
 use crate::model::answer::records::{Preset, Refusal};
-use crate::model::records::{CHIPS, KINDS, MEDIA, named, written};
+use crate::model::records::{CHIPS, KINDS, LOCKS, MEDIA, named, written};
 use preset::{AppSpec, BoardInfo, ComponentSpec, ImageInfo, PartitionSpec};
 use std::path::PathBuf;
 
@@ -101,7 +102,8 @@ pub(crate) fn image(i: &ImageInfo) -> String {
 }
 
 pub(crate) fn partition(p: &PartitionSpec) -> String {
-    format!("{} {} {}", quote(&p.name), p.offset, p.size)
+    let lock = named(&LOCKS, p.locked);
+    format!("{} {} {} {lock}", quote(&p.name), p.offset, p.size)
 }
 
 pub(crate) fn component(c: &ComponentSpec) -> String {
@@ -257,6 +259,7 @@ impl Reader<'_> {
             name: self.quoted()?,
             offset: self.number()?,
             size: self.number()?,
+            locked: self.meant(&LOCKS)?,
         })
     }
 
