@@ -5,10 +5,13 @@ use mathlib.Core.List.{List}
 use mathlib.Core.Path.{_≡_, sym, ap, _∙_}
 use native.Mathlib.Omega.{arith}
 use native.Mathlib.Numerals.{add-one}
-use borrow.Author.Tests.{le-leb, lt-leb}
-use lib.Dec.{eqb}
-use lib.ListN.{length, take, drop}
-use Rattle.meaning.specs.Base.{same}
+use borrow.Author.Tests.{leb-true, le-leb, lt-leb}
+use lib.Dec.{eqb, leb}
+use lib.ListN.{length, take, drop, length-drop}
+use lib.Seq.{length-take-le}
+use Rattle.meaning.specs.Base.{part, same}
+use Rattle.laws.specs.Cases.{on}
+use Rattle.laws.specs.Order.{same-eq}
 use Rattle.slices.specs.Numbers.{number}
 use Rattle.tree.specs.declared.Slot.{Slot}
 use Rattle.tree.specs.declared.Found.the-variants.{At, Nothing}
@@ -18,6 +21,21 @@ use Rattle.tree.specs.Room.{Holds, slotAt, under, keyed, mine, first, ch
 pub under-is : (tree : List ℕ) (n parent q : ℕ) → q ≡ number 2 tree (32 * n + 2) → eqb q parent ≡ under tree n parent
 unfolding under slotAt
 under-is tree n parent q e = rw e
+
+pub keyed-other : (store key : List ℕ) (v : Slot) → (v .len ≡ length key → ⊥) → false ≡ keyed store v key
+unfolding keyed
+keyed-other store key v h =
+    on (leb (v .key + v .len) (length store))
+    (λ e.
+    let l : v .key + v .len ≤ length store = leb-true (v .key + v .len) (length store) e in
+    on (same (part (v .key) (v .key + v .len) store) key)
+    (λ t.
+    let n : length (part (v .key) (v .key + v .len) store) ≡ length key = ap length (same-eq (part (v .key) (v .key + v .len) store) key t) in
+    let m : length (take (v .key + v .len - v .key) (drop (v .key) store)) ≡ v .key + v .len - v .key
+    = length-take-le (v .key + v .len - v .key) (drop (v .key) store) (omega (arith, length-drop (v .key) store)) in
+    absurd (h (omega (arith, n, m))))
+    (λ t. rw (e, t)))
+    (λ e. rw e)
 
 pub keyed-past : (store key : List ℕ) (v : Slot) → length store < v .key + v .len → false ≡ keyed store v key
 unfolding keyed

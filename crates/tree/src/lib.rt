@@ -293,12 +293,16 @@ fn skip_down(tree: &[u8], made: usize, parent: u16) -> usize
     i
 }
 
-// Whether the value's key is these bytes.
+// Whether the value's key is these bytes. Most keys that are looked at have another length, which is told first.
 fn key_is(store: &[u8], v: Slot, key: &[u8]) -> bool
     ensures { λ r. ⌜ r ≡ room.keyed (now (store .entry)) v (now (key .entry)) ⌝ }
 {
+    let len = v.len as usize;
+    if len != key.len() {
+        return false;
+    }
     let from = v.key as usize;
-    let end = from + v.len as usize;
+    let end = from + len;
     if store.len() < end {
         return false;
     }
