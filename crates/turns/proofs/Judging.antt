@@ -41,36 +41,30 @@ module _ (number : ℕ) (met : Bool) (m : Mark) where
 
 -- ---- entry after entry
 
--- no entry before number i has a fault
-pub record Faulting (number t : ℕ) (xs : List Mark) (n i : ℕ) : Type 0 where
+-- the twin is known, and no entry before number i has a fault
+pub record Faulting (number : ℕ) (bytes : List ℕ) (t : ℕ) (xs : List Mark) (n i : ℕ) : Type 0 where
   pub high : i ≤ n
   pub long : n ≤ length xs
-  pub left : firstFault number t 0 (take n xs) ≡ firstFault number t i (slice i n xs)
+  pub left : judged number bytes (take n xs) ≡ firstFault number t i (slice i n xs)
 
-module _ (number t : ℕ) (xs : List Mark) (n : ℕ) where
-  pub first-start : n ≤ length xs → Faulting number t xs n 0
-  first-start l = record { high = omega arith; long = l; left = refl }
+module _ (number : ℕ) (bytes : List ℕ) (t : ℕ) (xs : List Mark) (n : ℕ) where
+  pub first-start : n ≤ length xs → Marked n number → t ≡ twin bytes (take n xs) → Faulting number bytes t xs n 0
+  first-start l h e = record { high = omega arith; long = l; left = rw e (sym (twin-first number bytes (take n xs) (h .told))) }
 
-  module _ (i : ℕ) (k : Faulting number t xs n i) where
-    pub first-end : n ≤ i → (r : Fault) → r ≡ record { number = 0; place = 0 } → r ≡ firstFault number t 0 (take n xs)
+  module _ (i : ℕ) (k : Faulting number bytes t xs n i) where
+    pub first-end : n ≤ i → (r : Fault) → r ≡ record { number = 0; place = 0 } → r ≡ judged number bytes (take n xs)
     first-end l r e =
         let a : i ≡ n = omega (arith, k .high) in
         e ∙ sym (rw (a, slice-empty n xs) at (k .left))
 
     module _ (d : Mark) (l : i < n) (f : ℕ) (e : f ≡ entryFault number (eqb i t) (getD xs i d)) where
-      first-head : firstFault number t 0 (take n xs) ≡ pick (eqb f 0) (firstFault number t (i + 1) (slice (i + 1) n xs)) (record { number = f; place = i })
+      first-head : judged number bytes (take n xs) ≡ pick (eqb f 0) (firstFault number t (i + 1) (slice (i + 1) n xs)) (record { number = f; place = i })
       first-head =
           let a : slice i n xs ≡ getD xs i d ∷ slice (i + 1) n xs = rw (add-one i) (slice-cons i n xs d l (k .long)) in
           rw e (rw a at (k .left))
 
-      pub first-on : f ≡ 0 → Faulting number t xs n (i + 1)
+      pub first-on : f ≡ 0 → Faulting number bytes t xs n (i + 1)
       first-on z = record { high = omega arith; long = k .long; left = rw z at first-head }
 
-      pub first-here : (f ≡ 0 → ⊥) → record { number = f; place = i } ≡ firstFault number t 0 (take n xs)
+      pub first-here : (f ≡ 0 → ⊥) → record { number = f; place = i } ≡ judged number bytes (take n xs)
       first-here z = sym (rw (ne-eqb f 0 z) at first-head)
-
--- ---- the twin first
-
-pub judge-is : (number : ℕ) (bytes : List ℕ) (xs : List Mark) (n t : ℕ) (r : Fault) → Marked n number → t ≡ twin bytes (take n xs)
-    → r ≡ firstFault number t 0 (take n xs) → r ≡ judged number bytes (take n xs)
-judge-is number bytes xs n t r h e f = (rw e at f) ∙ twin-first number bytes (take n xs) (h .told)

@@ -65,11 +65,13 @@ fn entry_fault(m: Mark, twin: bool, number: u32) -> u32
     m.late
 }
 
-// The first entry with a fault; one has the name of an earlier entry.
-fn first_fault(entries: [Mark; MOST_ENTRIES], count: usize, twin: usize, number: u32) -> Fault
-    requires { ⌜ count ≤ 64 ⌝ }
-    ensures { λ r. ⌜ r ≡ marks.firstFault number twin 0 (take count entries) ⌝ }
+// The entries in turn, each against the names of those before it: the first with a fault, where one of them has the
+// name of an earlier entry.
+pub fn judge_marks(bytes: &[u8], entries: [Mark; MOST_ENTRIES], count: usize, number: u32) -> Fault
+    requires { ⌜ Marked count number ⌝ }
+    ensures { λ r. ⌜ r ≡ marks.judged number (now (bytes .entry)) (take count entries) ⌝ }
 {
+    let twin = first_twin(bytes, entries, count);
     for i in 0..count {
         let n = entry_fault(entries[i], i == twin, number);
         if n != 0 {
@@ -83,15 +85,6 @@ fn first_fault(entries: [Mark; MOST_ENTRIES], count: usize, twin: usize, number:
         number: 0,
         place: 0,
     }
-}
-
-// The entries in turn, each against the names of those before it.
-pub fn judge_marks(bytes: &[u8], entries: [Mark; MOST_ENTRIES], count: usize, number: u32) -> Fault
-    requires { ⌜ Marked count number ⌝ }
-    ensures { λ r. ⌜ r ≡ marks.judged number (now (bytes .entry)) (take count entries) ⌝ }
-{
-    let twin = first_twin(bytes, entries, count);
-    first_fault(entries, count, twin, number)
 }
 
 pub fn no_marks() -> [Mark; MOST_ENTRIES]
