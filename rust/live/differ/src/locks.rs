@@ -1,5 +1,5 @@
 //! Texts with locks, which the original does not know, and the same texts without them.
-use preset::Preset;
+use preset::{Preset, TEXT_MAX};
 use replay::generators::records::spelling::LOCK;
 use replay::generators::tree;
 use replay::model::answer::document::{Table, Value};
@@ -24,6 +24,11 @@ pub fn both<T>(
         return Ok(Both { told, without });
     };
     let open = tree::text(&root).into_bytes();
+    // written anew it may be longer than a text may be
+    if open.len() > TEXT_MAX {
+        let (told, without) = (defined(text), None);
+        return Ok(Both { told, without });
+    }
     if !document::read(&open).is_ok_and(|read| read.root == root) {
         return Err("the text without its locks is not read as its tree".into());
     }
