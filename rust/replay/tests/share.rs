@@ -122,7 +122,12 @@ fn bash_offers_what_may_stand_there() {
     has(&["c"], &["check"]);
     has(&["e"], &["explain"]);
     has(&["--v"], &["--version"]);
-    let presets = ["example.toml", "stage-d13x.toml", "tour-d21x.toml"];
+    let presets = [
+        "calib-d13x.toml",
+        "example.toml",
+        "stage-d13x.toml",
+        "tour-d21x.toml",
+    ];
     for command in ["check", "plan", "listing", "map"] {
         has(&[command, ""], &presets);
     }
