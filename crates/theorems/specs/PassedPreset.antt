@@ -102,7 +102,7 @@ pub record BuiltOnce (builds : List Build) (pack : List ℕ) : Type 0 where
   pub is : build .pack ≡ pack
   pub only : (j : ℕ) (other : Build) → At builds j other → other .pack ≡ pack → j ≡ place
 
--- ---- the clauses that have a premise
+-- ---- two clauses that have a premise
 
 -- each partition reference of the plan finds exactly one partition
 abbrev pub ReferencesFind : Plan → Type 0
@@ -127,13 +127,6 @@ pub record Premise1 (p : Preset) (s : Selection) : Type 0 where
   pub no-semicolon : SelectedGoesTo NoSemicolon p s
   pub no-white-ends : SelectedGoesTo NoWhiteEnds p s
 
--- W-206, "no planned application lies in a locked one": the partition that the reference of the selected application
--- finds, as it is planned, is open
-abbrev pub ApplicationIsOpen : Preset → Selection → Plan → Type 0
-ApplicationIsOpen p s q = (a : Application) → Selected p s a → (found : Partition)
-    → partitionFor (q .partitions) (planned (componentOf a) .spec .role .partition) ≡ some found
-    → found .locked ≡ false
-
 -- each package that is built has the features of every use
 abbrev pub FeaturesOfEachUse : Plan → Type 0
 FeaturesOfEachUse q = (i : ℕ) (c : PlannedComponent) (b : Build) → At (q .components) i c → Uses c b
@@ -145,6 +138,14 @@ abbrev pub Premise2 : Preset → Type 0
 Premise2 p = (j : ℕ) (c : Component) → At (p .components) j c
     → (pack : List ℕ) → c .head .pack ≡ some pack → c .boot .pbpPack ≡ some pack
     → c .role .features ≡ c .role .pbpFeatures
+
+-- ---- W-206: "no planned application lies in a locked one"
+
+-- the partition that the reference of the selected application finds, as it is planned, is open: under premise 1
+abbrev pub ApplicationIsOpen : Preset → Selection → Plan → Type 0
+ApplicationIsOpen p s q = (a : Application) → Selected p s a → (found : Partition)
+    → partitionFor (q .partitions) (planned (componentOf a) .spec .role .partition) ≡ some found
+    → found .locked ≡ false
 
 -- ---- a plan's clauses
 

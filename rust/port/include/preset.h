@@ -13,9 +13,9 @@ extern "C" {
 #endif
 
 /* The version of this header and of the crate `preset`. */
-#define PRESET_VERSION "0.1.0"
+#define PRESET_VERSION "0.2.0"
 #define PRESET_VERSION_MAJOR 0
-#define PRESET_VERSION_MINOR 1
+#define PRESET_VERSION_MINOR 2
 #define PRESET_VERSION_PATCH 0
 
 /* The longest text. */
