@@ -122,7 +122,7 @@ pub fn check_layout(bytes: &[u8], items: [Partition; PARTITIONS], count: usize, 
 fn has_name(bytes: &[u8], p: Partition, name: &[u8]) -> bool
     ensures { λ r. ⌜ r ≡ same (now (name .entry)) (parts.partName (now (bytes .entry)) p) ⌝ }
 {
-    slices::same(name, schema::stored(bytes, p.from, p.len))
+    slices::same_last_first(name, schema::stored(bytes, p.from, p.len))
 }
 
 // The first partition that bears a name; as many as there are where none does.

@@ -26,7 +26,7 @@ fn has_key(tree: &[u8], store: &[u8], n: usize, key: &[u8]) -> bool
     ensures { λ r. ⌜ r ≡ choices.keyed (now (tree .entry)) (now (store .entry)) (now (key .entry)) n ⌝ }
 {
     let k = tree::key_at(tree, n);
-    slices::same(key, schema::stored(store, k.from, k.len))
+    slices::same_last_first(key, schema::stored(store, k.from, k.len))
 }
 
 // The first of a table's values in byte order of key that has the key.
@@ -75,7 +75,7 @@ fn named(tree: &[u8], store: &[u8], made: usize, n: usize, name: &[u8]) -> bool
     let f = t.fields;
     let own = parse::field::text_needed(tree, store, f, b"name");
     let place = own.text;
-    slices::same(name, schema::stored(store, place.start(), place.length()))
+    slices::same_last_first(name, schema::stored(store, place.start(), place.length()))
 }
 
 // Whether some component has the name.

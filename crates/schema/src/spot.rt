@@ -101,7 +101,7 @@ pub fn same_text(store: &[u8], p: Spot, q: Spot) -> bool
 {
     if p.kind == Spot::BYTES {
         if q.kind == Spot::BYTES {
-            return slices::same(
+            return slices::same_last_first(
                 crate::stored(store, p.from as usize, p.len as usize),
                 crate::stored(store, q.from as usize, q.len as usize),
             );

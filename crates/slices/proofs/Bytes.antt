@@ -13,6 +13,7 @@ use lib.ListN.{length, getD, take, drop, set, length-set, length-drop, drop-of-l
 use lib.Seq.{drop-cons, take-suc, take-length, set-at, length-take-le}
 use Rattle.meaning.specs.Base.{before, same, less}
 use Rattle.laws.specs.Cases.{on}
+use Rattle.laws.specs.Order.{same-eq}
 use Rattle.slices.specs.Found.{Other, Free, Passed, Found}
 use Rattle.slices.specs.Heads.{Ranked}
 
@@ -101,6 +102,10 @@ module _ (a b : List ℕ) (i : ℕ) where
   same-end k h =
       let l : length b ≤ i = omega arith in
       rw (drop-of-length-le a h, drop-of-length-le b l) at (k .left)
+
+-- ---- same, the last byte first
+pub last-not : (a b : List ℕ) → (getD a (length a - 1) 0 ≡ getD b (length a - 1) 0 → ⊥) → false ≡ same a b
+last-not a b e = on (same a b) (λ t. absurd (e (ap (λ (s : List ℕ). getD s (length a - 1) 0) (same-eq a b t)))) (λ t. sym t)
 
 -- ---- less
 module _ (a b : List ℕ) (i : ℕ) where

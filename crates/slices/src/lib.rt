@@ -86,6 +86,22 @@ pub fn same(a: &[u8], b: &[u8]) -> bool
     true
 }
 
+// The same, told by the last byte first: that is where names of one length mostly differ.
+pub fn same_last_first(a: &[u8], b: &[u8]) -> bool
+    ensures { λ r. ⌜ r ≡ base.same (now (a .entry)) (now (b .entry)) ⌝ }
+{
+    let n = a.len();
+    if n != b.len() {
+        return false;
+    }
+    if 0 < n {
+        if a[n - 1] != b[n - 1] {
+            return false;
+        }
+    }
+    same(a, b)
+}
+
 // Whether the 8 bytes at a place are the same in both. No byte ends the loop, so that the machine takes them at once.
 fn same_8(a: &[u8], b: &[u8], at: usize) -> bool
     requires { ⌜ (at + 8 ≤ length (now a)) × (at + 8 ≤ length (now b)) ⌝ }

@@ -46,6 +46,12 @@ pub keyed-is : (store key : List ℕ) (v : Slot) (r : Bool) → v .key + v .len 
 unfolding keyed
 keyed-is store key v r h e = rw (le-leb (v .key + v .len) (length store) h) e
 
+pub mine-other : (tree store key : List ℕ) (n parent q : ℕ) → q ≡ number 2 tree (32 * n + 6) → (q ≡ length key → ⊥) → false ≡ mine tree store n parent key
+unfolding mine slotAt
+mine-other tree store key n parent q e h =
+    let o : false ≡ keyed store (slotAt tree n) key = keyed-other store key (slotAt tree n) (λ f. h (e ∙ f)) in
+    on (under tree n parent) (λ t. rw t o) (λ t. rw t)
+
 module _ (tree store key : List ℕ) (n parent : ℕ) (r : Bool) where
   pub mine-not : r ≡ under tree n parent → r ≡ false → false ≡ mine tree store n parent key
   unfolding mine

@@ -293,16 +293,12 @@ fn skip_down(tree: &[u8], made: usize, parent: u16) -> usize
     i
 }
 
-// Whether the value's key is these bytes. Most keys that are looked at have another length, which is told first.
+// Whether the value's key is these bytes.
 fn key_is(store: &[u8], v: Slot, key: &[u8]) -> bool
     ensures { λ r. ⌜ r ≡ room.keyed (now (store .entry)) v (now (key .entry)) ⌝ }
 {
-    let len = v.len as usize;
-    if len != key.len() {
-        return false;
-    }
     let from = v.key as usize;
-    let end = from + len;
+    let end = from + v.len as usize;
     if store.len() < end {
         return false;
     }
@@ -682,13 +678,34 @@ pub fn fields_at(tree: &[u8], made: usize, place: u16) -> Fields
     }
 }
 
+// Whether value number n is the parent's field of the key: most that are looked at have keys of other lengths, which
+// is told first.
+fn is_field(tree: &[u8], store: &[u8], n: usize, parent: u16, key: &[u8]) -> bool
+    requires { ⌜ Holds (now tree) (n + 1) ⌝ }
+    ensures { λ r. ⌜ r ≡ room.mine (now (tree .entry)) (now (store .entry)) n parent (now (key .entry)) ⌝ }
+{
+    let at = VALUE_BYTES * n;
+    let len = slices::get2(tree, at + 6) as usize;
+    if len != key.len() {
+        return false;
+    }
+    is_named_child(tree, store, n, parent, key)
+}
+
 // The newest of a table's fields with the key.
 fn newest_field(tree: &[u8], store: &[u8], f: Fields, key: &[u8]) -> Found
     requires { ⌜ Spread (now tree) f ⌝ }
     ensures { λ r. ⌜ Finds (f .from) (f .to) (doors.among (now (tree .entry)) (now (store .entry)) f (now (key .entry)))
         r ⌝ }
 {
-    seek(tree, store, f.from, f.to, f.place, key)
+    let mut i = f.to;
+    while f.from < i {
+        i -= 1;
+        if is_field(tree, store, i, f.place, key) {
+            return Found::At(i);
+        }
+    }
+    Found::Nothing
 }
 
 // A table's field.

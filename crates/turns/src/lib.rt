@@ -30,7 +30,7 @@ fn same_name(bytes: &[u8], a: Mark, b: Mark) -> bool
 {
     let x = schema::stored(bytes, a.from, a.len);
     let y = schema::stored(bytes, b.from, b.len);
-    slices::same(x, y)
+    slices::same_last_first(x, y)
 }
 
 // The first entry that has the name of an earlier one; as many as there are where there is none.

@@ -1,4 +1,4 @@
-use Rattle.tree.proofs.Walks.{keyed-other, keyed-past, keyed-is}
+use Rattle.tree.proofs.Walks.{keyed-past, keyed-is}
 use borrow.Author.Needs.{needs}
 use Rattle.tree.proofs.key_is.Statement.{statement}
 use Rattle.tree.proofs.key_is.Tie as tie
@@ -6,20 +6,17 @@ use Rattle.tree.proofs.key_is.Reads as reads
 use Rattle.tree.proofs.key_is.Lts as lts
 use Rattle.slices.proofs.same.Reads as same-reads
 
-cast-len : tie.Need-cast-len
-cast-len c = search needs
-
-returns : tie.Need-returns
-returns c = search (needs, keyed-other)
-
 cast-from : tie.Need-cast-from
 cast-from c = search needs
+
+cast-end : tie.Need-cast-end
+cast-end c = search needs
 
 add-end : tie.Need-add-end
 add-end c = search needs
 
-returns-2 : tie.Need-returns-2
-returns-2 c = search (needs, keyed-past)
+returns : tie.Need-returns
+returns c = search (needs, keyed-past)
 
 sub-same : tie.Need-sub-same
 sub-same c = search needs
@@ -33,20 +30,19 @@ part-same-end c = search needs
 same-requires : tie.Need-same-requires
 same-requires c κs = search needs
 
-returns-3 : tie.Need-returns-3
-returns-3 c = search (needs, keyed-is)
+returns-2 : tie.Need-returns-2
+returns-2 c = search (needs, keyed-is)
 
 pub key-is-spec : {M : Type 1} → statement M
 key-is-spec =
     tie.close
     (tie.spec
-    cast-len
-    returns
     cast-from
+    cast-end
     add-end
-    returns-2
+    returns
     sub-same
     part-same-start
     part-same-end
     same-requires
-    returns-3)
+    returns-2)

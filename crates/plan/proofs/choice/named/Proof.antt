@@ -10,7 +10,7 @@ use Rattle.parse.proofs.field.text_needed.Reads as text-needed-reads
 use Rattle.schema.proofs.Text.length.Reads as length-reads
 use Rattle.schema.proofs.Text.start.Reads as start-reads
 use Rattle.schema.proofs.stored.Reads as stored-reads
-use Rattle.slices.proofs.same.Reads as same-reads
+use Rattle.slices.proofs.same_last_first.Reads as same-last-first-reads
 use Rattle.tree.proofs.value_at.Reads as value-at-reads
 
 value-at-requires : tie.Need-value-at-requires
@@ -34,8 +34,8 @@ length-requires c κs = search needs
 stored-requires : tie.Need-stored-requires
 stored-requires c κs = search needs
 
-same-requires : tie.Need-same-requires
-same-requires c κs = search needs
+same-last-first-requires : tie.Need-same-last-first-requires
+same-last-first-requires c κs = search needs
 
 returns : tie.Need-returns
 returns c = search (needs, name-is)
@@ -51,5 +51,5 @@ named-spec =
     start-requires
     length-requires
     stored-requires
-    same-requires
+    same-last-first-requires
     returns)

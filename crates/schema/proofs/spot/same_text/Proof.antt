@@ -5,7 +5,7 @@ use Rattle.schema.proofs.spot.same_text.Tie as tie
 use Rattle.schema.proofs.spot.same_text.Reads as reads
 use Rattle.schema.proofs.spot.same_text.Lts as lts
 use Rattle.schema.proofs.stored.Reads as stored-reads
-use Rattle.slices.proofs.same.Reads as same-reads
+use Rattle.slices.proofs.same_last_first.Reads as same-last-first-reads
 
 cast-stored : tie.Need-cast-stored
 cast-stored c = search needs
@@ -25,8 +25,8 @@ cast-stored-4 c = search needs
 stored-requires-2 : tie.Need-stored-requires-2
 stored-requires-2 c κs = search needs
 
-same-requires : tie.Need-same-requires
-same-requires c κs = search needs
+same-last-first-requires : tie.Need-same-last-first-requires
+same-last-first-requires c κs = search needs
 
 returns : tie.Need-returns
 returns c = search (needs, same-both)
@@ -47,7 +47,7 @@ same-text-spec =
     cast-stored-3
     cast-stored-4
     stored-requires-2
-    same-requires
+    same-last-first-requires
     returns
     returns-2
     returns-3)

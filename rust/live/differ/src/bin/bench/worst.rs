@@ -25,7 +25,7 @@ fn table<T>(called: &str, job: &Job<T>) {
     }
 }
 
-fn texts() -> [(&'static str, String); 5] {
+fn texts() -> [(&'static str, String); 6] {
     [
         ("one old key among 2,000 values", old_key()),
         (
@@ -40,7 +40,17 @@ fn texts() -> [(&'static str, String); 5] {
             "one package for all, features in arrays in other orders",
             arrays(),
         ),
-        ("long names that differ at their end", names()),
+        (
+            "long names that differ at their end",
+            names(|i, rest| format!("{rest}{i:02}")),
+        ),
+        (
+            "long names that differ in their middle",
+            names(|i, rest| {
+                let (before, after) = rest.split_at(rest.len() / 2);
+                format!("{before}{i:02}{after}")
+            }),
+        ),
     ]
 }
 
@@ -92,9 +102,9 @@ fn arrays() -> String {
     SMALL.replace("package = \"p\"", "file = \"f\"") + &comps.collect::<String>()
 }
 
-// Every comparison goes over nearly all of both names.
-fn names() -> String {
-    let long = |i: usize, length: usize| format!("{}{i:02}", "n".repeat(length - 2));
+// A comparison that begins where they are alike goes over nearly all of both names.
+fn names(name: fn(usize, &str) -> String) -> String {
+    let long = |i: usize, length: usize| name(i, &"n".repeat(length - 2));
     let parts = (0..32).map(|i| {
         let (name, offset) = (long(i, 60), i * 4_096);
         format!("[[partition]]\nname = \"{name}\"\noffset = {offset}\nsize = 4096\n")
