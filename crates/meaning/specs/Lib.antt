@@ -25,4 +25,6 @@ pub mod Layout
 pub mod Rules
 pub mod Preset
 pub mod Plan
+pub mod Quoting
+pub mod Print
 pub mod Listing
