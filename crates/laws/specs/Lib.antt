@@ -26,4 +26,6 @@ pub mod Numbers
 pub mod Weights
 pub mod RecordWeights
 pub mod PresetWeights
+pub mod Decimals
+pub mod Quoted
 pub mod Listings

@@ -17,7 +17,7 @@ use Rattle.meaning.specs.Fields.{need, anArray, aTable, field, defaulted, table
 use Rattle.meaning.specs.Records.{chipFrom, boardFrom, imageFrom, Front, frontOf, partitionFrom, partitionsOf, componentFrom, componentsOf, applicationFrom, applicationAt, applicationsOf, lentName, presetOf}
 use Rattle.laws.specs.Cases.{on}
 use Rattle.laws.specs.Weights.{weight, weightAll, weightIn, size, table-weighs}
-use Rattle.laws.specs.RecordWeights.{sum, held, held-weighs, said, stemSize, Says, via-says, weaker, need-says, field-says, defaulted-says, array-says, table-says, partition-says, component-says, application-says, board-says}
+use Rattle.laws.specs.RecordWeights.{sum, held, held-weighs, said, stemSize, featureCount, Carried, Says, via-says, weaker, need-says, field-says, defaulted-says, array-says, table-says, partition-says, component-says, application-says, board-says}
 
 -- ---- answers
 
@@ -164,20 +164,25 @@ module _ (root : Table) where
         list-tells forPart (lim .partitions) inPartition (partCost forPart) partitionFrom
         (λ t. weaker (λ p. length (p .name) ≤ weightIn t) (λ p. partCost forPart p ≤ forPart + weightIn t) (partitionFrom t) (partition-says t) (λ p h. omega arith)) (ascii "partition") (ascii "partitions")
 
-    comps-sum : (c : ℕ) (f : Component → ℕ) → ((t : Table) (x : Component) → (said x ≤ weightIn t) × (stemSize x ≤ weightIn t) → f x ≤ c + weightIn t)
+    comps-sum : (c : ℕ) (f : Component → ℕ) → ((t : Table) (x : Component) → Carried t (lim .features) x → f x ≤ c + weightIn t)
         → Tells (λ cs. sum f cs ≤ lim .components * c + compsHeld) (componentsOf lim root)
     unfolding componentsOf
     comps-sum c f k =
         list-tells c (lim .components) inComponent f (componentFrom (lim .features))
-        (λ t. weaker (λ x. (said x ≤ weightIn t) × (stemSize x ≤ weightIn t)) (λ x. f x ≤ c + weightIn t) (componentFrom (lim .features) t) (component-says t (lim .features)) (k t)) (ascii "component") (ascii "components")
+        (λ t. weaker (Carried t (lim .features)) (λ x. f x ≤ c + weightIn t) (componentFrom (lim .features) t) (component-says t (lim .features)) (k t)) (ascii "component") (ascii "components")
+
+    abbrev CompsSum : ℕ → (Component → ℕ) → List Component → Type 0
+    CompsSum c f cs = sum f cs ≤ lim .components * c + compsHeld
 
     abbrev CompsCost : List Component → Type 0
-    CompsCost cs = (sum (compCost forComp) cs ≤ lim .components * forComp + compsHeld) × (sum stemSize cs ≤ lim .components * 0 + compsHeld)
+    CompsCost cs = CompsSum forComp (compCost forComp) cs × (CompsSum 0 stemSize cs × CompsSum (2 * lim .features) featureCount cs)
 
     comps-tell : Tells CompsCost (componentsOf lim root)
     comps-tell =
-        both-tell (λ cs. sum (compCost forComp) cs ≤ lim .components * forComp + compsHeld) (λ cs. sum stemSize cs ≤ lim .components * 0 + compsHeld) (componentsOf lim root)
-        (comps-sum forComp (compCost forComp) (λ t c h. omega (arith, h .0))) (comps-sum 0 stemSize (λ t c h. omega (arith, h .1)))
+        both-tell (CompsSum forComp (compCost forComp)) (λ cs. CompsSum 0 stemSize cs × CompsSum (2 * lim .features) featureCount cs) (componentsOf lim root)
+        (comps-sum forComp (compCost forComp) (λ t c h. omega (arith, h .text)))
+        (both-tell (CompsSum 0 stemSize) (CompsSum (2 * lim .features) featureCount) (componentsOf lim root)
+        (comps-sum 0 stemSize (λ t c h. omega (arith, h .stem))) (comps-sum (2 * lim .features) featureCount (λ t c h. omega (arith, h .few))))
 
     abbrev AppsCost : List Application → Type 0
     AppsCost xs = sum (appCost forApp) xs ≤ lim .applications * (forApp + 3) + appsHeld
@@ -216,6 +221,7 @@ module _ (root : Table) where
         pub parts : sum (partCost forPart) (r .partitions) ≤ lim .partitions * forPart + partsHeld
         pub comps : sum (compCost forComp) (r .components) ≤ lim .components * forComp + compsHeld
         pub stems : sum stemSize (r .components) ≤ compsHeld
+        pub features : sum featureCount (r .components) ≤ lim .components * (2 * lim .features) + compsHeld
         pub apps : sum (appCost forApp) (r .applications) ≤ lim .applications * (forApp + 3) + appsHeld
         pub board : length (r .board .name) ≤ length (lentName name) + weightIn root
 
@@ -227,4 +233,4 @@ module _ (root : Table) where
           after-tells PartsCost Costs (partitionsOf lim root) _ parts-tell (λ partitions p.
           after-tells CompsCost Costs (componentsOf lim root) _ comps-tell (λ components c.
           after-tells AppsCost Costs (applicationsOf lim root) _ apps-tell (λ applications a.
-          record { parts = p; comps = c .0; stems = omega (arith, c .1); apps = a; board = f }))))
+          record { parts = p; comps = c .0; stems = omega (arith, c .1 .0); features = c .1 .1; apps = a; board = f }))))

@@ -1,19 +1,20 @@
 -- What the listing prints of a record stands in its table, each at a place of its own: together it is no longer than the table is heavy.
-use Prim.Native.Nat.{ℕ, suc, _+_, _≤_}
+use Prim.Native.Nat.{ℕ, suc, _+_, _*_, _≤_}
 use mathlib.Core.Bool.{true, false}
 use mathlib.Core.List.{List, [], _∷_, _++_}
 use mathlib.Core.Option.{Option, none, some}
 use mathlib.Core.Path.{_≡_, refl, sym, subst}
 use native.Mathlib.Omega.{arith}
-use lib.Dec.{eqb}
+use borrow.Author.Tests.{ltb-false}
+use lib.Dec.{eqb, ltb}
 use lib.ListN.{length, length-take}
-use Rattle.meaning.specs.Base.{pick, ascii, same, orDefault, firstGiven, cut, onFirst}
+use Rattle.meaning.specs.Base.{pick, ascii, nil?, same, less, orDefault, firstGiven, cut, onFirst}
 use Rattle.meaning.specs.Refusal.{R, ok, bad, okThen}
-use Rattle.meaning.specs.Tree.{Value, Table, empty, entry, lookup, asString, asTable, asArray}
+use Rattle.meaning.specs.Tree.{Value, Items, Table, str, int, boolean, array, table, none′, item, empty, entry, count, lookup, asString, asTable, asArray}
 use Rattle.meaning.specs.Schema.{Chip, Board, Partition, Head, Role, Boot, Component, Application, kindOf, kindRaw, targetFor}
 use Rattle.meaning.specs.Verdict.{among}
 use Rattle.meaning.specs.Fields.{need, aText, aFlag, aNumber, aWord, anArray, aTable, field, present, defaulted, required}
-use Rattle.meaning.specs.Features.{aFeatures}
+use Rattle.meaning.specs.Features.{words, texts, placed, ordered, counted, aFeatures}
 use Rattle.meaning.specs.Files.{piece?, lastPiece, notUp, fileName, lastDot, stemOf, stemmed, fileStem}
 use Rattle.meaning.specs.Records.{boardFrom, partitionFrom, filenameFor, headFrom, roleFrom, bootFrom, loadFrom, componentFrom, applicationFrom}
 use Rattle.meaning.specs.Plan.{ownStem, stemOfFile}
@@ -112,6 +113,50 @@ module _ {X : Type 0} (f : X → ℕ) (way : Value → R X) (says : (v : Value) 
   required-says : Says (λ x. f x ≤ held t k) (required way t k)
   required-says = via-says (λ o. size f o ≤ held t k) (λ x. f x ≤ held t k) (field way t k) _ field-says (need-says 24 (held t k) f)
 
+-- ---- features
+
+placed-count : (x : List ℕ) (ys : List (List ℕ)) → length (placed x ys) ≤ suc (length ys)
+placed-count x [] = omega arith
+placed-count x (y ∷ ys) =
+    on (less y x) (λ e. rw e (omega (arith, placed-count x ys))) (λ e. rw e (on (same y x) (λ h. rw h (omega arith)) (λ h. rw h (omega arith))))
+
+ordered-count : (xs : List (List ℕ)) → length (ordered xs) ≤ length xs
+ordered-count [] = omega arith
+ordered-count (x ∷ xs) = omega (arith, placed-count x (ordered xs), ordered-count xs)
+
+-- so many at most
+abbrev Few : ℕ → List (List ℕ) → Type 0
+Few n fs = length fs ≤ n
+
+texts-say : (is : Items) → Says (Few (count is)) (texts is)
+texts-say none′ = omega arith
+texts-say (item v is) = skip (Few (count (item v is))) (aText v) _ (λ s. via-says (Few (count is)) (Few (count (item v is))) (texts is) _ (texts-say is) (λ ss h. omega arith))
+
+counted-says : (limit n : ℕ) (r : R (List (List ℕ))) → Says (Few n) r → Says (Few limit) (counted limit n r)
+counted-says limit n r h =
+    on (ltb limit n) (λ e. rw e tt) (λ e. rw e (via-says (Few n) (Few limit) r _ h (λ ss k. omega (arith, ordered-count ss, ltb-false limit n e))))
+
+features-say : (limit : ℕ) (v : Value) → Says (Few limit) (aFeatures limit v)
+unfolding aFeatures
+features-say limit (str s) = counted-says limit (length (words s)) (ok (words s)) (omega arith)
+features-say limit (int i) = tt
+features-say limit (boolean b) = tt
+features-say limit (array a) = counted-says limit (count a) (texts a) (texts-say a)
+features-say limit (table t) = tt
+
+-- a feature list that may be absent
+few-says : (limit : ℕ) (t : Table) (k : List ℕ) → Says (Few limit) (defaulted (aFeatures limit) [] t k)
+unfolding field
+few-says limit t k = go (lookup t k)
+  where
+    got : (r : R (List (List ℕ))) → Says (Few limit) r → Says (Few limit) (okThen (okThen r (λ x. ok (some x))) (λ o. ok (orDefault o [])))
+    got (ok x) h = h
+    got (bad n) h = tt
+
+    go : (o : Option Value) → Says (Few limit) (okThen (present (aFeatures limit) o) (λ p. ok (orDefault p [])))
+    go none = omega arith
+    go (some v) = got (aFeatures limit v) (features-say limit v)
+
 -- ---- files
 
 pieces-short : (c : ℕ) (s : List ℕ) → sum length (cut c s) ≤ length s
@@ -156,12 +201,27 @@ said c = length (c .head .name) + (length (c .role .partition) + (size length (c
 abbrev pub stemSize : Component → ℕ
 stemSize c = size length (ownStem (some c))
 
+-- how many features its builds have
+abbrev pub featureCount : Component → ℕ
+featureCount c = length (c .role .features) + length (c .role .pbpFeatures)
+
+-- what of a component stands in its table, and how many features it may have
+pub record Carried (t : Table) (limit : ℕ) (c : Component) : Type 0 where
+  pub text : said c ≤ weightIn t
+  pub stem : stemSize c ≤ weightIn t
+  pub few : featureCount c ≤ 2 * limit
+
 -- what of a head stands where
 record Headed (t : Table) (h : Head) : Type 0 where
   name : length (h .name) ≤ held t (ascii "name")
   pack : size length (h .pack) ≤ held t (ascii "package")
   bin : size length (h .bin) ≤ held t (ascii "bin")
   file : size length (h .file) ≤ held t (ascii "file")
+
+-- of a role
+record Referred (t : Table) (limit : ℕ) (r : Role) : Type 0 where
+  reference : length (r .partition) ≤ held t (ascii "partition")
+  few : length (r .features) + length (r .pbpFeatures) ≤ 2 * limit
 
 module _ (t : Table) where
   -- a field that may be absent stands under its key
@@ -195,18 +255,16 @@ module _ (t : Table) where
       via-says (Optional (ascii "file")) (Headed t) (field aText t (ascii "file")) _ (optional (ascii "file")) (λ file f.
       skip (Headed t) (defaulted aText (filenameFor bin file pack) t (ascii "filename")) _ (λ _. record { name = n; pack = p; bin = b; file = f }))))))
 
-  reference-says : (limit : ℕ) → Says (λ r. length (r .partition) ≤ held t (ascii "partition")) (roleFrom limit t)
+  role-says : (limit : ℕ) → Says (Referred t limit) (roleFrom limit t)
   unfolding roleFrom
-  reference-says limit =
-      skip Referred (defaulted (aFeatures limit) [] t (ascii "features")) _ (λ _.
-      skip Referred (defaulted (aFeatures limit) [] t (ascii "pbp_features")) _ (λ _.
-      via-says (λ s. length s ≤ 0 + held t (ascii "partition")) Referred (defaulted aText [] t (ascii "partition")) _ (defaulted-says length aText text-says t (ascii "partition") []) (λ partition p.
-      skip Referred (defaulted aText (ascii "mtd;required") t (ascii "attr")) _ (λ _.
-      skip Referred (field aText t (ascii "target_attr")) _ (λ _.
-      skip Referred (field aText t (ascii "target_filename")) _ (λ _. omega arith))))))
-    where
-      Referred : Role → Type 0
-      Referred r = length (r .partition) ≤ held t (ascii "partition")
+  role-says limit =
+      via-says (Few limit) (Referred t limit) (defaulted (aFeatures limit) [] t (ascii "features")) _ (few-says limit t (ascii "features")) (λ features f.
+      via-says (Few limit) (Referred t limit) (defaulted (aFeatures limit) [] t (ascii "pbp_features")) _ (few-says limit t (ascii "pbp_features")) (λ own o.
+      via-says (λ s. length s ≤ 0 + held t (ascii "partition")) (Referred t limit) (defaulted aText [] t (ascii "partition")) _ (defaulted-says length aText text-says t (ascii "partition") []) (λ partition p.
+      skip (Referred t limit) (defaulted aText (ascii "mtd;required") t (ascii "attr")) _ (λ _.
+      skip (Referred t limit) (field aText t (ascii "target_attr")) _ (λ _.
+      skip (Referred t limit) (field aText t (ascii "target_filename")) _ (λ _.
+      record { reference = omega arith; few = on (nil? own) (λ e. rw e (omega arith)) (λ e. rw e (omega arith)) }))))))
 
   boot-says : Says (λ b. size length (b .pbpPack) ≤ held t (ascii "pbp_package")) (bootFrom t)
   unfolding bootFrom
@@ -221,17 +279,14 @@ module _ (t : Table) where
       Booted b = size length (b .pbpPack) ≤ held t (ascii "pbp_package")
 
   -- these stand under different keys; the stem is one of them, or stands under one more
-  pub component-says : (limit : ℕ) → Says (λ c. (said c ≤ weightIn t) × (stemSize c ≤ weightIn t)) (componentFrom limit t)
+  pub component-says : (limit : ℕ) → Says (Carried t limit) (componentFrom limit t)
   unfolding componentFrom
   component-says limit =
-      via-says (Headed t) Carried (headFrom t) _ head-says (λ head h.
-      via-says (λ r. length (r .partition) ≤ held t (ascii "partition")) Carried (roleFrom limit t) _ (reference-says limit) (λ role r.
-      via-says (λ b. size length (b .pbpPack) ≤ held t (ascii "pbp_package")) Carried (bootFrom t) _ boot-says (λ boot b.
-      skip Carried (loadFrom t) _ (λ _. (omega (arith, h .name, h .pack, all), stem head h)))))
+      via-says (Headed t) (Carried t limit) (headFrom t) _ head-says (λ head h.
+      via-says (Referred t limit) (Carried t limit) (roleFrom limit t) _ (role-says limit) (λ role r.
+      via-says (λ b. size length (b .pbpPack) ≤ held t (ascii "pbp_package")) (Carried t limit) (bootFrom t) _ boot-says (λ boot b.
+      skip (Carried t limit) (loadFrom t) _ (λ _. record { text = omega (arith, h .name, h .pack, r .reference, all); stem = stem head h; few = r .few }))))
     where
-      Carried : Component → Type 0
-      Carried c = (said c ≤ weightIn t) × (stemSize c ≤ weightIn t)
-
       all : held t (ascii "name") + (held t (ascii "partition") + (held t (ascii "package") + (held t (ascii "pbp_package") + 0))) ≤ weightIn t
       all = held-weighs t (ascii "name" ∷ ascii "partition" ∷ ascii "package" ∷ ascii "pbp_package" ∷ []) (refl, (refl, (refl, (refl, tt))))
 
