@@ -14,62 +14,90 @@ use lib.Seq.{drop-cons, take-suc, take-length, set-at, length-take-le}
 use Rattle.meaning.specs.Base.{before, same, less}
 use Rattle.laws.specs.Cases.{on}
 use Rattle.laws.specs.Order.{same-eq}
-use Rattle.slices.specs.Found.{Other, Free, Passed, Found}
+use Rattle.slices.specs.Found.{Other, at?, Free, lead, Passed, Led, Found}
 use Rattle.slices.specs.Heads.{Ranked}
 
 pub past : (s : List ℕ) (i : ℕ) → length s ≤ i → 0 ≡ getD s i 0
 past s i h = sym (List·getD-eq-default s 0 h)
 
--- ---- find
-pub record Freeing (s : List ℕ) (at c k r : ℕ) : Type 0 where
+-- ---- searches
+
+-- what `meets` says of c itself, and of another byte
+pub stops : (c b : ℕ) → _≡_ {A = ℕ} 1 0 → Other (at? c) b
+stops c b e = absurd (omega (arith, e))
+
+pub goes-on : (c b : ℕ) → (b ≡ c → ⊥) → _≡_ {A = ℕ} 0 0 → Other (at? c) b
+goes-on c b h e = record { not = ne-eqb b c h }
+
+-- what a loop over a block gathers is 0 only if the search goes on at each byte so far
+pub record Freeing (stop : ℕ → Bool) (s : List ℕ) (at k r : ℕ) : Type 0 where
   pub high : k ≤ 16
-  pub all : r ≡ 0 → Free c s at k
+  pub all : r ≡ 0 → Free stop s at k
 
-pub free-start : (s : List ℕ) (at c : ℕ) → Freeing s at c 0 0
-free-start s at c = record { high = omega arith; all = λ z. record { all = λ k l. absurd (omega arith) } }
+module _ (stop : ℕ → Bool) (s : List ℕ) (at : ℕ) where
+  pub free-start : Freeing stop s at 0 0
+  free-start = record { high = omega arith; all = λ z. record { all = λ k l. absurd (omega arith) } }
 
-module _ (s : List ℕ) (at c k r : ℕ) (a : Freeing s at c k r) where
-  pub free-on : (x : ℕ) → k < 16 → (x ≡ 0 → Other c (getD s (at + k) 0)) → Freeing s at c (k + 1) (bitOr r x)
-  free-on x h b = record { high = omega arith; all = λ z. record { all = go z } }
-    where
-      go : bitOr r x ≡ 0 → (i : ℕ) → i < k + 1 → Other c (getD s (at + i) 0)
-      go z i l =
-          on (ltb i k)
-          (λ t. a .all (omega (arith, or-add-and r x, and-le-r r x)) .all i (ltb-true i k t))
-          (λ t.
-          let e : i ≡ k = omega (arith, ltb-false i k t) in
-          rw e (b (omega (arith, or-add-and r x, and-le-l r x))))
+  module _ (k r : ℕ) (a : Freeing stop s at k r) where
+    pub free-on : (x : ℕ) → k < 16 → (x ≡ 0 → Other stop (getD s (at + k) 0)) → Freeing stop s at (k + 1) (bitOr r x)
+    free-on x h b = record { high = omega arith; all = λ z. record { all = go z } }
+      where
+        go : bitOr r x ≡ 0 → (i : ℕ) → i < k + 1 → Other stop (getD s (at + i) 0)
+        go z i l =
+            on (ltb i k)
+            (λ t. a .all (omega (arith, or-add-and r x, and-le-r r x)) .all i (ltb-true i k t))
+            (λ t.
+            let e : i ≡ k = omega (arith, ltb-false i k t) in
+            rw e (b (omega (arith, or-add-and r x, and-le-l r x))))
 
-  pub free-end : 16 ≤ k → eqb r 0 ≡ true → Free c s at 16
-  free-end h e =
-      let n : k ≡ 16 = omega (arith, a .high) in
-      rw n at (a .all (eqb-true r 0 e))
+    pub free-end : 16 ≤ k → eqb r 0 ≡ true → Free stop s at 16
+    free-end h e =
+        let n : k ≡ 16 = omega (arith, a .high) in
+        rw n at (a .all (eqb-true r 0 e))
 
-module _ (s : List ℕ) (c i : ℕ) where
-  pub find-on : Passed c s i → i < length s → (getD s i 0 ≡ c → ⊥) → Passed c s (i + 1)
-  find-on a h n =
-      let k : before c (drop i s) ≡ suc (before c (drop (i + 1) s)) = rw (drop-cons s i 0 h, ne-eqb (getD s i 0) c n, add-one) in
-      record { high = omega arith; left = omega arith }
+module _ (stop : ℕ → Bool) (s : List ℕ) (i : ℕ) (a : Passed stop s i) where
+  pub led-on : i < length s → stop (getD s i 0) ≡ false → Passed stop s (i + 1)
+  led-on h n =
+      let k : lead stop (drop i s) ≡ suc (lead stop (drop (i + 1) s)) = rw (drop-cons s i 0 h, n, add-one) in
+      record { high = omega arith; left = omega (arith, a .left) }
 
-  pub find-hit : Passed c s i → i < length s → getD s i 0 ≡ c → Found c s i
-  find-hit a h e =
-      let k : before c (drop i s) ≡ 0 = rw (drop-cons s i 0 h, eq-eqb (getD s i 0) c e) in
-      record { is = omega arith; fits = a .high }
+  pub led-hit : i < length s → stop (getD s i 0) ≡ true → Led stop s i
+  led-hit h e =
+      let k : lead stop (drop i s) ≡ 0 = rw (drop-cons s i 0 h, e) in
+      record { is = omega (arith, a .left); fits = a .high }
 
-  pub find-end : Passed c s i → length s ≤ i → Found c s i
-  find-end a h =
-      let k : before c (drop i s) ≡ 0 = rw (drop-of-length-le s h) in
-      record { is = omega arith; fits = a .high }
+  pub led-end : length s ≤ i → Led stop s i
+  led-end h =
+      let k : lead stop (drop i s) ≡ 0 = rw (drop-of-length-le s h) in
+      record { is = omega (arith, a .left); fits = a .high }
 
-passed : (n : ℕ) (s : List ℕ) (c i : ℕ) → Passed c s i → i + n ≤ length s → Free c s i n → Passed c s (i + n)
-passed zero s c i a h f = rw (add-zero i) a
-passed (suc n) s c i a h f =
+passed : (n : ℕ) (stop : ℕ → Bool) (s : List ℕ) (i : ℕ) → Passed stop s i → i + n ≤ length s → Free stop s i n → Passed stop s (i + n)
+passed zero stop s i a h f = rw (add-zero i) a
+passed (suc n) stop s i a h f =
     let e : i + n + 1 ≡ i + suc n = omega arith in
-    rw e at (find-on s c (i + n) (passed n s c i a (omega arith) (record { all = λ k l. f .all k (omega arith) })) (omega arith) (f .all n (omega arith) .not))
+    rw e at (led-on stop s (i + n) (passed n stop s i a (omega arith) (record { all = λ k l. f .all k (omega arith) })) (omega arith) (f .all n (omega arith) .not))
 
 -- a block passed over
-pub past-on : (s : List ℕ) (c i : ℕ) (r : Bool) → Passed c s i → 16 ≤ length s - i → (r ≡ true → Free c s i 16) → r ≡ true → Passed c s (i + 16)
-past-on s c i r a h f t = passed 16 s c i a (omega (arith, a .high)) (f t)
+pub past-on : (stop : ℕ → Bool) (s : List ℕ) (i : ℕ) (r : Bool) → Passed stop s i → 16 ≤ length s - i → (r ≡ true → Free stop s i 16) → r ≡ true → Passed stop s (i + 16)
+past-on stop s i r a h f t = passed 16 stop s i a (omega (arith, a .high)) (f t)
+
+-- ---- find
+before-lead : (c : ℕ) (s : List ℕ) → lead (at? c) s ≡ before c s
+before-lead c [] = refl
+before-lead c (b ∷ s) = rw (before-lead c s)
+
+module _ (s : List ℕ) (c i : ℕ) (a : Passed (at? c) s i) where
+  found : Led (at? c) s i → Found c s i
+  found l = record { is = l .is ∙ before-lead c s; fits = l .fits }
+
+  pub find-on : i < length s → (getD s i 0 ≡ c → ⊥) → Passed (at? c) s (i + 1)
+  find-on h n = led-on (at? c) s i a h (ne-eqb (getD s i 0) c n)
+
+  pub find-hit : i < length s → getD s i 0 ≡ c → Found c s i
+  find-hit h e = found (led-hit (at? c) s i a h (eq-eqb (getD s i 0) c e))
+
+  pub find-end : length s ≤ i → Found c s i
+  find-end h = found (led-end (at? c) s i a h)
 
 -- ---- same
 pub same-lengths : (a b : List ℕ) → (length a ≡ length b → ⊥) → false ≡ same a b

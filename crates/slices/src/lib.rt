@@ -8,7 +8,7 @@ ghost use lib.ListN.{length, getD, drop};
 ghost use Rattle.meaning.specs.Base as base;
 ghost use Rattle.laws.specs.Stored.{stored};
 ghost use Rattle.slices.specs.Clear.{clear};
-ghost use Rattle.slices.specs.Found.{Other, Free, Passed, Found};
+ghost use Rattle.slices.specs.Found.{Other, at?, Free, Passed, Found};
 ghost use Rattle.slices.specs.Heads.{Ranked, xors};
 ghost use Rattle.slices.specs.Numbers.{Reading, Read, little, number};
 
@@ -20,8 +20,8 @@ pub fn peek(s: &[u8], i: usize) -> u8
 }
 
 // 0 only for a byte that is not c.
-fn meets(b: u8, c: u8) -> u8
-    ensures { λ r. ⌜ (r ≡ 0 → Other c b) ⌝ }
+pub fn meets(b: u8, c: u8) -> u8
+    ensures { λ r. ⌜ (r ≡ 0 → Other (at? c) b) ⌝ }
 {
     if b == c { 1 } else { 0 }
 }
@@ -29,7 +29,7 @@ fn meets(b: u8, c: u8) -> u8
 // Whether none of the 16 bytes at a place is c. No byte ends the loop, so that the machine takes them at once.
 fn none_of_16(s: &[u8], at: usize, c: u8) -> bool
     requires { ⌜ at + 16 ≤ length (now s) ⌝ }
-    ensures { λ r. ⌜ (r ≡ true → Free c (now (s .entry)) at 16) ⌝ }
+    ensures { λ r. ⌜ (r ≡ true → Free (at? c) (now (s .entry)) at 16) ⌝ }
 {
     let mut k = 0;
     let mut r: u8 = 0;
@@ -42,7 +42,7 @@ fn none_of_16(s: &[u8], at: usize, c: u8) -> bool
 
 // How many bytes stand before the first c at least, as far as blocks of 16 go.
 fn before_first(s: &[u8], c: u8) -> usize
-    ensures { λ r. ⌜ Passed c (now (s .entry)) r ⌝ }
+    ensures { λ r. ⌜ Passed (at? c) (now (s .entry)) r ⌝ }
 {
     let mut i = 0;
     while 16 <= s.len() - i {

@@ -2,13 +2,13 @@
 use Prim.Native.Nat.{_-_}
 use borrow.Author.Needs.{needs}
 use lib.ListN.{length}
-use Rattle.slices.specs.Found.{Passed}
+use Rattle.slices.specs.Found.{at?, Passed}
 use Rattle.slices.proofs.Bytes.{past-on}
 use Rattle.slices.proofs.before_first.Statement.{statement}
 use Rattle.slices.proofs.before_first.Tie as tie
 
 abbrev Inv-loop : tie.InvT-loop
-Inv-loop s c i₀ i = Passed c s i
+Inv-loop s c i₀ i = Passed (at? c) s i
 
 abbrev μ-loop : tie.MeasureT-loop
 μ-loop s c i₀ i = length s - i

@@ -2,13 +2,13 @@
 use borrow.Author.Needs.{needs}
 use Rattle.slices.proofs.Bytes.{find-on, find-hit, find-end}
 use lib.ListN.{length}
-use Rattle.slices.specs.Found.{Passed}
+use Rattle.slices.specs.Found.{at?, Passed}
 use Prim.Native.Nat.{_-_}
 use Rattle.slices.proofs.find.Statement.{statement}
 use Rattle.slices.proofs.find.Tie as tie
 
 abbrev Inv-loop : tie.InvT-loop
-Inv-loop s c i₀ i = Passed c s i
+Inv-loop s c i₀ i = Passed (at? c) s i
 
 abbrev μ-loop : tie.MeasureT-loop
 μ-loop s c i₀ i = length s - i

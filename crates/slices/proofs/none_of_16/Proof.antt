@@ -1,12 +1,13 @@
 -- A hit is gathered and never lost: there is none only if every byte is another.
 use Prim.Native.Nat.{_-_}
 use borrow.Author.Needs.{needs}
+use Rattle.slices.specs.Found.{at?}
 use Rattle.slices.proofs.Bytes.{Freeing, free-start, free-on, free-end}
 use Rattle.slices.proofs.none_of_16.Statement.{statement}
 use Rattle.slices.proofs.none_of_16.Tie as tie
 
 abbrev Inv-loop : tie.InvT-loop
-Inv-loop s at c k₀ r₀ k r = Freeing s at c k r
+Inv-loop s at c k₀ r₀ k r = Freeing (at? c) s at k r
 
 abbrev μ-loop : tie.MeasureT-loop
 μ-loop s at c k₀ r₀ k r = 16 - k
