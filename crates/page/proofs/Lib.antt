@@ -1,3 +1,4 @@
 pub mod Pages
 pub mod Decimals
+pub mod Quotes
 pub mod Writing

@@ -6,12 +6,14 @@ use mathlib.Core.Path.{_≡_, refl, sym, ap, subst, _∙_}
 use native.Mathlib.Omega.{arith}
 use borrow.Author.Tests.{ne-eqb}
 use lib.Dec.{eqb}
-use lib.ListN.{length, take, drop, length-take, length-drop, drop-of-length-le}
-use lib.Seq.{drop-drop}
+use lib.ListN.{length, take, drop, set, length-take, length-drop, drop-of-length-le}
+use lib.Seq.{drop-drop, take-all}
 use Rattle.meaning.specs.Base.{nil?, ascii}
-use Rattle.meaning.specs.Listing.{decimal, dashed}
+use Rattle.meaning.specs.Print.{decimal, shown}
+use Rattle.meaning.specs.Quoting.{quoted}
+use Rattle.meaning.specs.Listing.{placed}
 use Rattle.laws.specs.Parts.{rest-of}
-use Rattle.laws.specs.Stored.{stored, length-stored}
+use Rattle.laws.specs.Stored.{stored, stored-nil, stored-cons, length-stored}
 use Rattle.laws.specs.Variants.{Left, others}
 use Rattle.schema.proofs.Text.{enum}
 use Rattle.schema.specs.declared.Text.{Text}
@@ -21,7 +23,7 @@ use Rattle.schema.specs.declared.Word.the-variants as words
 use Rattle.schema.specs.declared.Span.{Span}
 use Rattle.schema.specs.Words.{word, all, Stands, word-part}
 use Rattle.schema.specs.Texts.{clip, spelled}
-use Rattle.page.specs.Page.{Wrote, Digits}
+use Rattle.page.specs.Page.{fitting, Wrote, Digits}
 use Rattle.page.proofs.Pages.{none-past, wrote-then}
 
 -- ---- bytes
@@ -56,6 +58,16 @@ module _ (s out : List ℕ) (at : ℕ) where
       let w : take at out ++ (ys ++ drop (at + n - at) (drop at out)) ≡ take at out ++ (take n s ++ drop (at + n) out) = rw (e, k, g, m, append-nil, drop-drop n at out) in
       record { left = w ∙ rw (← h, f); place = ap (λ (m : ℕ). at + m) h }
 
+-- ---- one byte
+module _ (b : ℕ) (out : List ℕ) (at : ℕ) where
+  pub byte-in : at < length out → Wrote (b ∷ []) out at (set out at b) (at + 1)
+  byte-in h =
+      let f : fitting out at (b ∷ []) ≡ b ∷ [] = take-all (length out - at) (b ∷ []) (omega arith) in
+      record { left = rw f (sym (stored-nil (set out at b) (at + 1)) ∙ stored-cons out [] at b h); place = rw f }
+
+  pub byte-past : length out ≤ at → Wrote (b ∷ []) out at out at
+  byte-past h = record { left = sym (none-past (b ∷ []) out at h); place = omega (arith, length-take (length out - at) (b ∷ [])) }
+
 -- a field by what it says
 pub field-by : {s t o o1 : List ℕ} {n n1 : ℕ} → Wrote (32 ∷ s) o n o1 n1 → s ≡ t → Wrote (32 ∷ t) o n o1 n1
 field-by {o = o} {o1 = o1} {n = n} {n1 = n1} x e = subst (λ (f : List ℕ). Wrote (32 ∷ f) o n o1 n1) e x
@@ -63,9 +75,6 @@ field-by {o = o} {o1 = o1} {n = n} {n1 = n1} x e = subst (λ (f : List ℕ). Wro
 module _ (s o o1 o2 : List ℕ) (n n1 n2 : ℕ) where
   pub field-is : Wrote (32 ∷ []) o n o1 n1 → Wrote s o1 n1 o2 n2 → Wrote (32 ∷ s) o n o2 n2
   field-is x y = wrote-then x y
-
-  pub aic-is : Wrote (32 ∷ s) o n o1 n1 → Wrote (ascii ".aic") o1 n1 o2 n2 → Wrote (32 ∷ (s ++ ascii ".aic")) o n o2 n2
-  aic-is x y = wrote-then x y
 
 module _ (o o1 : List ℕ) (n n1 : ℕ) where
   -- ---- numbers and words
@@ -75,22 +84,29 @@ module _ (o o1 : List ℕ) (n n1 : ℕ) where
   pub word-is : (w : Word) (s : Span) → Stands w s → Wrote (take (s .to - s .from) (drop (s .from) all)) o n o1 n1 → Wrote (word w) o n o1 n1
   word-is w s h x = subst (λ (l : List ℕ). Wrote l o n o1 n1) (rw (h .is, word-part w)) x
 
+  pub word-quoted : (w : Word) (s : Span) → Stands w s → Wrote (32 ∷ quoted (take (s .to - s .from) (drop (s .from) all))) o n o1 n1 → Wrote (32 ∷ quoted (word w)) o n o1 n1
+  word-quoted w s h x = subst (λ (l : List ℕ). Wrote (32 ∷ quoted l) o n o1 n1) (rw (h .is, word-part w)) x
+
   -- ---- texts
+  pub quoted-by : (s t : List ℕ) → Wrote (32 ∷ quoted s) o n o1 n1 → s ≡ t → Wrote (32 ∷ quoted t) o n o1 n1
+  quoted-by s t x e = subst (λ (l : List ℕ). Wrote (32 ∷ quoted l) o n o1 n1) e x
+
   module _ (store name : List ℕ) (t : Text) where
-    pub text-fixed : (w : Word) → t ≡ texts.Fixed w → Wrote (32 ∷ word w) o n o1 n1 → Wrote (32 ∷ spelled store name t) o n o1 n1
+    pub text-fixed : (w : Word) → t ≡ texts.Fixed w → Wrote (32 ∷ quoted (word w)) o n o1 n1 → Wrote (32 ∷ quoted (spelled store name t)) o n o1 n1
     text-fixed w e x = rw e x
 
-    pub text-aic : (from len : ℕ) (s : List ℕ) → t ≡ texts.WithAic from len → s ≡ clip from len store → Wrote (32 ∷ (s ++ ascii ".aic")) o n o1 n1 → Wrote (32 ∷ spelled store name t) o n o1 n1
+    pub text-aic : (from len : ℕ) (s : List ℕ) → t ≡ texts.WithAic from len → s ≡ clip from len store → Wrote (32 ∷ quoted (s ++ ascii ".aic")) o n o1 n1
+        → Wrote (32 ∷ quoted (spelled store name t)) o n o1 n1
     text-aic from len s e h x = rw (e, ← h) x
 
   -- ---- references
   module _ (s : List ℕ) (b : Bool) (e : b ≡ nil? s) where
-    pub dash-is : b ≡ true → Wrote (32 ∷ ascii "-") o n o1 n1 → Wrote (32 ∷ dashed s) o n o1 n1
-    unfolding dashed
+    pub dash-is : b ≡ true → Wrote (32 ∷ ascii "-") o n o1 n1 → Wrote (32 ∷ shown (placed s)) o n o1 n1
+    unfolding placed
     dash-is h x = rw (← e, h) x
 
-    pub named-is : b ≡ false → Wrote (32 ∷ s) o n o1 n1 → Wrote (32 ∷ dashed s) o n o1 n1
-    unfolding dashed
+    pub named-is : b ≡ false → Wrote (32 ∷ quoted s) o n o1 n1 → Wrote (32 ∷ shown (placed s)) o n o1 n1
+    unfolding placed
     named-is h x = rw (← e, h) x
 
 -- ---- empty texts

@@ -3,7 +3,7 @@ use Prim.Native.Nat.{ℕ, _+_, _-_, _≤_}
 use mathlib.Core.List.{List}
 use mathlib.Core.Path.{_≡_}
 use lib.ListN.{length, take, drop}
-use Rattle.meaning.specs.Listing.{decimal}
+use Rattle.meaning.specs.Print.{decimal}
 use Rattle.laws.specs.Stored.{stored}
 
 -- as many of the bytes as a page takes from a place on

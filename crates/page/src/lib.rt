@@ -1,13 +1,17 @@
 // One writer for all that is printed: bytes, numbers, words and texts after what stands on a lent page.
 
+pub mod quote;
+
 use schema::Text;
 use schema::Word;
 ghost use mathlib.Core.Path.{_≡_};
-ghost use mathlib.Core.List.{_∷_, _++_};
+ghost use mathlib.Core.List.{[], _∷_};
 ghost use Prim.Native.Nat.{min};
 ghost use lib.ListN.{length};
-ghost use Rattle.meaning.specs.Base.{nil?, ascii};
-ghost use Rattle.meaning.specs.Listing.{decimal, dashed};
+ghost use Rattle.meaning.specs.Base.{nil?};
+ghost use Rattle.meaning.specs.Print.{decimal, shown};
+ghost use Rattle.meaning.specs.Quoting as quoting;
+ghost use Rattle.meaning.specs.Listing.{placed};
 ghost use Rattle.schema.specs.Words as words;
 ghost use Rattle.schema.specs.Texts.{spelled};
 ghost use Rattle.page.specs.Page.{Wrote, Digits};
@@ -35,11 +39,22 @@ pub fn put(out: &mut [u8], at: usize, s: &[u8]) -> usize
     to
 }
 
+// One byte, where the page has room for it. It is stored; `put` of one byte is a call of memset or memcpy.
+pub fn byte(out: &mut [u8], at: usize, b: u8) -> usize
+    ensures { λ r. ⌜ Wrote (b ∷ []) (now (out .entry)) at (now (out .exit)) r ⌝ }
+{
+    if at < out.len() {
+        out[at] = b;
+        return at + 1;
+    }
+    at
+}
+
 // A space and bytes.
 pub fn field(out: &mut [u8], at: usize, s: &[u8]) -> usize
     ensures { λ r. ⌜ Wrote (32 ∷ now (s .entry)) (now (out .entry)) at (now (out .exit)) r ⌝ }
 {
-    let a = put(out, at, b" ");
+    let a = byte(out, at, b' ');
     put(out, a, s)
 }
 
@@ -86,29 +101,32 @@ fn bare(out: &mut [u8], at: usize, w: Word) -> usize
 pub fn word(out: &mut [u8], at: usize, w: Word) -> usize
     ensures { λ r. ⌜ Wrote (32 ∷ words.word w) (now (out .entry)) at (now (out .exit)) r ⌝ }
 {
-    let a = put(out, at, b" ");
+    let a = byte(out, at, b' ');
     bare(out, a, w)
 }
 
-// Bytes of the store with `.aic` after them.
-fn with_aic(out: &mut [u8], at: usize, s: &[u8]) -> usize
-    ensures { λ r. ⌜ Wrote (32 ∷ (now (s .entry) ++ ascii ".aic")) (now (out .entry)) at (now (out .exit)) r ⌝ }
+// A space and a fixed word in quotes.
+fn word_quoted(out: &mut [u8], at: usize, w: Word) -> usize
+    ensures { λ r. ⌜ Wrote (32 ∷ quoting.quoted (words.word w)) (now (out .entry)) at (now (out .exit)) r ⌝ }
 {
-    let a = field(out, at, s);
-    put(out, a, b".aic")
+    let all = Word::ALL;
+    let span = w.span();
+    let from = span.from;
+    let to = span.to;
+    quote::quoted(out, at, &all[from..to])
 }
 
-// A space and a text's bytes.
+// A space and a text in quotes.
 pub fn text(out: &mut [u8], at: usize, store: &[u8], name: &[u8], t: Text) -> usize
-    ensures { λ r. ⌜ Wrote (32 ∷ spelled (now (store .entry)) (now (name .entry)) t) (now (out .entry)) at
-        (now (out .exit)) r ⌝ }
+    ensures { λ r. ⌜ Wrote (32 ∷ quoting.quoted (spelled (now (store .entry)) (now (name .entry)) t)) (now (out .entry))
+        at (now (out .exit)) r ⌝ }
 {
     match t {
-        Text::Absent => field(out, at, b""),
-        Text::Stored { from, len } => field(out, at, schema::stored(store, from, len)),
-        Text::Lent => field(out, at, name),
-        Text::Fixed(w) => word(out, at, w),
-        Text::WithAic { from, len } => with_aic(out, at, schema::stored(store, from, len)),
+        Text::Absent => quote::quoted(out, at, b""),
+        Text::Stored { from, len } => quote::quoted(out, at, schema::stored(store, from, len)),
+        Text::Lent => quote::quoted(out, at, name),
+        Text::Fixed(w) => word_quoted(out, at, w),
+        Text::WithAic { from, len } => quote::quoted_aic(out, at, schema::stored(store, from, len)),
     }
 }
 
@@ -124,10 +142,10 @@ fn blank(store: &[u8], name: &[u8], t: Text) -> bool
     }
 }
 
-// A space and the reference to a partition, `-` for an empty one.
+// A space and the reference to a partition in quotes, a bare `-` for an empty one.
 pub fn reference(out: &mut [u8], at: usize, store: &[u8], name: &[u8], t: Text) -> usize
-    ensures { λ r. ⌜ Wrote (32 ∷ dashed (spelled (now (store .entry)) (now (name .entry)) t)) (now (out .entry)) at
-        (now (out .exit)) r ⌝ }
+    ensures { λ r. ⌜ Wrote (32 ∷ shown (placed (spelled (now (store .entry)) (now (name .entry)) t)))
+        (now (out .entry)) at (now (out .exit)) r ⌝ }
 {
     if blank(store, name, t) {
         return field(out, at, b"-");
