@@ -15,8 +15,9 @@ use Rattle.meaning.specs.Refusal.{Answer, accepted, refused, numbered, accepted
 use Rattle.meaning.specs.Preset.{Read}
 use Rattle.meaning.specs.Schema as schemas
 use Rattle.meaning.specs.Plan as plans
+use Rattle.meaning.specs.Print.{page}
 use Rattle.meaning.specs.Listing as meant
-use Rattle.meaning.specs.Listing.{outSize, linesOf}
+use Rattle.meaning.specs.Listing.{outSize, linesOf, bytesOf}
 use Rattle.laws.specs.Answers.{accepted-one}
 use Rattle.laws.specs.Cases.{on}
 use Rattle.laws.specs.Listings.{planned-fits}
@@ -141,24 +142,24 @@ module _ (text name store tree out store' tree' out' : List ℕ) (r : lists.List
         plan-is-its = accepted-one (plans.composed (p .preset) plans.bootChain none) (its .0) (its .1)
 
         -- the lines of the rooms are 01's
-        said : lines tree' store' (o .made) name ≡ meant.listed x .lines
+        said : lines tree' store' (o .made) name ≡ bytesOf (meant.listed x)
         said =
             ap (λ (m : ℕ). lines tree' store' m name) made-is
             ∙ lines-say tree' store' made name few
-            ∙ ap (λ (k : schemas.Preset). linesOf made k (plans.composed k plans.bootChain none)) (recorded .records)
-            ∙ ap (linesOf made (p .preset)) plan-is-its
+            ∙ ap (λ (k : schemas.Preset). page (linesOf made k (plans.composed k plans.bootChain none))) (recorded .records)
+            ∙ ap (λ (q : plans.Plan). page (linesOf made (p .preset) q)) plan-is-its
 
-        fits : length (meant.listed x .lines) ≤ outSize name
+        fits : length (bytesOf (meant.listed x)) ≤ outSize name
         fits = planned-fits (length store) (length tree) name text x (its .2)
 
         accepted-is : Reported text name store tree out store' tree' out' (shown r)
         accepted-is =
             let d = plan-judged text name 0 [] store tree p e in
-            let all : linesIn out name store' tree' (o .made) ≡ meant.listed x .lines =
-            ap (take (length out)) said ∙ take-all (length out) (meant.listed x .lines) (omega (arith, fits, long .0)) in
-            let n : length (linesIn out name store' tree' (o .made)) ≡ length (meant.listed x .lines) = ap length all in
+            let all : linesIn out name store' tree' (o .made) ≡ bytesOf (meant.listed x) =
+            ap (take (length out)) said ∙ take-all (length out) (bytesOf (meant.listed x)) (omega (arith, fits, long .0)) in
+            let n : length (linesIn out name store' tree' (o .made)) ≡ length (bytesOf (meant.listed x)) = ap length all in
             let k = h .lined (d .0) (d .1) .fine fine in
-            let w : length (meant.listed x .lines) % 4294967296 ≡ length (meant.listed x .lines) = omega (arith, fits, long .1) in
+            let w : length (bytesOf (meant.listed x)) % 4294967296 ≡ length (bytesOf (meant.listed x)) = omega (arith, fits, long .1) in
             let a : listing text name store tree out ≡ accepted (meant.listed x) = answer ∙ rw (its .2) in
             rw a
             (record {

@@ -14,7 +14,7 @@ use Rattle.host.specs.Presets.{Records}
 
 -- "A refusal returns its number, a section .. and a place"
 abbrev pub listedBy : Answer meant.Listed → Listed
-listedBy (accepted l) = record { number = 0; section = 0; place = 0; written = length (l .lines) }
+listedBy (accepted l) = record { number = 0; section = 0; place = 0; written = length (meant.bytesOf l) }
 listedBy (refused f section place) = record { number = numberOf f; section = section; place = place; written = 0 }
 
 -- what was read for it
@@ -30,7 +30,7 @@ pub record ReportedBy (a : Answer meant.Listed) (text name store tree out store'
   pub says : r ≡ listedBy a
   pub store-is : store' ≡ roomAfter (λ x. x .parsed .bytes) (length store) (readBy a)
   pub tree-is : tree' ≡ roomAfter (λ x. valuesOf text) (length tree) (readBy a)
-  pub out-is : out' ≡ outputAfter (λ l. l .lines) out a
+  pub out-is : out' ≡ outputAfter meant.bytesOf out a
   pub shows : Records name store' tree' (readBy a)
 
 abbrev pub Reported : List ℕ → List ℕ → List ℕ → List ℕ → List ℕ → List ℕ → List ℕ → List ℕ → Listed → Type 0

@@ -17,7 +17,8 @@ const INPUT_BYTES: usize = TEXT_BYTES + 1;
 
 const TREE_BYTES: usize = tree::VALUE_BYTES * meaning::VALUES;
 
-const OUTPUT_BYTES: usize = preset::listing::LISTING_BYTES + 5;
+// Each of the name's five bytes may print as two.
+const OUTPUT_BYTES: usize = preset::listing::LISTING_BYTES + 2 * 5;
 // `refused` and three numbers need no more.
 const REFUSAL_BYTES: usize = 96;
 

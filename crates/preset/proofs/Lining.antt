@@ -1,5 +1,5 @@
 -- What the listing leaves: one law for each way out.
-use Prim.Native.Nat.{ℕ, _+_, _-_, _≤_, _<_}
+use Prim.Native.Nat.{ℕ, _+_, _-_, _/_, _≤_, _<_}
 use mathlib.Core.Bool.{Bool, true, false}
 use mathlib.Core.List.{List as Seq, []}
 use mathlib.Core.Path.{_≡_, refl, sym, ap, subst, _∙_}
@@ -32,21 +32,21 @@ use Rattle.preset.proofs.Settling.{judged-on, read-refused, parsed-deci
 -- ---- the room of the output
 
 module _ (out name : Seq ℕ) where
-  pub short-least : length out < 73984 → true ≡ short (length out) name
+  pub short-least : length out < 142848 → true ≡ short (length out) name
   unfolding short
   short-least h = rw (lt-ltb (length out) (outSize name) (omega arith))
 
-  pub short-less : 73984 ≤ length out → length out - 73984 < length name → true ≡ short (length out) name
+  pub short-less : 142848 ≤ length out → (length out - 142848) / 2 < length name → true ≡ short (length out) name
   unfolding short
   short-less e h = rw (lt-ltb (length out) (outSize name) (omega arith))
 
-  pub short-last : 73984 ≤ length out → length name ≤ length out - 73984 → leb 4294893312 (length name) ≡ short (length out) name
+  pub short-last : 142848 ≤ length out → length name ≤ (length out - 142848) / 2 → leb 2147412224 (length name) ≡ short (length out) name
   unfolding short
   short-last e h =
       rw (le-ltb (length out) (outSize name) (omega arith))
-      (on (leb 4294893312 (length name))
-      (λ t. rw (t, le-leb 4294967296 (outSize name) (omega (arith, leb-true 4294893312 (length name) t))))
-      (λ t. rw (t, lt-leb 4294967296 (outSize name) (omega (arith, leb-false 4294893312 (length name) t)))))
+      (on (leb 2147412224 (length name))
+      (λ t. rw (t, le-leb 4294967296 (outSize name) (omega (arith, leb-true 2147412224 (length name) t))))
+      (λ t. rw (t, lt-leb 4294967296 (outSize name) (omega (arith, leb-false 2147412224 (length name) t)))))
 
 -- ---- an output that is long enough
 

@@ -9,10 +9,10 @@ ghost use Rattle.tree.specs.Doors.{Rooms};
 ghost use Rattle.preset.specs.Listings as listings;
 ghost use Rattle.preset.specs.Listings.{Emptied, Lined, Planned, Lists};
 
-// An output of so many bytes, and those of the lent name, takes every listing.
-pub const LISTING_BYTES: usize = 73984;
+// An output of so many bytes, and two for each of the lent name, takes every listing.
+pub const LISTING_BYTES: usize = 142848;
 // A name from here on: what is written with it could not be counted in 32 bits.
-const NAME_TOO_LONG: usize = 4294967296 - LISTING_BYTES;
+const NAME_TOO_LONG: usize = (4294967296 - LISTING_BYTES) / 2;
 
 // What a listing comes to: number 0 and how many bytes were written; or 01's number, section and place.
 pub struct Listed {
@@ -29,7 +29,7 @@ fn lacks_room(out: &[u8], name: &[u8]) -> bool
     if out.len() < LISTING_BYTES {
         return true;
     }
-    if out.len() - LISTING_BYTES < name.len() {
+    if (out.len() - LISTING_BYTES) / 2 < name.len() {
         return true;
     }
     NAME_TOO_LONG <= name.len()

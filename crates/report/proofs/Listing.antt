@@ -6,7 +6,8 @@ use native.Mathlib.Omega.{arith}
 use native.Mathlib.Numerals.{add-one}
 use lib.ListN.{length, drop, getD, drop-of-length-le}
 use lib.Seq.{drop-cons}
-use Rattle.meaning.specs.Listing.{each, stemLine}
+use Rattle.meaning.specs.Print.{ended}
+use Rattle.meaning.specs.Listing.{stemLine}
 use Rattle.tree.specs.declared.Found.the-variants.{Nothing}
 use Rattle.tree.specs.declared.Items.{Items}
 use Rattle.tree.specs.declared.Item.{Item}
@@ -39,6 +40,7 @@ use Rattle.report.specs.declared.Placed.{Placed}
 use Rattle.report.specs.declared.brief.ComponentBrief.{ComponentBrief}
 use Rattle.report.specs.declared.brief.ApplicationBrief.{ApplicationBrief}
 use Rattle.report.specs.Shown as shown
+use Rattle.report.specs.Shown.{each}
 use Rattle.page.proofs.Pages.{wrote-nil, wrote-long, wrote-then}
 
 -- the lines of some entries stand on the page, and with those of the entries that are left they are the lines of all
@@ -229,5 +231,5 @@ module _ (room store : Seq ℕ) (made : ℕ) (name : Seq ℕ) (b : BuildList) (u
 
 -- the builds and the stem after them
 pub outcome-wrote : (room store : Seq ℕ) (made : ℕ) (name out out′ out″ : Seq ℕ) (at at′ at″ : ℕ) (t : Text) → Wrote (shown.builds room store made name) out at out′ at′ → t ≡ stem room store made name BootChain
-    → Wrote (stemLine (spelled store name t)) out′ at′ out″ at″ → Wrote (shown.outcome room store made name) out at out″ at″
+    → Wrote (ended (stemLine (spelled store name t))) out′ at′ out″ at″ → Wrote (shown.outcome room store made name) out at out″ at″
 outcome-wrote room store made name out out′ out″ at at′ at″ t h e k = wrote-then h (rw e at k)

@@ -1,12 +1,12 @@
 -- Level 2 of the listing: its lines, by what stands in the rooms.
 use Prim.Native.Nat.{ℕ, _+_}
-use mathlib.Core.List.{List as Seq, [], _∷_, _++_}
+use mathlib.Core.List.{List as Seq, [], _∷_, _++_, map}
 use mathlib.Core.Path.{_≡_}
 use lib.ListN.{length}
-use Rattle.meaning.specs.Base.{ascii}
-use Rattle.meaning.specs.Schema as schemas
+use Rattle.meaning.specs.Base.{concat}
+use Rattle.meaning.specs.Print.{ofWord, ofNumber, ofText, wordOk, wordPart, wordComp, wordApp, wordBuild, spaced, unended, ended}
 use Rattle.meaning.specs.Listing as meant
-use Rattle.meaning.specs.Listing.{line, spaced, decimal, dashed, each}
+use Rattle.meaning.specs.Listing.{chipNamed, mediaNamed, kindNamed, lockNamed, placed}
 use Rattle.tree.specs.declared.Found.the-variants.{Nothing}
 use Rattle.tree.specs.Doors.{Rooms, items}
 use Rattle.schema.specs.declared.Chip.{Chip}
@@ -40,22 +40,26 @@ applicationBrief a = record { «package» = a .«package»; name = a .name; part
 
 unfoldable pub part : Seq ℕ → Partition → Seq ℕ
 part store p =
-    line (ascii "part") (clip (p .from) (p .len) store ∷ decimal (p .offset) ∷ decimal (p .offset + p .size) ∷ meant.lockWord (p .locked) ∷ [])
+    ended (ofWord wordPart ∷ ofText (clip (p .from) (p .len) store) ∷ ofNumber (p .offset) ∷ ofNumber (p .offset + p .size) ∷ ofWord (lockNamed (p .locked)) ∷ [])
 
 unfoldable pub comp : Seq ℕ → Seq ℕ → ComponentBrief → Seq ℕ
 comp store name b =
-    line (ascii "comp") (spelled store name (b .name) ∷ schemas.kindWord (kindMeant (b .kind)) ∷ dashed (spelled store name (b .partition)) ∷ [])
+    ended (ofWord wordComp ∷ ofText (spelled store name (b .name)) ∷ ofWord (kindNamed (kindMeant (b .kind))) ∷ placed (spelled store name (b .partition)) ∷ [])
 
 unfoldable pub app : Seq ℕ → Seq ℕ → ApplicationBrief → Seq ℕ
 app store name b =
-    line (ascii "app") (spelled store name (b .«package») ∷ spelled store name (b .name) ∷ dashed (spelled store name (b .partition)) ∷ [])
+    ended (ofWord wordApp ∷ ofText (spelled store name (b .«package»)) ∷ ofText (spelled store name (b .name)) ∷ placed (spelled store name (b .partition)) ∷ [])
 
 unfoldable pub build : Seq ℕ → Seq ℕ → Text → ℕ → Seq ℕ
-build store name p features = line (ascii "build") (spelled store name p ∷ decimal features ∷ [])
+build store name p features = ended (ofWord wordBuild ∷ ofText (spelled store name p) ∷ ofNumber features ∷ [])
 
 -- the first half of `ok`
 abbrev pub device : Chip → Media → Seq ℕ
-device chip media = ascii "ok" ++ spaced (schemas.chipWord (chipMeant chip) ∷ schemas.mediaWord (mediaMeant media) ∷ [])
+device chip media = unended (ofWord wordOk ∷ ofWord (chipNamed (chipMeant chip)) ∷ ofWord (mediaNamed (mediaMeant media)) ∷ [])
+
+-- the lines of a list's entries
+abbrev pub each : {X : Type 0} → (X → Seq ℕ) → Seq X → Seq ℕ
+each f xs = concat (map f xs)
 
 -- a preset's lists stand in the rooms
 pub record Stands (room store : Seq ℕ) (p : Placed) : Type 0 where
@@ -66,7 +70,7 @@ module _ (room store : Seq ℕ) (made : ℕ) where
   -- how many entries there are, and values made
   unfoldable pub counts : Seq ℕ
   counts =
-      spaced (decimal (countsOf room store made .partitions) ∷ decimal (countsOf room store made .components) ∷ decimal (countsOf room store made .applications) ∷ decimal made ∷ [])
+      spaced (ofNumber (countsOf room store made .partitions) ∷ ofNumber (countsOf room store made .components) ∷ ofNumber (countsOf room store made .applications) ∷ ofNumber made ∷ [])
       ++ (10 ∷ [])
 
   unfoldable pub ok : Seq ℕ
@@ -107,7 +111,7 @@ module _ (room store : Seq ℕ) (made : ℕ) where
     entries = ok ++ (parts ++ (comps ++ apps))
 
     abbrev pub outcome : Seq ℕ
-    outcome = builds ++ meant.stemLine (spelled store name (stems.stem room store made name BootChain))
+    outcome = builds ++ ended (meant.stemLine (spelled store name (stems.stem room store made name BootChain)))
 
     abbrev pub lines : Seq ℕ
     lines = entries ++ outcome

@@ -8,6 +8,7 @@ use schema::Media;
 use schema::Partition;
 use schema::Text;
 ghost use mathlib.Core.List.{_∷_};
+ghost use Rattle.meaning.specs.Print.{spelling, ended};
 ghost use Rattle.meaning.specs.Listing as meant;
 ghost use Rattle.schema.specs.Texts.{spelled};
 ghost use Rattle.page.specs.Page.{Wrote};
@@ -26,7 +27,7 @@ fn counts(out: &mut [u8], at: usize, tree: &[u8], store: &[u8], p: Placed) -> us
     let r = page::number(out, q, n.components as u64);
     let s = page::number(out, r, n.applications as u64);
     let t = page::number(out, s, p.made as u64);
-    page::put(out, t, b"\n")
+    page::byte(out, t, b'\n')
 }
 
 // `ok`, chip and media.
@@ -53,7 +54,7 @@ pub fn ok(out: &mut [u8], at: usize, tree: &[u8], store: &[u8], p: Placed) -> us
 
 // Whether applications may lie there.
 fn lock(out: &mut [u8], at: usize, locked: bool) -> usize
-    ensures { λ r. ⌜ Wrote (32 ∷ meant.lockWord locked) (now (out .entry)) at (now (out .exit)) r ⌝ }
+    ensures { λ r. ⌜ Wrote (32 ∷ spelling (meant.lockNamed locked)) (now (out .entry)) at (now (out .exit)) r ⌝ }
 {
     if locked {
         return page::field(out, at, b"locked");
@@ -66,11 +67,11 @@ pub fn part(out: &mut [u8], at: usize, store: &[u8], p: Partition) -> usize
     ensures { λ r. ⌜ Wrote (shown.part (now (store .entry)) p) (now (out .entry)) at (now (out .exit)) r ⌝ }
 {
     let a = page::put(out, at, b"part");
-    let b = page::field(out, a, schema::stored(store, p.from, p.len));
+    let b = page::quote::quoted(out, a, schema::stored(store, p.from, p.len));
     let c = page::number(out, b, p.offset as u64);
     let d = page::number(out, c, layout::end_of(p));
     let e = lock(out, d, p.locked);
-    page::put(out, e, b"\n")
+    page::byte(out, e, b'\n')
 }
 
 // `comp`: name, kind, reference.
@@ -85,7 +86,7 @@ pub fn comp(out: &mut [u8], at: usize, store: &[u8], name: &[u8], x: ComponentBr
     let b = page::text(out, a, store, name, own);
     let c = page::word(out, b, kind.name());
     let d = page::reference(out, c, store, name, partition);
-    page::put(out, d, b"\n")
+    page::byte(out, d, b'\n')
 }
 
 // `app`: package, name, partition.
@@ -100,7 +101,7 @@ pub fn app(out: &mut [u8], at: usize, store: &[u8], name: &[u8], x: ApplicationB
     let b = page::text(out, a, store, name, package);
     let c = page::text(out, b, store, name, own);
     let d = page::reference(out, c, store, name, partition);
-    page::put(out, d, b"\n")
+    page::byte(out, d, b'\n')
 }
 
 // `build`: package, feature count.
@@ -118,26 +119,26 @@ pub fn build(
     let a = page::put(out, at, b"build");
     let b = page::text(out, a, store, name, package);
     let c = page::number(out, b, features as u64);
-    page::put(out, c, b"\n")
+    page::byte(out, c, b'\n')
 }
 
 // `stem`.
 pub fn stem(out: &mut [u8], at: usize, store: &[u8], name: &[u8], t: Text) -> usize
-    ensures { λ r. ⌜ Wrote (meant.stemLine (spelled (now (store .entry)) (now (name .entry)) t))
+    ensures { λ r. ⌜ Wrote (ended (meant.stemLine (spelled (now (store .entry)) (now (name .entry)) t)))
         (now (out .entry)) at (now (out .exit)) r ⌝ }
 {
     let a = page::put(out, at, b"stem");
     let b = page::text(out, a, store, name, t);
-    page::put(out, b, b"\n")
+    page::byte(out, b, b'\n')
 }
 
 // `refused`, number, section, place.
 pub fn refused(out: &mut [u8], at: usize, number: u32, section: u32, place: usize) -> usize
-    ensures { λ r. ⌜ Wrote (meant.refusedLine number section place) (now (out .entry)) at (now (out .exit)) r ⌝ }
+    ensures { λ r. ⌜ Wrote (ended (meant.refusedLine number section place)) (now (out .entry)) at (now (out .exit)) r ⌝ }
 {
     let a = page::put(out, at, b"refused");
     let b = page::number(out, a, number as u64);
     let c = page::number(out, b, section as u64);
     let d = page::number(out, c, place as u64);
-    page::put(out, d, b"\n")
+    page::byte(out, d, b'\n')
 }

@@ -5,6 +5,7 @@ use Rattle.report.proofs.line.build.Tie as tie
 use Rattle.report.proofs.line.build.Reads as reads
 use Rattle.report.proofs.line.build.Lts as lts
 use Rattle.page.proofs.number.Reads as number-reads
+use Rattle.page.proofs.byte.Reads as byte-reads
 use Rattle.page.proofs.put.Reads as put-reads
 use Rattle.page.proofs.text.Reads as text-reads
 
@@ -20,11 +21,8 @@ text-requires c κs = search needs
 number-requires : tie.Need-number-requires
 number-requires c κs = search needs
 
-slice-aggregate-put-2 : tie.Need-slice-aggregate-put-2
-slice-aggregate-put-2 c = search needs
-
-put-requires-2 : tie.Need-put-requires-2
-put-requires-2 c κs = search needs
+byte-requires : tie.Need-byte-requires
+byte-requires c κs = search needs
 
 same-length : tie.Need-same-length
 same-length c = search needs
@@ -40,7 +38,6 @@ build-spec =
     put-requires
     text-requires
     number-requires
-    slice-aggregate-put-2
-    put-requires-2
+    byte-requires
     same-length
     returns)

@@ -4,6 +4,7 @@ use Rattle.report.proofs.line.comp.Statement.{statement}
 use Rattle.report.proofs.line.comp.Tie as tie
 use Rattle.report.proofs.line.comp.Reads as reads
 use Rattle.report.proofs.line.comp.Lts as lts
+use Rattle.page.proofs.byte.Reads as byte-reads
 use Rattle.page.proofs.put.Reads as put-reads
 use Rattle.page.proofs.reference.Reads as reference-reads
 use Rattle.page.proofs.text.Reads as text-reads
@@ -28,11 +29,8 @@ word-requires c κs = search needs
 reference-requires : tie.Need-reference-requires
 reference-requires c κs = search needs
 
-slice-aggregate-put-2 : tie.Need-slice-aggregate-put-2
-slice-aggregate-put-2 c = search needs
-
-put-requires-2 : tie.Need-put-requires-2
-put-requires-2 c κs = search needs
+byte-requires : tie.Need-byte-requires
+byte-requires c κs = search needs
 
 same-length : tie.Need-same-length
 same-length c = search needs
@@ -50,7 +48,6 @@ comp-spec =
     name-requires
     word-requires
     reference-requires
-    slice-aggregate-put-2
-    put-requires-2
+    byte-requires
     same-length
     returns)

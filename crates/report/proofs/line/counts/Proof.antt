@@ -5,7 +5,7 @@ use Rattle.report.proofs.line.counts.Tie as tie
 use Rattle.report.proofs.line.counts.Reads as reads
 use Rattle.report.proofs.line.counts.Lts as lts
 use Rattle.page.proofs.number.Reads as number-reads
-use Rattle.page.proofs.put.Reads as put-reads
+use Rattle.page.proofs.byte.Reads as byte-reads
 use Rattle.parse.proofs.view.counts_in.Reads as counts-in-reads
 
 counts-in-requires : tie.Need-counts-in-requires
@@ -23,11 +23,8 @@ number-requires-3 c κs = search needs
 number-requires-4 : tie.Need-number-requires-4
 number-requires-4 c κs = search needs
 
-slice-aggregate-put : tie.Need-slice-aggregate-put
-slice-aggregate-put c = search needs
-
-put-requires : tie.Need-put-requires
-put-requires c κs = search needs
+byte-requires : tie.Need-byte-requires
+byte-requires c κs = search needs
 
 same-length : tie.Need-same-length
 same-length c = search needs
@@ -44,7 +41,6 @@ counts-spec =
     number-requires-2
     number-requires-3
     number-requires-4
-    slice-aggregate-put
-    put-requires
+    byte-requires
     same-length
     returns)

@@ -5,8 +5,9 @@ use Rattle.report.proofs.line.part.Tie as tie
 use Rattle.report.proofs.line.part.Reads as reads
 use Rattle.report.proofs.line.part.Lts as lts
 use Rattle.layout.proofs.end_of.Reads as end-of-reads
-use Rattle.page.proofs.field.Reads as field-reads
+use Rattle.page.proofs.quote.quoted.Reads as quoted-reads
 use Rattle.page.proofs.number.Reads as number-reads
+use Rattle.page.proofs.byte.Reads as byte-reads
 use Rattle.page.proofs.put.Reads as put-reads
 use Rattle.report.proofs.line.lock.Reads as lock-reads
 use Rattle.schema.proofs.stored.Reads as stored-reads
@@ -20,8 +21,8 @@ put-requires c κs = search needs
 stored-requires : tie.Need-stored-requires
 stored-requires c κs = search needs
 
-field-requires : tie.Need-field-requires
-field-requires c κs = search needs
+quoted-requires : tie.Need-quoted-requires
+quoted-requires c κs = search needs
 
 cast-number : tie.Need-cast-number
 cast-number c = search needs
@@ -38,11 +39,8 @@ number-requires-2 c κs = search needs
 lock-requires : tie.Need-lock-requires
 lock-requires c κs = search needs
 
-slice-aggregate-put-2 : tie.Need-slice-aggregate-put-2
-slice-aggregate-put-2 c = search needs
-
-put-requires-2 : tie.Need-put-requires-2
-put-requires-2 c κs = search needs
+byte-requires : tie.Need-byte-requires
+byte-requires c κs = search needs
 
 same-length : tie.Need-same-length
 same-length c = search needs
@@ -57,13 +55,12 @@ part-spec =
     slice-aggregate-put
     put-requires
     stored-requires
-    field-requires
+    quoted-requires
     cast-number
     number-requires
     end-of-requires
     number-requires-2
     lock-requires
-    slice-aggregate-put-2
-    put-requires-2
+    byte-requires
     same-length
     returns)

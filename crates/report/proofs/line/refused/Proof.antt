@@ -5,6 +5,7 @@ use Rattle.report.proofs.line.refused.Tie as tie
 use Rattle.report.proofs.line.refused.Reads as reads
 use Rattle.report.proofs.line.refused.Lts as lts
 use Rattle.page.proofs.number.Reads as number-reads
+use Rattle.page.proofs.byte.Reads as byte-reads
 use Rattle.page.proofs.put.Reads as put-reads
 
 slice-aggregate-put : tie.Need-slice-aggregate-put
@@ -22,11 +23,8 @@ number-requires-2 c κs = search needs
 number-requires-3 : tie.Need-number-requires-3
 number-requires-3 c κs = search needs
 
-slice-aggregate-put-2 : tie.Need-slice-aggregate-put-2
-slice-aggregate-put-2 c = search needs
-
-put-requires-2 : tie.Need-put-requires-2
-put-requires-2 c κs = search needs
+byte-requires : tie.Need-byte-requires
+byte-requires c κs = search needs
 
 same-length : tie.Need-same-length
 same-length c = search needs
@@ -43,7 +41,6 @@ refused-spec =
     number-requires
     number-requires-2
     number-requires-3
-    slice-aggregate-put-2
-    put-requires-2
+    byte-requires
     same-length
     returns)

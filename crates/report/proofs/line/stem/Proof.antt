@@ -12,11 +12,8 @@ put-requires c κs = search needs
 text-requires : tie.Need-text-requires
 text-requires c κs = search needs
 
-slice-aggregate-put-2 : tie.Need-slice-aggregate-put-2
-slice-aggregate-put-2 c = search needs
-
-put-requires-2 : tie.Need-put-requires-2
-put-requires-2 c κs = search needs
+byte-requires : tie.Need-byte-requires
+byte-requires c κs = search needs
 
 same-length : tie.Need-same-length
 same-length c = search needs
@@ -31,7 +28,6 @@ stem-spec =
     slice-aggregate-put
     put-requires
     text-requires
-    slice-aggregate-put-2
-    put-requires-2
+    byte-requires
     same-length
     returns)
