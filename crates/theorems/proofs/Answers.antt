@@ -93,7 +93,7 @@ plan-is-shown text name app key store tree store' tree' r x h e =
     let k = accepted-one x (record { read = x .read; plan = s .0 }) (sym e ∙ s .1) in
     subst (λ (q : meant.Plan). Composed name store' tree' app key (x .read .parsed .made) q) (sym (ap (λ (y : meant.Planned). y .plan) k)) (s .3)
 
-lists-of : (a : Answer meant-listing.Listed) (out out' : List ℕ) (r : Listed) → r ≡ listedBy a → out' ≡ outputAfter (λ l. l .lines) out a → Lists a out out' r
+lists-of : (a : Answer meant-listing.Listed) (out out' : List ℕ) (r : Listed) → r ≡ listedBy a → out' ≡ outputAfter meant-listing.bytesOf out a → Lists a out out' r
 lists-of (accepted l) out out' r e d = (e, d)
 lists-of (refused f section place) out out' r e d = (e, d)
 

@@ -5,6 +5,9 @@ pub mod NeverMet
 pub mod AcceptedLayout
 pub mod AcceptedComponents
 pub mod Listing
+pub mod Joined
+pub mod Pieces
+pub mod Printed
 pub mod Decoding
 pub mod FixedWords
 pub mod Places

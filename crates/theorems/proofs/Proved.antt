@@ -8,6 +8,7 @@ use Rattle.theorems.proofs.NeverMet.{never-met, each-numbered}
 use Rattle.theorems.proofs.AcceptedLayout as layouts
 use Rattle.theorems.proofs.AcceptedComponents.{accepted-components}
 use Rattle.theorems.proofs.Listing.{listing-fits}
+use Rattle.theorems.proofs.Printed as prints
 use Rattle.theorems.proofs.Refusals as refusals
 use Rattle.theorems.proofs.Demand3 as demands
 use Rattle.theorems.proofs.PassedPreset.{passed}
@@ -65,5 +66,17 @@ proved =
             refused-first = refusals.refused-first;
             refused-then = refusals.refused-then;
             accepted-anywhere = demands.accepted-anywhere;
+          };
+      printing =
+          record {
+            page-reads-back = prints.page-reads-back;
+            line-reads-back = prints.line-reads-back;
+            pages-only = prints.pages-only;
+            lines-only = prints.lines-only;
+            lines-apart = prints.lines-apart;
+            pages-apart = prints.pages-apart;
+            unquoted = prints.unquoted;
+            quoted-string = prints.quoted-string;
+            equal-lines = prints.equal-lines;
           };
     }

@@ -81,12 +81,12 @@ PlanIsShown = (text name : List ℕ) (app : ℕ) (key store tree store' tree' : 
 -- ---- the listing; out is the output before the call, out' after it
 
 abbrev pub linesOf : meant-listing.Listed → List ℕ
-linesOf l = l .lines
+linesOf l = meant-listing.bytesOf l
 
 -- number 0 and the bytes written, with the lines at the head of the output and the rest of it as it was; or the refusal
 abbrev pub Lists : Answer meant-listing.Listed → List ℕ → List ℕ → Listed → Type 0
 Lists (accepted l) out out' r =
-    (r ≡ record { number = 0; section = 0; place = 0; written = length (l .lines) })
+    (r ≡ record { number = 0; section = 0; place = 0; written = length (meant-listing.bytesOf l) })
     × (out' ≡ outputAfter linesOf out (accepted l))
 Lists (refused f section place) out out' r =
     (r ≡ record { number = numberOf f; section = section; place = place; written = 0 })

@@ -5,6 +5,8 @@ pub mod NeverMet
 pub mod AcceptedLayout
 pub mod AcceptedComponents
 pub mod Listing
+pub mod PageReader
+pub mod Printed
 pub mod Decoding
 pub mod Views
 pub mod PassedPreset

@@ -5,9 +5,9 @@ use mathlib.Core.Path.{_≡_}
 use lib.ListN.{length}
 use Rattle.meaning.specs.Limits.{of01}
 use Rattle.meaning.specs.Refusal.{accepted}
-use Rattle.meaning.specs.Listing.{Listed, listing, outSize}
+use Rattle.meaning.specs.Listing.{Listed, bytesOf, listing, outSize}
 
 -- for every lent name and text, whatever the rooms
 abbrev pub ListingFits : Type 0
 ListingFits = (store tree out : ℕ) (name text : List ℕ) (l : Listed)
-    → listing of01 store tree out name text ≡ accepted l → length (l .lines) ≤ outSize name
+    → listing of01 store tree out name text ≡ accepted l → length (bytesOf l) ≤ outSize name

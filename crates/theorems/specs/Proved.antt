@@ -14,6 +14,8 @@ use Rattle.theorems.specs.Demand3.{PlanIsSmall, PlainNameIsFound, TextMe
 use Rattle.theorems.specs.Demand3.{TextRefusedByValidation, TextAlwaysRefusedFor80And81}
 use Rattle.theorems.specs.Demand3.{AcceptedInAllLargeRooms}
 use Rattle.theorems.specs.Listing.{ListingFits}
+use Rattle.theorems.specs.Printed.{PageReadsBack, LineReadsBack, PageReaderTakesPagesOnly, LineReaderTakesLinesOnly}
+use Rattle.theorems.specs.Printed.{LinesPrintApart, PagesPrintApart, UnquotedIsTheText, QuotedIsAString, EqualListingsHaveEqualLines}
 
 -- what the functions answer
 pub record Answering : Type 0 where
@@ -103,8 +105,30 @@ pub record Planning : Type 0 where
   -- what is accepted in some rooms is accepted in all that are large enough
   pub accepted-anywhere : AcceptedInAllLargeRooms
 
+-- what is printed says which fields were printed (W-203)
+pub record Printing : Type 0 where
+  -- a printed page is read back as its lines
+  pub page-reads-back : PageReadsBack
+  -- and a printed line as its fields
+  pub line-reads-back : LineReadsBack
+  -- the reader takes what some lines print and nothing else
+  pub pages-only : PageReaderTakesPagesOnly
+  -- and that of a line what some fields print
+  pub lines-only : LineReaderTakesLinesOnly
+  -- two different lists of fields never print alike
+  pub lines-apart : LinesPrintApart
+  -- nor do two different lists of lines
+  pub pages-apart : PagesPrintApart
+  -- the old mode's string rules give every quoted text back, whatever follows it
+  pub unquoted : UnquotedIsTheText
+  -- a quoted text is one whole string of the old mode
+  pub quoted-string : QuotedIsAString
+  -- two listings of the same bytes have the same lines
+  pub equal-lines : EqualListingsHaveEqualLines
+
 pub record Proved : Type 0 where
   pub answering : Answering
   pub viewing : Viewing
   pub accepting : Accepting
   pub planning : Planning
+  pub printing : Printing
