@@ -145,11 +145,11 @@ pub both-listed :
     (lined (first "" ++ second "locked = true" ++ loaded)))
     ≡ lined (
     "ok d13x spi-nor 2 1 0 15"
-    ∷ "part a 0 4096 open"
-    ∷ "part b 4096 8192 locked"
-    ∷ "comp x raw a"
-    ∷ "build p 0"
-    ∷ "stem board"
+    ∷ "part \"a\" 0 4096 open"
+    ∷ "part \"b\" 4096 8192 locked"
+    ∷ "comp \"x\" raw \"a\""
+    ∷ "build \"p\" 0"
+    ∷ "stem \"board\""
     ∷ []
     )
 unfolding computes

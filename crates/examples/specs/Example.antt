@@ -161,16 +161,16 @@ pub example-preset : whole.read of01 32768 65536 (ascii "board") example
 unfolding whole.computes
 example-preset = refl
 
--- "Output", byte for byte; by W-206 with ` open` behind each `part` line
+-- "Output", byte for byte; by W-206 with ` open` behind each `part` line, by W-203 with the texts in double quotes
 pub example-listing : printed (listing of01 32768 65536 (outSize (ascii "board")) (ascii "board") example)
     ≡ lined (
     "ok d13x spi-nor 2 1 1 21"
-    ∷ "part boot 0 262144 open"
-    ∷ "part profiles 262144 1310720 open"
-    ∷ "comp first app boot;mtd"
-    ∷ "app desk desk profiles"
-    ∷ "build loader 0"
-    ∷ "stem loader"
+    ∷ "part \"boot\" 0 262144 open"
+    ∷ "part \"profiles\" 262144 1310720 open"
+    ∷ "comp \"first\" app \"boot;mtd\""
+    ∷ "app \"desk\" \"desk\" \"profiles\""
+    ∷ "build \"loader\" 0"
+    ∷ "stem \"loader\""
     ∷ []
     )
 unfolding listings.computes

@@ -9,3 +9,4 @@ pub mod CornersRecords
 pub mod CornersRules
 pub mod CornersPlan
 pub mod CornersLocks
+pub mod CornersNames
