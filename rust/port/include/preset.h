@@ -13,9 +13,9 @@ extern "C" {
 #endif
 
 /* The version of this header and of the crate `preset`. */
-#define PRESET_VERSION "0.2.0"
+#define PRESET_VERSION "0.3.0"
 #define PRESET_VERSION_MAJOR 0
-#define PRESET_VERSION_MINOR 2
+#define PRESET_VERSION_MINOR 3
 #define PRESET_VERSION_PATCH 0
 
 /* The longest text. */
@@ -26,7 +26,7 @@ extern "C" {
 #define PRESET_STORE_MIN 32768
 #define PRESET_TREE_MIN (2048 * PRESET_VALUE_SIZE)
 #define PRESET_SCRATCH_MIN 32769
-#define PRESET_OUT_MIN(name_length) (73984 + (name_length))
+#define PRESET_OUT_MIN(name_length) (142848 + 2 * (size_t)(name_length))
 /* Enough for every fixed word. */
 #define PRESET_WORD_MIN 32
 /* The number of the fixed word `.aic`. */
@@ -109,8 +109,9 @@ preset_outcome preset_validate(const uint8_t *text, size_t text_n, const uint8_t
 preset_outcome preset_plan(const uint8_t *text, size_t text_n, const uint8_t *name, size_t name_n,
                            uint32_t app, const uint8_t *key, size_t key_n,
                            uint8_t *store, size_t store_n, uint8_t *tree, size_t tree_n);
-/* Plans the boot chain and writes 01's lines at the head of out, which has PRESET_OUT_MIN(name_n) bytes or more;
-   after them it is as it was. Refuses as preset_validate does. */
+/* Plans the boot chain and writes 01's lines, names in quotes, at the head of out, which has PRESET_OUT_MIN(name_n)
+   bytes or more; after them it is as it was. Refuses as preset_validate does, and any name with 17 for which
+   PRESET_OUT_MIN reaches 2^32. */
 preset_listed preset_listing(const uint8_t *text, size_t text_n, const uint8_t *name, size_t name_n,
                              uint8_t *store, size_t store_n, uint8_t *tree, size_t tree_n,
                              uint8_t *out, size_t out_n);

@@ -15,9 +15,9 @@ pub struct Listed {
     pub written: u32,
 }
 
-/// The least output that `listing` takes for a name that is lent.
+/// The least output that `list` takes for a name that is lent: each byte of it may be printed as two.
 pub fn out_min(name: &[u8]) -> usize {
-    73_984 + name.len()
+    142_848 + 2 * name.len()
 }
 
 mod sys {
@@ -39,8 +39,8 @@ mod sys {
     }
 }
 
-/// Plans a preset's boot chain and writes its lines at the head of `out`, which stays as it is after
-/// them. A refusal leaves all three rooms zero.
+/// Plans a preset's boot chain and writes its lines, names in quotes, at the head of `out`, which stays
+/// as it is after them. A refusal leaves all three rooms zero.
 pub fn list(text: &[u8], name: &[u8], store: &mut [u8], tree: &mut [u8], out: &mut [u8]) -> Listed {
     let (to, room) = (store.as_mut_ptr(), store.len());
     let (slots, places) = (tree.as_mut_ptr(), tree.len());

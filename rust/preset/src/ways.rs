@@ -90,14 +90,15 @@ impl Preset {
     }
 
     /// 01's listing of a text that obeys the rules, with the plan of its boot chain: refuses with
-    /// 1 to 70. Names stand in it as their bytes.
+    /// 1 to 70. Names stand in it in quotes, with five escapes and else as their bytes.
     ///
     /// ```
     /// use preset::Preset;
     ///
     /// let text = std::fs::read("../../presets/example.toml").unwrap();
     /// let listing = Preset::listing(&text, b"example").unwrap();
-    /// assert!(listing.starts_with(b"ok d13x spi-nor 2 1 1 21\npart boot 0 262144 open\n"));
+    /// let head = "ok d13x spi-nor 2 1 1 21\npart \"boot\" 0 262144 open\n";
+    /// assert!(listing.starts_with(head.as_bytes()));
     /// ```
     pub fn listing(text: &[u8], name: &[u8]) -> Result<Vec<u8>, Refusal> {
         use port::listing::{list, out_min};

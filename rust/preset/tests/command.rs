@@ -508,7 +508,7 @@ fn help_and_version() {
     }
     assert_eq!(preset(&["map", "--help"]), help);
     assert!(help.out.lines().all(|line| line.len() < 80));
-    assert_eq!(preset(&["--version"]), accepted("preset 0.2.0\n"));
+    assert_eq!(preset(&["--version"]), accepted("preset 0.3.0\n"));
 }
 
 const BOARD: &str =

@@ -68,12 +68,12 @@ fn locks_are_kept() {
     let listing = String::from_utf8(listing).expect("UTF-8");
     let lines: Vec<&str> = listing.lines().filter(|l| l.starts_with("part ")).collect();
     let want = [
-        "part boot 0 262144 open",
-        "part env 262144 270336 open",
-        "part calib 270336 524288 locked",
-        "part profiles 524288 2621440 open",
-        "part trims 2621440 3670016 open",
-        "part logs 3932160 4194304 open",
+        "part \"boot\" 0 262144 open",
+        "part \"env\" 262144 270336 open",
+        "part \"calib\" 270336 524288 locked",
+        "part \"profiles\" 524288 2621440 open",
+        "part \"trims\" 2621440 3670016 open",
+        "part \"logs\" 3932160 4194304 open",
     ];
     assert_eq!(lines, want);
 }
@@ -231,8 +231,55 @@ fn lent_names() {
     assert_eq!(name(b""), "");
     assert_eq!(name("é".as_bytes()), "é");
     assert_eq!(name(&[b'x'; 70_000]).len(), 70_000);
-    let listing = Preset::listing(PRESETS[0].as_bytes(), &[b'x'; 70_000]);
-    assert!(listing.expect("lines").ends_with(b"stem loader\n"));
+    let listing = |text: &str, name: &[u8]| {
+        let lines = Preset::listing(text.as_bytes(), name).expect("lines");
+        String::from_utf8(lines).expect("UTF-8")
+    };
+    let lines = listing(PRESETS[0], &[b'x'; 70_000]);
+    assert!(lines.ends_with("\nstem \"loader\"\n"));
+    // each byte of it is printed as two
+    let raw = PRESETS[0].replace("\"app\"", "\"raw\"");
+    let (lines, stem) = (listing(&raw, &[b'\t'; 70_000]), "\\t".repeat(70_000));
+    assert!(lines.ends_with(&format!("\nstem \"{stem}\"\n")));
+}
+
+// A partition with a space in its name, one that is called like an absent one, and a component that goes nowhere.
+const SHELF: &str = r#"
+[[partition]]
+name = "head data"
+offset = 0
+size = 0x40000
+[[partition]]
+name = "-"
+offset = 0x40000
+size = 0x100000
+[[component]]
+name = "first"
+package = "loader"
+kind = "app"
+partition = "head data;mtd"
+[[component]]
+name = "second"
+file = "second.bin"
+partition = "-"
+[[component]]
+name = "ram"
+file = "ram.bin"
+updater = true
+ram = 0
+[apps.desk]
+partition = "-"
+"#;
+
+// What the document for those who read listings shows, before names were quoted and now.
+#[test]
+fn listings_are_as_the_document_shows_them() {
+    let paper = include_str!("../../../docs/MIGRATION.md");
+    let lines = Preset::listing(SHELF.as_bytes(), b"n").expect("lines");
+    let lines = String::from_utf8(lines).expect("UTF-8");
+    for shown in [lines.replace('"', ""), lines] {
+        assert!(paper.contains(&format!("```text\n{shown}```")), "{shown}");
+    }
 }
 
 // All that is unsafe is in the port, where each block has its reason right above it.

@@ -306,7 +306,7 @@ fn many() {
 fn texts_of_every_sort() {
     let mut r = Rng::new(11);
     let mut met = 0;
-    for _ in 0..300 {
+    for _ in 0..400 {
         let text = mixed::text(&mut r);
         let mut last = 0;
         for key in keys(&text).take(2) {
