@@ -4,6 +4,7 @@ pub mod large;
 pub mod listing;
 pub mod locks;
 pub mod mixed;
+pub mod names;
 pub mod plan;
 pub mod random;
 pub mod records;

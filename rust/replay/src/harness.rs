@@ -4,6 +4,7 @@ pub mod differences;
 pub mod faults;
 pub mod met;
 pub mod rooms;
+pub mod split;
 pub mod stack;
 pub mod suite;
 pub mod vector;

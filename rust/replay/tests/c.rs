@@ -176,7 +176,10 @@ fn structs_are_laid_out_alike() {
         ("PRESET_VALUE_SIZE", value::SLOT),
         ("PRESET_TREE_MIN", value::TREE_MIN),
         ("PRESET_SCRATCH_MIN", text::SCRATCH_MIN),
+        ("PRESET_OUT_MIN(0)", listing::out_min(b"")),
         ("PRESET_OUT_MIN(5)", listing::out_min(b"board")),
+        // the first that is 17 for its length, in a number that twice of it would not fit
+        ("PRESET_OUT_MIN(2147412224u)", 1 << 32),
         ("PRESET_WORD_MIN", records::WORD_MIN),
         ("PRESET_WORD_AIC", fixed(b".aic")),
         ("PRESET_ROOT", document::ROOT.into()),

@@ -54,8 +54,10 @@ fn texts(seed: u64, count: usize) -> Vec<Vec<u8>> {
 // length is of whole pages with two of the names.
 #[test]
 fn exact_rooms() {
-    for (name, ending) in [(0, true), (4_096, true), (5, true), (5, false)] {
+    for (name, ending) in [(256, true), (2_304, true), (5, true), (5, false)] {
         let name = &vec![b'n'; name];
+        let [_, _, out] = least(name);
+        assert_eq!(out % 4_096 == 0, name.len() > 5, "{out}");
         let mut bench = Bench::new(least(name), ending, MOST);
         for text in &texts(31, 300) {
             let key = KEY;

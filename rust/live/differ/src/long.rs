@@ -4,9 +4,8 @@ pub mod answers;
 use crate::run::Run;
 use crate::run::sides::Sides;
 use crate::{document, listing, plan, records, validate};
-use replay::generators::mixed;
 use replay::generators::random::Rng;
-use replay::generators::records::random::name;
+use replay::generators::{mixed, names};
 use replay::harness::met::Met;
 
 /// A text through every function that starts from one.
@@ -37,7 +36,7 @@ impl Default for All {
 
 impl Sides for All {
     fn make(&mut self, r: &mut Rng) -> Vec<u8> {
-        self.name = name(r);
+        self.name = names::lent(r);
         mixed::text(r)
     }
 

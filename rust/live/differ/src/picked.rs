@@ -5,8 +5,8 @@ use replay::harness::vector::document::Parts;
 pub type Fixed = &'static [(&'static [u8], usize)];
 
 /// Texts in one part each.
-pub fn plain(texts: &[&str]) -> Vec<Parts> {
-    texts.iter().map(|text| whole(text)).collect()
+pub fn plain(texts: &[impl AsRef<str>]) -> Vec<Parts> {
+    texts.iter().map(|text| whole(text.as_ref())).collect()
 }
 
 /// The same of texts that are written in pieces.

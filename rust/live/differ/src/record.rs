@@ -2,6 +2,7 @@
 use crate::picked::plain;
 use crate::records::compare::{Answers, Question, answers};
 use crate::{corners, document, listing, original, plan, records, validate, value};
+use replay::generators::names;
 use replay::generators::plan::keys::Answered;
 use replay::generators::random::Rng;
 use replay::harness::vector::document::{Parts, joined};
@@ -175,7 +176,7 @@ pub const PLAN: Record = Record {
     ],
     picked: plan::corners::picked,
     seed: 23,
-    random: 30,
+    random: 40,
     make: replay::generators::plan::random::text,
     lengths: 150..=700,
     within: |_| true,
@@ -185,11 +186,14 @@ pub const PLAN: Record = Record {
 pub const LISTING: Record = Record {
     file: "listing.txt",
     asked: || {
-        let corners = listing::corners::CORNERS.len();
+        let (corners, odd) = (
+            listing::corners::CORNERS.len(),
+            listing::corners::odd().len(),
+        );
         format!(
-            "Preset::parse and plan, the lines that 01 prints of preset and plan or the number of the message, \
-             to {corners} picked presets, those of plan.txt and validate.txt, the limits of document.txt and \
-             records.txt"
+            "Preset::parse and plan, the lines that 01 prints of preset and plan, with names in quotes, or the number \
+             of the message, to {corners} picked presets, {odd} with odd names, those of plan.txt and validate.txt, \
+             the limits of document.txt and records.txt"
         )
     },
     notes: &[
@@ -205,10 +209,11 @@ pub const LISTING: Record = Record {
     within: |_| true,
     lines: |t| {
         let text = joined(t);
-        let listed = listing::compare::listed(&text, lent(&text));
+        let name = names::nth_lent(text.len());
+        let listed = listing::compare::listed(&text, name);
         let listed = listed.unwrap_or_else(|e| panic!("{}: {e}", text.escape_ascii()));
         vec![replay::harness::vector::listing::write(
-            lent(&text),
+            name,
             t,
             &listed.told,
         )]

@@ -4,18 +4,36 @@ use differ::record::LISTING;
 use differ::run::Run;
 use replay::generators::plan::cases::CASES;
 use replay::generators::random::Rng;
-use replay::generators::records::random::NAMES;
 use replay::generators::validate::spelled;
+use replay::generators::{large, names};
 use replay::harness::vector::document as vector;
 
 #[test]
 fn corners() {
     let mut judge = Judge::default();
     for (i, text) in LISTING.texts().enumerate() {
-        judge.name = NAMES[i % NAMES.len()].to_vec();
+        judge.name = names::nth_lent(i).to_vec();
         judge.check(&vector::joined(&text));
     }
     assert_eq!(judge.met.unmet(), [80, 81], "{}", judge.met.summary());
+}
+
+// Each name lent to a preset whose stem it is, and the longest lines there are.
+#[test]
+fn odd_names() {
+    let mut judge = Judge::default();
+    let text = large::escaped();
+    let raw = text.replace("\"app\"", "\"raw\"");
+    for text in [text, large::long_names(false), large::long_names(true)] {
+        judge.check(text.as_bytes());
+    }
+    for n in 0..100 {
+        judge.name = names::nth_lent(n).to_vec();
+        judge.check(raw.as_bytes());
+    }
+    judge.name = vec![b'\\'; 20_000];
+    judge.check(raw.as_bytes());
+    assert_eq!(judge.met.of(0), 104, "{}", judge.met.summary());
 }
 
 #[test]

@@ -1,15 +1,15 @@
 //! Calls every function that starts from a text, with texts, names and rooms that are heap blocks of their
 //! exact lengths. Run under valgrind (`rust/valgrind`), which sees every byte read or written beside them.
 use port::text::TEXT_MAX;
-use replay::generators::mixed;
 use replay::generators::random::Rng;
-use replay::generators::records::random::{EXAMPLES, NAMES};
+use replay::generators::records::random::EXAMPLES;
+use replay::generators::{large, mixed, names};
 use replay::harness::faults::{FUNCTIONS, Input, least};
 
 fn main() {
     let (mut calls, mut accepted) = (0, 0);
     for (n, text) in texts().iter().enumerate() {
-        let name = NAMES[n % NAMES.len()].to_vec().into_boxed_slice();
+        let name = names::nth_lent(n).to_vec().into_boxed_slice();
         let key = b"desk".to_vec().into_boxed_slice();
         for function in FUNCTIONS {
             for short in [None, Some(n % function.rooms)] {
@@ -35,7 +35,8 @@ fn main() {
     println!("{calls} calls, {accepted} accepted");
 }
 
-// The examples, parts of the first, texts at the limit and over it, bytes, and random ones of all sorts.
+// The examples, parts of the first, texts at the limit and over it, the longest listing, bytes, and random ones of all
+// sorts.
 fn texts() -> Vec<Box<[u8]>> {
     let mut r = Rng::new(41);
     let mut all: Vec<Vec<u8>> = EXAMPLES.map(|text| text.into()).into();
@@ -44,6 +45,7 @@ fn texts() -> Vec<Box<[u8]>> {
     all.extend(parts.map(|end| first[..end].to_vec()));
     let filled = |length| [first, &vec![b'#'; length - first.len()]].concat();
     all.extend([TEXT_MAX, TEXT_MAX + 1].map(filled));
+    all.push(large::escaped().into_bytes());
     all.push((0..TEXT_MAX).map(|_| r.draw() as u8).collect());
     all.extend((0..400).map(|_| mixed::text(&mut r)));
     all.into_iter().map(Vec::into_boxed_slice).collect()

@@ -80,6 +80,38 @@ fn features(i: usize) -> String {
     }
 }
 
+/// As many entries, with names of 32 letters, or of 32 bytes that are all printed as two.
+pub fn long_names(escaped: bool) -> String {
+    let (end, pair) = if escaped {
+        ("\\\"", ["\t", "\r"])
+    } else {
+        ("n", ["a", "b"])
+    };
+    let long = |i: usize| {
+        let bits = (0..30).map(|k| pair[i >> (k % 7) & 1]);
+        [end, &bits.collect::<String>(), end].concat()
+    };
+    let partitions = (0..32).map(|i| partition(&long(i), i));
+    let components = (0..64).map(|i| {
+        let (name, part) = (long(i), long(i % 32));
+        format!("[[component]]\nname = \"{name}\"\npackage = \"{name}\"\npartition = \"{part}\"\n")
+    });
+    let apps = (0..64).map(|i| {
+        let (key, part) = (long(64 + i), long(i % 32));
+        format!("[apps.\"{key}\"]\npartition = \"{part}\"\n")
+    });
+    partitions.chain(components).chain(apps).collect()
+}
+
+/// The preset with the longest listing: all of the text that can be is a package of TABs, which stand there as they are
+/// and are printed as two bytes each, in a build and once more as the stem.
+pub fn escaped() -> String {
+    let before = "[[partition]]\nname=\"a\"\noffset=0\nsize=4096\n\
+                  [[component]]\nname=\"\"\nkind=\"app\"\npartition=\"a\"\npackage=\"";
+    let package = "\t".repeat(TEXT_MAX - before.len() - 1);
+    format!("{before}{package}\"")
+}
+
 /// A text and a comment after it, up to the longest that is read.
 pub fn commented(text: &str) -> String {
     let dashes = "-".repeat(TEXT_MAX - text.len() - 2);

@@ -2,11 +2,11 @@
 use super::random::Rng;
 use super::records::random::EXAMPLES;
 use super::validate::spelled;
-use super::{document, plan, records, validate};
+use super::{document, names, plan, records, validate};
 
 /// A text for every function that starts from one.
 pub fn text(r: &mut Rng) -> Vec<u8> {
-    match r.below(20) {
+    match r.below(22) {
         0..=4 => document::text(r),
         5..=8 => records::random::text(r),
         9..=12 => validate::random::text(r),
@@ -14,6 +14,11 @@ pub fn text(r: &mut Rng) -> Vec<u8> {
         16..=17 => bitten(r, EXAMPLES[0].as_bytes().to_vec()),
         18 => {
             let text = r.pick(&EXAMPLES).as_bytes().to_vec();
+            bitten(r, text)
+        }
+        19 => names::text(r),
+        20 => {
+            let text = names::text(r);
             bitten(r, text)
         }
         _ => {

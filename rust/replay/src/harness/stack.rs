@@ -234,8 +234,13 @@ fn texts() -> Vec<Text> {
     assert_eq!(keys.len(), 64, "applications of the fullest");
     *keys = keys.iter().step_by(stride()).cloned().collect();
     let full = large::full();
-    let others: [(_, String); 8] = [
+    let others: [(_, String); 10] = [
         ("all lists full", full.clone()),
+        (
+            "all lists full, with long names to escape",
+            large::long_names(true),
+        ),
+        ("the longest listing", large::escaped()),
         ("the same in the longest text", large::commented(&full)),
         ("all lists full, of one package", large::shared()),
         ("lists 16 deep in a full preset", large::deep(300) + &full),

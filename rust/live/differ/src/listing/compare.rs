@@ -5,9 +5,8 @@ use crate::plan::compare::PLAN;
 use crate::records::compare::answer;
 use crate::run::sides::Sides;
 use crate::shorten::shortest_difference;
-use replay::generators::listing as random;
 use replay::generators::random::Rng;
-use replay::generators::records::random::name;
+use replay::generators::{listing as random, names};
 use replay::harness::ask::listing::{Host, Lines, rows};
 use replay::harness::ask::records::differing;
 use replay::harness::met::Met;
@@ -90,7 +89,7 @@ impl Judge {
 
 impl Sides for Judge {
     fn make(&mut self, r: &mut Rng) -> Vec<u8> {
-        self.name = name(r);
+        self.name = names::lent(r);
         random::text(r)
     }
 

@@ -1,7 +1,8 @@
 //! Presets whose lines are easily printed wrong.
-use crate::picked::{fixed, pieced};
+use crate::picked::{fixed, pieced, plain};
 use crate::validate::corners::{A, B, K, X, Y};
 use crate::{document, plan, records, validate};
+use replay::generators::names;
 use replay::harness::vector::document::Parts;
 
 // An updater that goes nowhere, and the last block of all.
@@ -106,9 +107,18 @@ pub const CORNERS: &[&[&str]] = &[
     &["\"a.b\" = 1\n", A, X],
 ];
 
-/// The corners, those of planning and validation, and the limits of texts and lists.
+/// Presets with one odd name in all places, one for each; of every other one it is the package that is the stem.
+pub fn odd() -> Vec<Parts> {
+    let each = names::all().into_iter().enumerate();
+    let texts: Vec<_> = each
+        .map(|(i, name)| names::everywhere(&name, i % 2 == 0).0)
+        .collect();
+    plain(&texts)
+}
+
+/// The corners, odd names, those of planning and validation, and the limits of texts and lists.
 pub fn picked() -> Vec<Parts> {
-    let own = pieced(CORNERS).into_iter();
+    let own = pieced(CORNERS).into_iter().chain(odd());
     let limits = fixed(document::corners::LIMITS);
     let lists = fixed(records::corners::LIMITS);
     let rules = plan::corners::picked()

@@ -29,26 +29,60 @@ fn written(out: &mut String, p: &Preset, plan: &ImagePlan, made: usize) -> std::
     )?;
     for part in &plan.partitions {
         let end = u64::from(part.offset) + u64::from(part.size);
-        // it has all fields but the last word, and is asked about presets without locks: no name need be told from that
-        writeln!(out, "part {} {} {end} open", part.name, part.offset)?;
+        quoted(out, "part ", &part.name);
+        // it has all fields but the last word, and is asked about presets without locks
+        writeln!(out, " {} {end} open", part.offset)?;
     }
     for PlannedComponent { spec, .. } in &plan.components {
         let kind = match spec.kind {
-            ComponentKind::App => "app",
-            ComponentKind::Pbp => "pbp",
-            ComponentKind::Raw => "raw",
+            ComponentKind::App => " app",
+            ComponentKind::Pbp => " pbp",
+            ComponentKind::Raw => " raw",
         };
-        writeln!(out, "comp {} {kind} {}", spec.name, dashed(&spec.partition))?;
+        quoted(out, "comp ", &spec.name);
+        out.push_str(kind);
+        reference(out, &spec.partition);
     }
     for (key, app) in &p.apps {
-        writeln!(out, "app {key} {} {}", app.name, dashed(&app.partition))?;
+        quoted(out, "app ", key);
+        quoted(out, " ", &app.name);
+        reference(out, &app.partition);
     }
     for build in &plan.required_builds {
-        writeln!(out, "build {} {}", build.package, build.features.len())?;
+        quoted(out, "build ", &build.package);
+        writeln!(out, " {}", build.features.len())?;
     }
-    writeln!(out, "stem {}", plan.stem)
+    quoted(out, "stem ", &plan.stem);
+    writeln!(out)
 }
 
-fn dashed(reference: &str) -> &str {
-    if reference.is_empty() { "-" } else { reference }
+// At the end of a line; none is a dash.
+fn reference(out: &mut String, partition: &str) {
+    match partition {
+        "" => out.push_str(" -"),
+        _ => quoted(out, " ", partition),
+    }
+    out.push('\n');
+}
+
+// The original prints no quotes: its names go in as they are up to each byte that is escaped.
+fn quoted(out: &mut String, before: &str, name: &str) {
+    let mut from = 0;
+    out.push_str(before);
+    out.push('"');
+    for (at, byte) in name.bytes().enumerate() {
+        let escape = match byte {
+            b'\n' => r"\n",
+            b'\r' => r"\r",
+            b'\t' => r"\t",
+            b'\\' => r"\\",
+            b'"' => r#"\""#,
+            _ => continue,
+        };
+        out.push_str(&name[from..at]);
+        out.push_str(escape);
+        from = at + 1;
+    }
+    out.push_str(&name[from..]);
+    out.push('"');
 }

@@ -1,4 +1,5 @@
 //! Random presets to plan: sound ones, changed in what plans go by.
+use crate::generators::names::renamed;
 use crate::generators::random::Rng;
 use crate::generators::validate::near::{Near, drawn, wants};
 use crate::generators::validate::plain::{app, insert, nth_app, open, texts};
@@ -30,7 +31,7 @@ pub fn preset(r: &mut Rng) -> Preset {
 }
 
 /// Changes that break no rule.
-pub const CHANGES: [Near; 8] = [
+pub const CHANGES: [Near; 9] = [
     named_alike,
     shared,
     unplaced,
@@ -39,6 +40,7 @@ pub const CHANGES: [Near; 8] = [
     files,
     other_paths,
     references,
+    renamed,
 ];
 
 /// A component's kinds.

@@ -125,7 +125,8 @@ impl Lines<'_> {
     }
 
     fn text(&mut self, key: &str, value: &str) {
-        self.put(key, quoted(value));
+        let spelled = any_quoted(self.r, value);
+        self.put(key, spelled);
     }
 
     // Mostly left out, where that means the same.
@@ -186,9 +187,15 @@ impl Lines<'_> {
 }
 
 pub(crate) fn quoted(s: &str) -> String {
+    partly_quoted(s, &[])
+}
+
+// With those characters as they are.
+fn partly_quoted(s: &str, raw: &[char]) -> String {
     let mut out = String::from("\"");
     for c in s.chars() {
         match c {
+            _ if raw.contains(&c) => out.push(c),
             '"' | '\\' => out.extend(['\\', c]),
             '\n' => out.push_str("\\n"),
             '\t' => out.push_str("\\t"),
@@ -197,6 +204,22 @@ pub(crate) fn quoted(s: &str) -> String {
         }
     }
     out + "\""
+}
+
+// TABs and line ends as they are or by their escapes: on a new line a `#` begins a remark, and a CR at the end of one
+// is dropped.
+fn any_quoted(r: &mut Rng, s: &str) -> String {
+    if !s.contains(['\t', '\n', '\r']) {
+        return quoted(s);
+    }
+    let raw: &[char] = match r.below(5) {
+        0 | 1 => &[],
+        2 => &['\t', '\r'],
+        3 if !s.contains('#') && !s.contains("\r\n") => &['\t', '\n', '\r'],
+        _ if !s.contains('#') => &['\n'],
+        _ => &['\t'],
+    };
+    partly_quoted(s, raw)
 }
 
 // A key as it is, or in quotes where it must be.
@@ -210,9 +233,11 @@ pub(crate) fn segment(s: &str) -> String {
 }
 
 fn key(r: &mut Rng, s: &str) -> String {
-    match r.below(4) {
-        0 => quoted(s),
-        _ => segment(s),
+    let bare = segment(s);
+    if r.below(4) > 0 && bare == s {
+        bare
+    } else {
+        any_quoted(r, s)
     }
 }
 

@@ -28,7 +28,7 @@ const MORE: usize = 1_357;
 
 impl Default for Host {
     fn default() -> Self {
-        let most = out_min(b"") + NAME_ROOM;
+        let most = out_min(&[0; NAME_ROOM]);
         Host {
             text: Fenced::new(TEXT_ROOM),
             name: Fenced::new(NAME_ROOM),

@@ -24,7 +24,8 @@ const PARTS: [(&str, fn()); 10] = [
         presets(&presets::WHOLE, presets::WHOLE_NOTE);
     }),
     ("listing", || {
-        presets(&presets::LISTING, presets::LISTING_NOTE)
+        presets(&presets::LISTING, presets::LISTING_NOTE);
+        presets::names();
     }),
     ("growth", growth::growth),
     ("emptying", rooms::emptying),

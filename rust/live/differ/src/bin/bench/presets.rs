@@ -2,12 +2,13 @@
 use crate::texts::{EXAMPLES, example};
 use crate::timing::{Times, measured};
 use differ::listing::original::rendered;
-use oracle::preset::{ImagePlan, Preset, Selection};
+use oracle::preset::{ComponentKind, ImagePlan, PlannedComponent, Preset, Selection};
 use port::{document, plans, records};
 use preset::owned;
-use replay::generators::large::full;
+use replay::generators::large::{escaped, full, long_names};
 use replay::harness::ask;
 use replay::harness::faults::{Input, Rooms, least};
+use std::fmt::{Arguments, Write};
 use std::hint::black_box;
 use std::path::Path;
 
@@ -33,7 +34,9 @@ The same, and every view of the plan called once, its texts and features copied 
 pub const LISTING_NOTE: &str = "
 From text to lines. The port's time is `preset_listing`, which plans the boot chain and writes the lines
 into the output. The original's time is `Preset::parse`, `plan` and writing the lines into a new `String`,
-all dropped again.";
+names without quotes, all dropped again.";
+const NAMES_NOTE: &str = "
+The same where names are as long as they may be, and where all of their bytes are escaped.";
 
 /// What both sides do with a preset and the key of one of its applications, and whether they leave the
 /// same; the last is what the output holds.
@@ -86,11 +89,14 @@ pub const WHOLE: Job<(Preset, ImagePlan)> = Job {
 
 pub const LISTING: Job<(Preset, ImagePlan, String)> = Job {
     ours: |i, [store, tree, out]| port::listing::list(i.text, i.name, store, tree, out).number,
-    // the count of values is no work of the original's
-    theirs: |text, _| listed(text, 0),
+    theirs: |text, _| {
+        let (preset, plan) = planned(text, &Selection::Bootloader);
+        let lines = unquoted(&preset, &plan);
+        (preset, plan, lines)
+    },
     same: |rooms, text, _, out| {
-        let (_, _, lines) = listed(text, rooms.made);
-        out.starts_with(lines.as_bytes())
+        let (preset, plan) = planned(text, &Selection::Bootloader);
+        out.starts_with(rendered(&preset, &plan, rooms.made).as_bytes())
     },
 };
 
@@ -107,10 +113,41 @@ fn planned(text: &str, selection: &Selection) -> (Preset, ImagePlan) {
     (preset, plan)
 }
 
-pub fn listed(text: &str, made: usize) -> (Preset, ImagePlan, String) {
-    let (preset, plan) = planned(text, &Selection::Bootloader);
-    let lines = rendered(&preset, &plan, made);
-    (preset, plan, lines)
+// The lines as the original would print them: quotes are no work of its own, nor is the count of values.
+pub fn unquoted(p: &Preset, plan: &ImagePlan) -> String {
+    let mut out = String::new();
+    let (chip, media) = (plan.board.chip.name(), plan.image.media.name());
+    let (parts, comps, apps) = (p.partitions.len(), p.components.len(), p.apps.len());
+    let mut line = |l: Arguments| out.write_fmt(l).expect("a String takes all");
+    line(format_args!("ok {chip} {media} {parts} {comps} {apps} 0\n"));
+    for part in &plan.partitions {
+        let (name, start) = (&part.name, part.offset);
+        let end = u64::from(start) + u64::from(part.size);
+        line(format_args!("part {name} {start} {end} open\n"));
+    }
+    for PlannedComponent { spec, .. } in &plan.components {
+        let kind = match spec.kind {
+            ComponentKind::App => "app",
+            ComponentKind::Pbp => "pbp",
+            ComponentKind::Raw => "raw",
+        };
+        let (name, place) = (&spec.name, dashed(&spec.partition));
+        line(format_args!("comp {name} {kind} {place}\n"));
+    }
+    for (key, app) in &p.apps {
+        let (name, place) = (&app.name, dashed(&app.partition));
+        line(format_args!("app {key} {name} {place}\n"));
+    }
+    for build in &plan.required_builds {
+        let (package, count) = (&build.package, build.features.len());
+        line(format_args!("build {package} {count}\n"));
+    }
+    line(format_args!("stem {}\n", plan.stem));
+    out
+}
+
+fn dashed(reference: &str) -> &str {
+    if reference.is_empty() { "-" } else { reference }
 }
 
 fn same_plan(rooms: records::Rooms, text: &str, key: Option<&str>) -> bool {
@@ -127,6 +164,21 @@ pub fn presets<T>(job: &Job<T>, note: &str) {
     }
     row(job, "all lists full", &full());
     println!("{note}");
+}
+
+/// Listings of long names.
+pub fn names() {
+    println!("\n{HEAD}");
+    row(&LISTING, "names of 32 letters", &long_names(false));
+    row(&LISTING, "names of 32 escaped bytes", &long_names(true));
+    row(&LISTING, "a package of 32,000 TABs", &longest());
+    println!("{NAMES_NOTE}");
+}
+
+// With an application in place of some of the TABs.
+fn longest() -> String {
+    let app = "\n[apps.k]\npartition = \"a\"\n";
+    escaped().replacen(&"\t".repeat(app.len()), "", 1) + app
 }
 
 fn row<T>(job: &Job<T>, name: &str, text: &str) {
