@@ -28,4 +28,5 @@ pub mod RecordWeights
 pub mod PresetWeights
 pub mod Decimals
 pub mod Quoted
+pub mod Pages
 pub mod Listings

@@ -34,6 +34,7 @@ use Rattle.laws.specs.RecordWeights.{sum, stemSize, featureCount}
 use Rattle.laws.specs.PresetWeights.{partCost, compCost, appCost, Tells, Costs, preset-costs, root-holds}
 use Rattle.laws.specs.Decimals.{decimal-short}
 use Rattle.laws.specs.Quoted.{quoted-short}
+use Rattle.laws.specs.Pages.{page-append}
 
 -- ---- sums
 
@@ -171,10 +172,6 @@ unfolding stemLine spelling
 stem-short s = omega (arith, line-length (ofWord wordStem) (ofText s ∷ []), quoted-short s)
 
 -- ---- lines one after the other
-
-page-append : (xs ys : List Line) → length (page (xs ++ ys)) ≡ length (page xs) + length (page ys)
-page-append [] ys = omega arith
-page-append (x ∷ xs) ys = omega (arith, length-append (ended x) (page (xs ++ ys)), length-append (ended x) (page xs), page-append xs ys)
 
 module _ {X : Type 0} (P : X → Type 0) (f : X → Line) (half : X → ℕ) (short : (x : X) → P x → length (ended (f x)) ≤ 2 * half x) where
   each-short : (xs : List X) → All P xs → length (page (map f xs)) ≤ 2 * sum half xs

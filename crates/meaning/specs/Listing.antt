@@ -11,7 +11,7 @@ use Rattle.meaning.specs.Schema.{Chip, Media, Kind, d13x, d21x, spiNor, 
 use Rattle.meaning.specs.Plan.{Build, Plan, Planned, bootChain, plan}
 use Rattle.meaning.specs.Print.{Word, wordOk, wordPart, wordComp, wordApp, wordBuild, wordStem, wordRefused, wordD13x, wordD21x, wordSpiNor, wordSpiNand, wordPbp, wordRaw, wordLocked, wordOpen, Field, ofWord, ofNumber, ofText, absent, Line, page}
 
--- ---- words
+-- ---- "names belong to the chip and media themselves": the words of both, and of a kind
 
 abbrev pub chipNamed : Chip → Word
 chipNamed d13x = wordD13x

@@ -1,17 +1,15 @@
 -- Texts in quotes: what each loop keeps, and one law for each way on and out of it.
-use Prim.Native.Nat.{ℕ, zero, suc, _+_, _-_, _≤_, _<_}
-use mathlib.Core.Bool.{Bool, true, false}
+use Prim.Native.Nat.{ℕ, suc, _+_, _-_, _≤_, _<_}
+use mathlib.Core.Bool.{true, false}
 use mathlib.Core.List.{List, [], _∷_, _++_, append-assoc, append-nil}
 use mathlib.Core.Path.{_≡_, refl, sym, ap, subst, _∙_}
 use native.Mathlib.Omega.{arith}
-use native.Mathlib.Numerals.{add-one}
-use native.Mathlib.Nat.{add-zero}
 use borrow.Author.Tests.{ne-eqb, eqb-true, eqb-false, lt-ltb}
 use lib.Bits.{bitOr, or-add-and, and-le-l, and-le-r}
 use lib.Dec.{eqb}
 use lib.ListN.{length, getD, take, drop, length-take, length-drop, drop-of-length-le}
-use lib.Seq.{drop-cons, drop-drop, getD-drop}
-use Rattle.meaning.specs.Base.{pick, ascii}
+use lib.Seq.{drop-drop, getD-drop}
+use Rattle.meaning.specs.Base.{ascii}
 use Rattle.meaning.specs.Quoting.{letterFor, escaped, inner, quoted}
 use Rattle.laws.specs.Cases.{on}
 use Rattle.laws.specs.Parts.{rest-of}

@@ -6,7 +6,7 @@ use mathlib.Core.Path.{_≡_, ap}
 use Rattle.meaning.specs.Base.{ascii}
 use Rattle.meaning.specs.Schema as meant
 use Rattle.meaning.specs.Quoting.{quoted}
-use Rattle.meaning.specs.Print.{decimal, spelling, ofWord, shown, ended}
+use Rattle.meaning.specs.Print.{decimal, spelling, shown, ended}
 use Rattle.meaning.specs.Listing.{chipNamed, mediaNamed, kindNamed, lockNamed, placed, stemLine, refusedLine}
 use Rattle.schema.specs.declared.Text.{Text}
 use Rattle.schema.specs.declared.Word.{Word}

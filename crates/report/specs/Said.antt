@@ -9,6 +9,7 @@ use Rattle.meaning.specs.Schema as schemas
 use Rattle.meaning.specs.Print.{Field, Line, ofWord, ofNumber, wordOk, spelling, shown, spaced, ended, page}
 use Rattle.meaning.specs.Plan as plans
 use Rattle.meaning.specs.Listing as meant
+use Rattle.laws.specs.Pages.{page-append}
 use Rattle.tree.specs.Doors.{fieldsOf}
 use Rattle.tree.specs.Spans.{items-count}
 use Rattle.schema.specs.declared.Partition.{Partition}
@@ -34,11 +35,6 @@ use Rattle.report.specs.Shown.{each}
 each-meant : {X Y : Type 0} (f : X → Seq ℕ) (g : Y → Line) (of : X → Y) → ((x : X) → f x ≡ ended (g (of x))) → (xs : Seq X) → each f xs ≡ page (map g (map of xs))
 each-meant f g of h [] = refl
 each-meant f g of h (x ∷ xs) = rw (h x, each-meant f g of h xs)
-
--- a page in two parts
-page-append : (ls ms : Seq Line) → page (ls ++ ms) ≡ page ls ++ page ms
-page-append [] ms = refl
-page-append (l ∷ ls) ms = ap (λ (s : Seq ℕ). ended l ++ s) (page-append ls ms) ∙ sym (append-assoc (ended l) (page ls) (page ms))
 
 -- entries, and what is built of them
 in-two : (a b c d rest : Seq ℕ) → (a ++ (b ++ (c ++ d))) ++ rest ≡ a ++ (b ++ (c ++ (d ++ rest)))
