@@ -1,5 +1,7 @@
 // Characters of a byte string: UTF-8 (refusal 2, and the lent board name) and trimming.
 
+#![tactic(auto)]
+
 ghost use Rattle.std.specs.Prelude.{true, ◌≡◌, ◌+◌, ◌≤◌, ◌<◌, length, get_or, take, drop};
 ghost use Rattle.meaning.specs.Base as base;
 ghost use Rattle.meaning.specs.Utf8 as utf8;
@@ -17,7 +19,7 @@ pub struct Span {
 }
 
 // The four bytes at the head of a text, 0 past its end.
-#[derive(Drop)]
+#[derive(Clone, Copy)]
 pub struct Head {
     pub b: u32,
     pub c: u32,

@@ -1,6 +1,8 @@
 // What the definitions compute: corners, 01's example, the table P. There is no code here but one function, since a
 // crate has at least one.
 
+#![tactic(auto)]
+
 ghost use Rattle.std.specs.Prelude.{◌≡◌};
 
 fn nothing(x: usize) -> usize

@@ -1,5 +1,7 @@
 // Feature lists: the words of a stored text or the items of an array, judged, and walked in byte order by a cursor.
 
+#![tactic(auto)]
+
 mod reader;
 
 ghost use Rattle.std.specs.Prelude.{◌≡◌, ◌≤◌, length};
@@ -14,21 +16,21 @@ use schema::Features;
 use tree::{Fields, Item, Value};
 
 // A part of the text store.
-#[derive(Drop)]
+#[derive(Clone, Copy)]
 pub struct Piece {
     pub from: usize,
     pub len: usize,
 }
 
 // Where a walk in byte order stands: at its start, or after an item.
-#[derive(Drop)]
+#[derive(Clone, Copy)]
 pub enum Feature {
     Nothing,
     At(Piece),
 }
 
 // An item in the order of the text, and the position after it.
-#[derive(Drop)]
+#[derive(Clone, Copy)]
 pub enum Raw {
     End,
     At(Piece, usize),

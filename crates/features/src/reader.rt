@@ -6,7 +6,7 @@ ghost use Rattle.features.specs.Gaps.{gaps, run};
 ghost use Rattle.features.specs.Reading as reading;
 
 // A word of a string, from its first byte to the place after its last.
-#[derive(Drop)]
+#[derive(Clone, Copy)]
 pub enum Word {
     End,
     At { from: usize, to: usize },

@@ -19,7 +19,7 @@ pub struct Outcome {
 
 // found 1: value number `number`; else found 0.
 #[repr(C)]
-#[derive(Drop)]
+#[derive(Clone, Copy)]
 pub struct At {
     pub found: u32,
     pub number: usize,

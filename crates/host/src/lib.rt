@@ -1,5 +1,7 @@
 // The boundary for hosts: what C and Rust call. No export has a `requires`.
 
+#![tactic(auto)]
+
 mod documents;
 mod listings;
 mod plans;

@@ -12,7 +12,7 @@ use values::{Reply, State};
 
 // number 0 and the integer by sign and magnitude, or 12.
 #[repr(C)]
-#[derive(Drop)]
+#[derive(Clone, Copy)]
 pub struct Number {
     pub number: u32,
     pub negative: bool,

@@ -1,5 +1,7 @@
 // Partitions on the flash: 40 to 48 over an array of partitions and a chip, and lookup by name.
 
+#![tactic(auto)]
+
 pub mod lent;
 
 ghost use Rattle.std.specs.Prelude.{◌≡◌, map, ◌≤◌, take};

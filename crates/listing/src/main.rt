@@ -1,6 +1,8 @@
 // Reads one preset from standard input and prints the listing of its boot chain, or its refusal. Where it cannot read
 // or write it says so on standard error and prints nothing more; a proved program has no exit status.
 
+#![tactic(auto)]
+
 ghost use Rattle.std.specs.Prelude.{◌≤◌, length};
 
 use libc::{STDERR_FILENO, STDIN_FILENO, STDOUT_FILENO};

@@ -1,6 +1,8 @@
 // The rules, as definitions that compute, in specs/; here the types and figures that they share with code. There is no
 // code here but one function, since a crate has at least one.
 
+#![tactic(auto)]
+
 ghost use Rattle.std.specs.Prelude.{◌≡◌};
 ghost use Rattle.meaning.specs.Limits as limits;
 
@@ -25,7 +27,7 @@ pub const FEATURES: usize = 32;
 pub const VALUE_BYTES: usize = 32;
 
 // Figures of that kind; 01's are one value of them.
-#[derive(Drop)]
+#[derive(Clone, Copy)]
 pub struct Limits {
     pub text: usize,
     pub values: usize,
@@ -38,7 +40,7 @@ pub struct Limits {
 }
 
 // Where a byte stands: outside a string, inside one, or inside one and after a backslash.
-#[derive(Drop)]
+#[derive(Clone, Copy)]
 pub enum StringState {
     Outside,
     Inside,
@@ -46,7 +48,7 @@ pub enum StringState {
 }
 
 // What is carried along a line: the string state, and the brackets `[` and `]` outside strings.
-#[derive(Drop)]
+#[derive(Clone, Copy)]
 pub struct Scan {
     pub state: StringState,
     pub opens: usize,

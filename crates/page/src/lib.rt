@@ -1,5 +1,7 @@
 // One writer for all that is printed: bytes, numbers, words and texts after what stands on a lent page.
 
+#![tactic(auto)]
+
 pub mod quote;
 
 ghost use Rattle.std.specs.Prelude.{◌≡◌, [], ◌∷◌, min, length};

@@ -23,7 +23,7 @@ pub struct HeadRead {
     pub head: Head,
 }
 
-#[derive(Drop)]
+#[derive(Clone, Copy)]
 pub struct Lists {
     pub fault: u32,
     pub features: Features,

@@ -20,7 +20,7 @@ use tree::{Fields, Found, Item, Key, Value};
 const NO_TABLE: u32 = 23;
 
 // A list's place, and how many values stand before the end of its items: none where it is absent.
-#[derive(Drop)]
+#[derive(Clone, Copy)]
 pub struct List {
     pub fault: u32,
     pub place: u16,

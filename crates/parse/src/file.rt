@@ -6,7 +6,7 @@ ghost use Rattle.parse.specs.File as files;
 ghost use Rattle.parse.specs.File.{Ends, Inside, Placed};
 
 // A part of a path, or none.
-#[derive(Drop)]
+#[derive(Clone, Copy)]
 pub enum Piece {
     Nothing,
     At { from: usize, len: usize },

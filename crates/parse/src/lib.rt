@@ -1,5 +1,7 @@
 // From tree to records: the fields of a preset in 01's order.
 
+#![tactic(auto)]
+
 pub mod application;
 pub mod component;
 pub mod entry;
@@ -30,7 +32,7 @@ pub const IN_COMPONENT: u32 = 4;
 pub const IN_APPLICATION: u32 = 5;
 
 // A refusal's number, 0 for none, its section and its place.
-#[derive(Drop)]
+#[derive(Clone, Copy)]
 pub struct Refusal {
     pub number: u32,
     pub section: u32,

@@ -150,7 +150,7 @@ pub fn holds_values(tree: &[u8], made: usize) -> bool
 }
 
 // Where all three stand.
-#[derive(Drop)]
+#[derive(Clone, Copy)]
 pub struct Lists {
     pub partitions: List,
     pub components: List,

@@ -33,7 +33,7 @@ pub struct Wanted {
 }
 
 // A build by where its texts are, in few bytes, since tables of them are handed on.
-#[derive(Drop)]
+#[derive(Clone, Copy)]
 pub struct Use {
     pub package: Spot,
     pub bin: Spot,

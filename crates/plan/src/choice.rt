@@ -13,7 +13,7 @@ use parse::entry::List;
 use tree::{Item, Key};
 
 // Nothing more; a key that none has; an application by its entry number and the number of its value.
-#[derive(Drop)]
+#[derive(Clone, Copy)]
 pub enum Choice {
     BootChain,
     Undeclared,

@@ -1,5 +1,7 @@
 // What is made of an accepted preset for a selection: components in their order, builds, the stem.
 
+#![tactic(auto)]
+
 pub mod builds;
 pub mod choice;
 pub mod component;

@@ -1,6 +1,8 @@
 // The product: `read`, `validate`, `plan` and `listing` of a preset, each from its text, for every text, name and
 // rooms.
 
+#![tactic(auto)]
+
 pub mod listing;
 pub mod planning;
 pub mod reading;

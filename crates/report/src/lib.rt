@@ -1,5 +1,7 @@
 // The listing of an accepted preset's boot chain: its lines, one after the other, into a lent output.
 
+#![tactic(auto)]
+
 pub mod brief;
 pub mod line;
 pub mod lists;
@@ -13,7 +15,7 @@ use parse::view::Lists;
 use plan::choice::Choice;
 
 // A preset in the rooms: how many values were made of it, and where its lists stand.
-#[derive(Drop)]
+#[derive(Clone, Copy)]
 pub struct Placed {
     pub made: usize,
     pub lists: Lists,

@@ -10,7 +10,7 @@ use crate::string::{Decoded, put_string};
 use meaning::SEGMENTS;
 
 // What a segment or a key comes to: fine, or refusal 7, 8, 9 or 15.
-#[derive(Drop)]
+#[derive(Clone, Copy)]
 pub enum Verdict {
     Fine,
     Malformed,
@@ -28,7 +28,7 @@ pub struct Segment {
 
 // What a key comes to: how many segments were taken, up to where the store is used, and where in it each segment
 // ends, 0 after the last.
-#[derive(Drop)]
+#[derive(Clone, Copy)]
 pub struct Key {
     pub verdict: Verdict,
     pub n: usize,

@@ -1,5 +1,7 @@
 // Chips, media and kinds with what belongs to them, and the records of a preset: a text field says where its bytes are.
 
+#![tactic(auto)]
+
 pub mod spot;
 
 ghost use Rattle.std.specs.Prelude.{◌≡◌, ◌+◌, ◌≤◌, length};
@@ -13,7 +15,7 @@ ghost use Rattle.schema.specs.Texts.{is_given, or_text, aic_of, start_of, length
 pub const LONGEST_NAME: usize = 32;
 
 // The words that a preset takes where its text has none, and those that it may name.
-#[derive(Drop)]
+#[derive(Clone, Copy)]
 pub enum Word {
     Board,
     Release,
@@ -97,19 +99,19 @@ impl Word {
     }
 }
 
-#[derive(Drop)]
+#[derive(Clone, Copy)]
 pub enum Chip {
     D13x,
     D21x,
 }
 
-#[derive(Drop)]
+#[derive(Clone, Copy)]
 pub enum Media {
     SpiNor,
     SpiNand,
 }
 
-#[derive(Drop)]
+#[derive(Clone, Copy)]
 pub enum Kind {
     App,
     Pbp,
@@ -294,7 +296,7 @@ impl Kind {
 
 // Where a text's bytes are: in the text store, the lent name of the board, a fixed word, or bytes of the store
 // followed by `.aic`.
-#[derive(Drop)]
+#[derive(Clone, Copy)]
 pub enum Text {
     Absent,
     Stored { from: usize, len: usize },
@@ -366,7 +368,7 @@ pub fn stored<'a>(store: &'a [u8], from: usize, len: usize) -> &'a [u8]
     &store[from..to]
 }
 
-#[derive(Drop)]
+#[derive(Clone, Copy)]
 pub enum Number {
     Absent,
     Of(u32),
@@ -384,14 +386,14 @@ impl Number {
 }
 
 // A feature list is the value it was read from: the words of a stored text, or the items of an array.
-#[derive(Drop)]
+#[derive(Clone, Copy)]
 pub enum Features {
     Absent,
     Words { from: usize, len: usize },
     Items(u16),
 }
 
-#[derive(Drop)]
+#[derive(Clone, Copy)]
 pub struct Board {
     pub name: Text,
     pub chip: Chip,
@@ -399,7 +401,7 @@ pub struct Board {
     pub profile: Text,
 }
 
-#[derive(Drop)]
+#[derive(Clone, Copy)]
 pub struct Image {
     pub platform: Text,
     pub product: Text,
@@ -411,7 +413,7 @@ pub struct Image {
 }
 
 // Its name is len bytes from a place of some lent bytes on. No application may lie in a locked one.
-#[derive(Drop)]
+#[derive(Clone, Copy)]
 pub struct Partition {
     pub from: usize,
     pub len: usize,
@@ -420,7 +422,7 @@ pub struct Partition {
     pub locked: bool,
 }
 
-#[derive(Drop)]
+#[derive(Clone, Copy)]
 pub struct Head {
     pub kind: Kind,
     pub name: Text,
@@ -430,7 +432,7 @@ pub struct Head {
     pub filename: Text,
 }
 
-#[derive(Drop)]
+#[derive(Clone, Copy)]
 pub struct Role {
     pub features: Features,
     pub pbp_features: Features,
@@ -440,7 +442,7 @@ pub struct Role {
     pub target_filename: Text,
 }
 
-#[derive(Drop)]
+#[derive(Clone, Copy)]
 pub struct Boot {
     pub updater: bool,
     pub ram: Number,
@@ -449,7 +451,7 @@ pub struct Boot {
     pub private: Text,
 }
 
-#[derive(Drop)]
+#[derive(Clone, Copy)]
 pub struct Load {
     pub load_address: Number,
     pub entry_point: Number,
@@ -459,7 +461,7 @@ pub struct Load {
     pub ext_reserve: u32,
 }
 
-#[derive(Drop)]
+#[derive(Clone, Copy)]
 pub struct Component {
     pub head: Head,
     pub role: Role,

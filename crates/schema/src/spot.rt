@@ -8,7 +8,7 @@ ghost use Rattle.schema.specs.Spots.{spotted};
 use crate::{Features, Text};
 
 // `kind` says what is there: nothing; len bytes of the store from a place on; the items of the array at place `from`.
-#[derive(Drop)]
+#[derive(Clone, Copy)]
 pub struct Spot {
     pub kind: u16,
     pub from: u16,

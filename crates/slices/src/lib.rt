@@ -1,5 +1,7 @@
 // Byte strings: what every crate above needs of one, written once.
 
+#![tactic(auto)]
+
 ghost use Rattle.std.specs.Prelude.{true, ◌≡◌, ◌++◌, ◌+◌, ◌≤◌, length, get_or, drop};
 ghost use Rattle.meaning.specs.Base as base;
 ghost use Rattle.laws.specs.Stored.{stored};

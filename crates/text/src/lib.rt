@@ -1,5 +1,7 @@
 // From bytes to joined lines: comments cut, lines laid one after the other, brackets and quotes, refusals 1 to 4.
 
+#![tactic(auto)]
+
 ghost use Rattle.std.specs.Prelude.{true, ◌≡◌, ◌+◌, ◌≤◌, ◌<◌, length};
 ghost use Rattle.meaning.specs.Quote as quotes;
 ghost use Rattle.meaning.specs.Lines as meant;
@@ -21,7 +23,7 @@ pub struct Place {
 }
 
 // A line that is laid: how many bytes it takes of the text, and how many it has in the scratch.
-#[derive(Drop)]
+#[derive(Clone, Copy)]
 pub struct Piece {
     pub taken: usize,
     pub written: usize,

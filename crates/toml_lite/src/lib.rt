@@ -1,5 +1,7 @@
 // Whole documents into the two rooms, line by line.
 
+#![tactic(auto)]
+
 ghost use Rattle.std.specs.Prelude.{◌≡◌, true, ◌+◌, ◌<◌, length};
 ghost use Rattle.meaning.specs.Document as meant;
 ghost use Rattle.meaning.specs.Space as space;

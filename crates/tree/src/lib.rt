@@ -1,6 +1,8 @@
 // The tree room: values of 32 bytes each in the order they are made, each hung up under a parent. Only this crate
 // knows the layout.
 
+#![tactic(auto)]
+
 ghost use Rattle.std.specs.Prelude.{◌≡◌, [], ◌∷◌, ◌+◌, ◌*◌, ◌/◌, ◌-◌, ◌≤◌, length};
 ghost use Rattle.meaning.specs.Limits.{value_bytes};
 ghost use Rattle.laws.specs.Stored.{stored};
@@ -25,7 +27,7 @@ pub const ROOT: u16 = 1;
 // A value. Its kind is one of those below, KIND_NEGATIVE that of an integer with a minus.
 // Its parent: 0 none yet, 1 the root, n + 2 value number n. Its key is len bytes of the text store. Its data: an
 // integer's magnitude; start + 65536 * length of a string; 0 or 1; else 0.
-#[derive(Drop)]
+#[derive(Clone, Copy)]
 pub struct Slot {
     pub kind: u8,
     pub parent: u16,
@@ -54,7 +56,7 @@ pub const VALUE_BYTES: usize = meaning::VALUE_BYTES;
 // The most that a string's data can be: both its start and its length below the unit.
 const STRING_MOST: u64 = 4294967295;
 
-#[derive(Drop)]
+#[derive(Clone, Copy)]
 pub enum Found {
     At(usize),
     Nothing,
@@ -62,7 +64,7 @@ pub enum Found {
 
 // What a value is: a string's bytes in the text store, an integer, a boolean, or the place where an array's items or
 // a table's fields hang.
-#[derive(Drop)]
+#[derive(Clone, Copy)]
 pub enum Value {
     Absent,
     Text { from: usize, len: usize },
@@ -73,7 +75,7 @@ pub enum Value {
 }
 
 // A table's place, and where among the values its children stand: from the first to before the end of the newest.
-#[derive(Drop)]
+#[derive(Clone, Copy)]
 pub struct Fields {
     pub place: u16,
     pub from: usize,

@@ -1,5 +1,7 @@
 // Entries in turn, each against the names before it: the first fault among entries whose names must differ.
 
+#![tactic(auto)]
+
 ghost use Rattle.std.specs.Prelude.{◌≡◌, ◌≤◌, take};
 ghost use Rattle.meaning.specs.Base.{same};
 ghost use Rattle.turns.specs.Marks as marks;
@@ -10,7 +12,7 @@ pub const MOST_ENTRIES: usize = meaning::COMPONENTS;
 
 // What one entry's rules say: before the question whether an earlier entry has its name, which is len bytes from a
 // place on, and after it.
-#[derive(Drop)]
+#[derive(Clone, Copy)]
 pub struct Mark {
     pub from: usize,
     pub len: usize,
@@ -19,7 +21,7 @@ pub struct Mark {
 }
 
 // A refusal's number, 0 for none, and the entry.
-#[derive(Drop)]
+#[derive(Clone, Copy)]
 pub struct Fault {
     pub number: u32,
     pub place: usize,

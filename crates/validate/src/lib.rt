@@ -1,5 +1,7 @@
 // The rules 30 to 70 over a preset's records.
 
+#![tactic(auto)]
+
 pub mod application;
 pub mod component;
 pub mod front;

@@ -12,7 +12,7 @@ use schema::{Component, Features};
 pub const MOST_PAIRS: usize = meaning::COMPONENTS + meaning::APPLICATIONS;
 
 // An entry's packages with the features that they are to have.
-#[derive(Drop)]
+#[derive(Clone, Copy)]
 pub struct Pair {
     pub package: Spot,
     pub features: Spot,
@@ -21,7 +21,7 @@ pub struct Pair {
 }
 
 // One package with the features that it is to have.
-#[derive(Drop)]
+#[derive(Clone, Copy)]
 struct Use {
     package: Spot,
     features: Spot,

@@ -11,7 +11,7 @@ use scalar::key::Key;
 use tree::{Found, KIND_ARRAY, KIND_TABLE, Slot};
 
 // How many values are made and may be made, and the place that a walk has come to.
-#[derive(Drop)]
+#[derive(Clone, Copy)]
 pub struct Here {
     pub made: usize,
     pub limit: usize,
@@ -19,7 +19,7 @@ pub struct Here {
 }
 
 // A segment of a key, by where its bytes stand in the store.
-#[derive(Drop)]
+#[derive(Clone, Copy)]
 pub struct Segment {
     pub from: usize,
     pub end: usize,

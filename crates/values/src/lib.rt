@@ -1,12 +1,14 @@
 // From joined lines to the tree: values, headers and assignments into the two lent rooms.
 
+#![tactic(auto)]
+
 pub mod form;
 pub mod grow;
 pub mod splitting;
 pub mod value;
 
 // How many bytes of the store are used, and how many values are made.
-#[derive(Drop)]
+#[derive(Clone, Copy)]
 pub struct State {
     pub used: usize,
     pub made: usize,

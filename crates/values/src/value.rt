@@ -13,7 +13,7 @@ use tree::{
 };
 
 // How many values there may be in all, and how many arrays may still be inside one another.
-#[derive(Drop)]
+#[derive(Clone, Copy)]
 pub struct Allowed {
     pub values: usize,
     pub arrays: usize,
