@@ -1,6 +1,5 @@
 pub mod Gapping
 pub mod Wording
-pub mod Held
 pub mod Stepping
 pub mod Choosing
 pub mod Comparing

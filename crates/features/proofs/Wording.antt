@@ -14,7 +14,10 @@ use Rattle.features.specs.declared.Piece.{Piece}
 use Rattle.features.specs.declared.reader.Word.{Word}
 use Rattle.features.specs.declared.reader.Word.TheVariants as words
 use Rattle.features.specs.Gaps.{gaps, run}
-use Rattle.features.specs.Reading.{word_at, after_word, found}
+use Rattle.meaning.specs.Base.{pick}
+use Rattle.features.specs.declared.reader.Reader.{Reader}
+use Rattle.features.specs.declared.reader.Step.{Step}
+use Rattle.features.specs.Reading.{word_at, after_word, found, stepped}
 use Rattle.features.specs.Pieces.{close, words_at}
 use Rattle.features.specs.Ordered.{words_count}
 
@@ -148,3 +151,38 @@ module _ (s : List ℕ) (n at : ℕ) (k : Counting s n at) where
 
   pub count_on : found (word_at s at) ≡ true → Counted s n at (after_word (word_at s at) at)
   count_on = counted (word_at s at) refl
+
+-- ---- the same by a reader: the word that it met last, where n words were met before it
+
+pub record Meeting (s : List ℕ) (n : ℕ) (d : Step) : Type 0 where
+  pub words : d.rest.words.now ≡ s
+  pub on : found d.word ≡ true → Counting s (n + 1) d.rest.at
+  pub high : found d.word ≡ true → d.rest.at ≤ length s
+  pub end : found d.word ≡ false → n ≡ length (all s)
+
+-- what is left of the string behind it; nothing where no word was met
+abbrev pub left_of : List ℕ → Step → ℕ
+left_of s d = pick (found d.word) (length s + 1 - d.rest.at) 0
+
+module _ (s : List ℕ) (n : ℕ) (r : Reader) (k : Counting s n r.at) (w : r.words.now ≡ s) (d : Step) (e : d ≡ stepped r) where
+  pub meeting : Meeting s n d
+  meeting = rw e (record {
+    words = w;
+    on = rw w (λ h. (count_on s n r.at k h).on);
+    high = rw w (λ h. (count_on s n r.at k h).high);
+    end = rw w (count_end s n r.at k);
+  })
+
+  pub left_falls : (m : ℕ) → r.at < m → m ≤ length s + 1 → left_of s d < length s + 1 - r.at
+  left_falls m h l = rw (e, w) (on (found (word_at s r.at)) (λ p. rw p (omega (arith, (count_on s n r.at k p).rises, (count_on s n r.at k p).high))) (λ p. rw p (omega arith)))
+
+module _ (s : List ℕ) (n : ℕ) (d : Step) (k : Meeting s n d) where
+  pub meet_end : found d.word ≡ false → n ≡ length (all s)
+  meet_end = k.end
+
+  module _ (f : found d.word ≡ true) (t : Step) (e : t ≡ stepped d.rest) where
+    pub meet_on : Meeting s (n + 1) t
+    meet_on = meeting s (n + 1) d.rest (k.on f) k.words t e
+
+    pub meet_less : left_of s t < left_of s d
+    meet_less = let h : d.rest.at ≤ length s = k.high f in rw f (left_falls s (n + 1) d.rest (k.on f) k.words t e (d.rest.at + 1) (omega arith) (omega arith))

@@ -22,6 +22,7 @@ use Rattle.text.specs.declared.Next.TheVariants as nexts
 use Rattle.text.specs.Laid.{lines_of}
 use Rattle.text.specs.Parts.{Part, part_first, parts_in, parts, Apart, Hands}
 use Rattle.text.specs.Walk.{by_fate, joint_from, joint_in, ending, placed, next_in, next, Handed}
+use Rattle.text.proofs.Carried.{joint_carried}
 use Rattle.text.proofs.Cuts.{Split, split_of, rest_after}
 
 -- ---- the first line at a place, and what is after its LF
@@ -137,7 +138,10 @@ handed_in s (l ∷ ls) at n e =
     (λ p.
     let v : Apart at (length s) (parts_in none (at + length l + 1) ls) = rw p at w in
     rw p (handed_wider s at (at + length l + 1) (parts_in none (at + length l + 1) ls) (next_in (at + length l + 1) (n + 1) ls) v (handed_in s ls (at + length l + 1) (n + 1) a.lines)))
-    (λ p. rw p (handed_placed s at n _ (joint_in (l ∷ ls)) (rw p at w) (rw add-zero at (own_in s at (l ∷ ls) fresh 0 1 (omega arith) (rw add-zero e)))))
+    (λ p.
+    let o : Own s at (at + 0) 1 (parts_in (some fresh) (at + 0) (l ∷ ls)) (joint_in (l ∷ ls)) =
+    rw (joint_carried (l ∷ ls)) at (own_in s at (l ∷ ls) fresh 0 1 (omega arith) (rw add-zero e)) in
+    rw p (handed_placed s at n _ (joint_in (l ∷ ls)) (rw p at w) (rw add-zero at o)))
 
 pub handed : (s : List ℕ) (at n : ℕ) → Handed s at (parts s at) (next s at n)
 unfolding parts next

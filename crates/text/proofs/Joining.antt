@@ -27,6 +27,7 @@ use Rattle.text.specs.Laid.{lines_of}
 use Rattle.text.specs.Parts.{Part, parts_in, Tiles, Due, Countable, line_of, Counts}
 use Rattle.text.specs.Runs.{Quiets, Run}
 use Rattle.text.specs.Walk.{joint_from, joint, ending, Fit, Joined}
+use Rattle.text.proofs.Carried.{joint_carried}
 use Rattle.text.proofs.Cuts.{lines_there, lines_none}
 use Rattle.text.proofs.Runs.{scan_quiet}
 
@@ -119,7 +120,7 @@ pub record Gathering (s : List ℕ) (i m : ℕ) (c : Scan) : Type 0 where
 
 pub gather_start : (s : List ℕ) → Gathering s 0 1 (record { state = Outside; opens = 0; closes = 0 })
 unfolding joint
-gather_start s = record { high = omega arith; opens = omega arith; closes = omega arith; lines = omega arith; left = refl; due = record { done = []; tiles = refl; all = refl } }
+gather_start s = record { high = omega arith; opens = omega arith; closes = omega arith; lines = omega arith; left = joint_carried (lines_of s); due = record { done = []; tiles = refl; all = refl } }
 
 module _ (s : List ℕ) (i m : ℕ) (c : Scan) (k : Gathering s i m c) where
   pub gather_room : Countable s i c

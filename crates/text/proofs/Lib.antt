@@ -1,6 +1,7 @@
 pub mod States
 pub mod Scans
 pub mod Runs
+pub mod Carried
 pub mod Cuts
 pub mod Laying
 pub mod Joining

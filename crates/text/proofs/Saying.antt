@@ -22,6 +22,7 @@ use Rattle.text.specs.declared.Joint.{Joint}
 use Rattle.text.specs.declared.Joint.TheVariants as joints
 use Rattle.text.specs.Laid.{lines_of}
 use Rattle.text.specs.Walk.{by_fate, joint_from, ending, placed, next_in, next, Says}
+use Rattle.text.proofs.Carried.{gather_carried}
 use Rattle.text.proofs.Cuts.{Split, split_of, rest_after}
 use Rattle.text.proofs.Handing.{after}
 
@@ -78,7 +79,7 @@ says_in s (l ∷ ls) at n e =
     let x : Split (drop at s) l ls = split_of (drop at s) l ls e in
     on (blank l)
     (λ p. rw (p, after_nothing (carry idle (n + 1) ls)) (says_in s ls (at + length l + 1) (n + 1) (after s at l ls e).lines))
-    (λ p. rw (p, zero-add) (by_fate_lem s at n ls l x.rest (scan fresh l) 1 x.is x.lines (open_says s at n ls l x.rest (scan fresh l) 1 (omega arith) x.is x.lines) (fate (scan fresh l))))
+    (λ p. rw (p, gather_carried ls l 1 (omega arith)) (by_fate_lem s at n ls l x.rest (scan fresh l) 1 x.is x.lines (open_says s at n ls l x.rest (scan fresh l) 1 (omega arith) x.is x.lines) (fate (scan fresh l))))
 
 -- by the carried joining, which is 01's
 pub says : (s : List ℕ) (at n : ℕ) → Says s (join closed n (lines_of (drop at s))) (next s at n)

@@ -1,7 +1,7 @@
 -- Entries in turn as the code takes them: the twin first, then the first fault; and what a fault says of its verdict.
 use Rattle.std.specs.Prelude.{ℕ, suc, ◌+◌, ◌≤◌, true, false, ◌≡◌, refl, eqb}
 use mathlib.Core.List.{List, [], ◌∷◌, map}
-use Rattle.std.proofs.Common.{sym, ◌∙◌, arith, eq-eqb, ne_eqb, eqb-true}
+use Rattle.std.proofs.Common.{sym, ap, ◌∙◌, arith, eq-eqb, ne_eqb, eqb-true}
 use Rattle.std.proofs.lemmas.Bool.{eqb-false}
 use Rattle.meaning.specs.Base.{pick}
 use Rattle.meaning.specs.Refusal as refusals
@@ -107,13 +107,17 @@ module _ (number : ℕ) (bytes : List ℕ) (h : 1 ≤ number) (section : ℕ) wh
       (λ e.
       let a : among (named bytes m) (map (named bytes) es) ≡ true = sym (any_among bytes m es) ∙ e in
       let b : eqb i (i + 0) ≡ true = eq-eqb i (i + 0) (omega arith) in
-      rw (e, a, b) (step_fault section i (entry_fault number true m) (first_fault number (i + 0) (i + 1) ms) w (λ z. absurd (met_fault number m h z))))
+      let f : first_hit (same_name bytes) es (m ∷ ms) ≡ 0 = rw e in
+      ap (λ (k : ℕ). first_fault number (i + k) i (m ∷ ms)) f
+      ∙ rw (a, b) (step_fault section i (entry_fault number true m) (first_fault number (i + 0) (i + 1) ms) w (λ z. absurd (met_fault number m h z))))
       (λ e.
       let n : ℕ = first_hit (same_name bytes) (with_last es m) ms in
       let a : among (named bytes m) (map (named bytes) es) ≡ false = sym (any_among bytes m es) ∙ e in
       let b : eqb i (i + suc n) ≡ false = ne_eqb i (i + suc n) (λ z. omega arith) in
       let d : i + suc n ≡ i + 1 + n = omega arith in
-      rw (e, a, b) (step_fault section i (entry_fault number false m) (first_fault number (i + suc n) (i + 1) ms) w (λ z. rw d (rw (map_after (named bytes) es m) at (turns (i + 1) (with_last es m) ms)))))
+      let f : first_hit (same_name bytes) es (m ∷ ms) ≡ suc n = rw e in
+      ap (λ (k : ℕ). first_fault number (i + k) i (m ∷ ms)) f
+      ∙ rw (a, b) (step_fault section i (entry_fault number false m) (first_fault number (i + suc n) (i + 1) ms) w (λ z. rw d (rw (map_after (named bytes) es m) at (turns (i + 1) (with_last es m) ms)))))
 
 pub twin_first : (number : ℕ) (bytes : List ℕ) (ms : List Mark) → 1 ≤ number → first_fault number (twin bytes ms) 0 ms ≡ judged number bytes ms
 unfolding judged

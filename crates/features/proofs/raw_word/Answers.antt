@@ -1,0 +1,15 @@
+use Rattle.features.proofs.Stepping.{raw_end, raw_rises, raw_fits, raw_step}
+use borrow.Author.Rules.{rules}
+use Rattle.features.proofs.raw_word.Goals as goal
+
+pub overflow_add-result : goal.overflow_add-result
+overflow_add-result c = search (rules, raw_fits)
+
+pub overflow_sub-result : goal.overflow_sub-result
+overflow_sub-result c = search (rules, raw_rises)
+
+pub returns-in-End : goal.returns-in-End
+returns-in-End c = search (rules, raw_end)
+
+pub returns-in-At : goal.returns-in-At
+returns-in-At c = search (rules, raw_step)

@@ -1,0 +1,8 @@
+use Rattle.laws.specs.Tests.{tests}
+use Rattle.parse.proofs.field.first_fault.Goals as goal
+
+pub returns-then-a-eq0 : goal.returns-then-a-eq0
+returns-then-a-eq0 c = search tests
+
+pub returns : goal.returns
+returns c = search tests

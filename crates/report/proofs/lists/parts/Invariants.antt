@@ -1,0 +1,12 @@
+-- The lines of the partitions met stand on the page, and with those to come they are the lines of all.
+use lib.ListN.{length}
+use Rattle.tree.specs.Steps.{to_come}
+use Rattle.report.specs.Shown as shown
+use Rattle.report.proofs.Listing.{Walked}
+use Rattle.report.proofs.lists.parts.Given as goal
+
+abbrev pub invariant-loop-value : goal.invariant-loop-value
+invariant-loop-value l = Walked (shown.part_at l.tree l.store l.made) l.tree l.initial.w l.initial.out l.at l.w l.out l.to
+
+abbrev pub decreases-loop-value : goal.decreases-loop-value
+decreases-loop-value l = length (to_come l.tree l.w)

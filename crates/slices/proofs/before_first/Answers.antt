@@ -1,0 +1,6 @@
+use borrow.Author.Rules.{rules}
+use Rattle.slices.proofs.Bytes.{past_on}
+use Rattle.slices.proofs.before_first.Goals as goal
+
+pub loop-i-preserved : goal.loop-i-preserved
+loop-i-preserved c = search (rules, past_on)

@@ -1,0 +1,10 @@
+-- From i on no value has the parent and the key, so the newest below i is the newest of all.
+use Rattle.tree.proofs.Opening.{Seeking}
+use Prim.Native.Nat.{◌-◌}
+use Rattle.tree.proofs.seek.Given as goal
+
+abbrev pub invariant-loop-i : goal.invariant-loop-i
+invariant-loop-i l = Seeking l.tree l.store l.key l.from l.to l.parent l.i
+
+abbrev pub decreases-loop-i : goal.decreases-loop-i
+decreases-loop-i l = l.i - l.from

@@ -1,0 +1,17 @@
+-- Where no component has a fault there are few, and what was gathered of them is what 01 asks of them; the paths are too long for the search.
+use borrow.Author.Rules.{rules}
+use Rattle.parse.proofs.Judging.{components_hold}
+use Rattle.validate.proofs.Judging.{components_counted, components_refused, list_refused}
+use Rattle.validate.proofs.judge_components.Goals as goal
+
+pub count_items-n-requires : goal.count_items-n-requires
+count_items-n-requires c = search (rules, components_hold)
+
+pub returns-then-a-ne0 : goal.returns-then-a-ne0
+returns-then-a-ne0 c = search (rules, list_refused)
+
+pub each_component-c-requires : goal.each_component-c-requires
+each_component-c-requires c = search (rules, components_counted)
+
+pub returns-then-b-ne0 : goal.returns-then-b-ne0
+returns-then-b-ne0 c = search (rules, components_refused)
