@@ -1,6 +1,6 @@
 -- A walk along all but the last segment, and a step there, is the walk along the whole key.
 use borrow.Author.Rules.{rules}
-use Rattle.values.proofs.Descending.{last_paths, last_done, last_full, last_clash, one_enters, one_done}
+use Rattle.values.proofs.Descending.{last_paths, last_done, last_full, last_clash, one_enters, one_done, last_enters}
 use Rattle.values.proofs.grow.push_path.Goals as goal
 
 pub push-requires : goal.push-requires
@@ -20,3 +20,6 @@ returns-in-Full c = search (rules, last_full)
 
 pub returns-in-Clash : goal.returns-in-Clash
 returns-in-Clash c = search (rules, last_clash)
+
+pub push-requires-in-At : goal.push-requires-in-At
+push-requires-in-At c = last_enters _ _ _ _ _ _ _ c.requires _ _ c.enter_path-g.ensures _ _ c.in-At.is c.if-key-eq1.false _ c.last_segment-last.ensures
