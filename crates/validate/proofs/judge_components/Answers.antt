@@ -1,7 +1,7 @@
 -- Where no component has a fault there are few, and what was gathered of them is what 01 asks of them; the paths are too long for the search.
 use borrow.Author.Rules.{rules}
 use Rattle.parse.proofs.Judging.{components_hold}
-use Rattle.validate.proofs.Judging.{components_counted, components_refused, list_refused}
+use Rattle.validate.proofs.Judging.{components_counted, components_refused, list_refused, components_few, components_passed}
 use Rattle.validate.proofs.judge_components.Goals as goal
 
 pub count_items-n-requires : goal.count_items-n-requires
@@ -15,3 +15,16 @@ each_component-c-requires c = search (rules, components_counted)
 
 pub returns-then-b-ne0 : goal.returns-then-b-ne0
 returns-then-b-ne0 c = search (rules, components_refused)
+
+pub judge_applications-requires : goal.judge_applications-requires
+judge_applications-requires c = (
+  c.requires.0,
+  c.requires.1,
+  components_few _ _ _ _ c.component_list-l.ensures _ c.count_items-n.ensures _ _ _ c.in_section.ensures c.check_length.ensures c.earlier-a.ensures c.if-a-ne0.false _ _
+      c.each_component-c.ensures c.if-b-ne0.false,
+)
+
+pub returns : goal.returns
+returns c =
+    components_passed _ _ _ _ c.component_list-l.ensures _ c.count_items-n.ensures _ _ _ c.in_section.ensures c.check_length.ensures c.earlier-a.ensures c.if-a-ne0.false _ _
+    c.each_component-c.ensures c.if-b-ne0.false _ _ _ _ c.check_components.ensures c.earlier-own.ensures c.judge_applications.ensures

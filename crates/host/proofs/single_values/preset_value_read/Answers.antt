@@ -1,5 +1,5 @@
 -- Zeroing keeps the lengths, so rooms without a fault of size are ready for a value, and are zero again after a fault.
-use Rattle.host.proofs.Readouts.{size_refused, read_out, fault_out}
+use Rattle.host.proofs.Readouts.{size_refused, read_out, fault_out, ready}
 use borrow.Author.Rules.{rules}
 use Rattle.host.proofs.single_values.preset_value_read.Goals as goal
 
@@ -11,3 +11,6 @@ returns-in-Fine c = search (rules, read_out)
 
 pub returns-in-Fault : goal.returns-in-Fault
 returns-in-Fault c = search (rules, fault_out)
+
+pub value-r-requires : goal.value-r-requires
+value-r-requires c = ready _ _ _ _ c.size_fault-n.ensures c.if-n-ne0.false

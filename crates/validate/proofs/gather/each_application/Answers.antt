@@ -1,7 +1,7 @@
 use borrow.Author.Rules.{rules}
-use mathlib.Core.Logic.{⊎_elim}
 use Rattle.parse.proofs.Entering.{holds_end}
 use Rattle.validate.proofs.Gathering.{apps_ready, apps_marked, apps_all, apps_none, apps_many, apps_stood, apps_after, apps_on}
+use Rattle.validate.proofs.gather.each_application.Goals.{in-End, in-At+then-i-ge-APPLICATIONS}
 use Rattle.validate.proofs.gather.each_application.Goals as goal
 
 pub keys_of-w-requires : goal.keys_of-w-requires
@@ -35,4 +35,8 @@ pub first_clash-requires : goal.first_clash-requires
 first_clash-requires c = search (rules, apps_all)
 
 pub returns : goal.returns
-returns c = ⊎_elim (λ w. search (rules, apps_none)) (λ w. search (rules, apps_many)) c.match-step.branch
+returns c =
+    elim c.match-step.branch [
+      in-End w ↦ search (rules, apps_none)
+    | in-At+then-i-ge-APPLICATIONS w ↦ search (rules, apps_many)
+    ]

@@ -1,7 +1,7 @@
 use borrow.Author.Rules.{rules}
-use mathlib.Core.Logic.{⊎_elim}
 use Rattle.tree.specs.Steps.{item_room, item_stands, item_fewer}
 use Rattle.validate.proofs.Gathering.{comps_start, comps_marked, comps_none, comps_room, comps_not, comps_on}
+use Rattle.validate.proofs.gather.each_component.Goals.{in-End, in-At+then-e-ne0}
 use Rattle.validate.proofs.gather.each_component.Goals as goal
 
 pub loop-value-init : goal.loop-value-init
@@ -38,4 +38,4 @@ pub judge_marks-own-requires : goal.judge_marks-own-requires
 judge_marks-own-requires c = search (rules, comps_marked)
 
 pub returns : goal.returns
-returns c = ⊎_elim (λ w. search (rules, comps_none)) (λ w. search (rules, comps_not)) c.match-step.branch
+returns c = elim c.match-step.branch [ in-End w ↦ search (rules, comps_none) | in-At+then-e-ne0 w ↦ search (rules, comps_not) ]
