@@ -38,7 +38,7 @@ MET = {
 
 def files(ending, folder="crates"):
     for d, ds, fs in os.walk(folder):
-        ds[:] = sorted(x for x in ds if x not in ("out", ".git", "target"))
+        ds[:] = sorted(x for x in ds if x not in ("out", ".git"))
         for f in sorted(fs):
             if f.endswith(ending):
                 yield os.path.join(d, f)

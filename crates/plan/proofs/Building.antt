@@ -183,12 +183,11 @@ module _ (room store : Seq ℕ) (made place end : ℕ) where
 
 -- ---- the application's use after them
 
--- an array in a struct is as long as its elements in the machine
-module _ {X : Type 0} (f : Use → X) (u : BuildList) (h : Room u) (w : length (map f u.items) ≡ 129) where
+module _ (u : BuildList) (h : Room u) (w : length u.items ≡ 129) where
   pub follows : (room store : Seq ℕ) (made n : ℕ) (x : Use) → build_at x ≡ application_use room store made n
       → Followed room store made n u (record { count = u.count + 1; items = set u.items u.count x })
   follows room store made n x e =
-      let s : take (suc u.count) (set u.items u.count x) ≡ take u.count u.items ++ (x ∷ []) = take-suc-set u.items u.count x (omega (arith, h.few, w, length-map u.items f)) in
+      let s : take (suc u.count) (set u.items u.count x) ≡ take u.count u.items ++ (x ∷ []) = take-suc-set u.items u.count x (omega (arith, h.few, w)) in
       record { count = refl; items = rw (add-one u.count, s, map-append build_at (take u.count u.items) (x ∷ []), e) }
 
 -- ---- first uses
