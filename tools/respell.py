@@ -26,7 +26,7 @@ BY_HAND = {}
 MET = {
     "flag_at": ["parse/proofs/Fielding"],
     "text_at": ["parse/proofs/Fielding"],
-    "flag_by": ["agree/specs/Fields", "laws/specs/Numbers"],
+    "flag_by": ["agree/specs/Fields", "laws/specs/Numbers", "theorems/proofs/Decoding"],
     "front_read": ["parse/proofs/Fronting"],
     "in_order": ["laws/specs/Builds", "meaning/specs/Order"],
     "list_at": ["laws/specs/Numbers"],

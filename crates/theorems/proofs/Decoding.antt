@@ -77,10 +77,10 @@ kind_by_lem kinds.App = refl
 kind_by_lem kinds.Pbp = refl
 kind_by_lem kinds.Raw = refl
 
-pub flag_by : (b : Bool) → flag_by (flag_number b) ≡ some b
+pub flag_by_lem : (b : Bool) → flag_by (flag_number b) ≡ some b
 unfolding flag_by
-flag_by true = refl
-flag_by false = refl
+flag_by_lem true = refl
+flag_by_lem false = refl
 
 pub amount_by_lem : (n : Number) → amount_by (amount_of n) ≡ some (amount n)
 unfolding amount_by

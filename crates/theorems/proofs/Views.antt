@@ -59,7 +59,7 @@ use Rattle.host.proofs.Shown.{partition_shown_lem, component_shown, application_
 use Rattle.theorems.specs.Answers.{read_of}
 use Rattle.theorems.specs.Decoding.{board_by, image_by, partition_by, head_by, role_by, boot_by, load_by, application_by, source_by, build_by}
 use Rattle.theorems.specs.Views.{part_of, part_in, PresetShown, PlanShown, AcceptedIsShown, PlanIsShownByViews}
-use Rattle.theorems.proofs.Decoding.{chip_by_lem, media_by_lem, kind_by_lem, flag_by, amount_by_lem, optional_by_lem, text_by_lem, list_by_lem}
+use Rattle.theorems.proofs.Decoding.{chip_by_lem, media_by_lem, kind_by_lem, flag_by_lem, amount_by_lem, optional_by_lem, text_by_lem, list_by_lem}
 use Rattle.theorems.proofs.Presentable.{BoardWhole, ImageWhole, board_whole, image_whole, image_unlent, lent_given, WholeComponent, WholeApplication, component_found_lem, application_found}
 use Rattle.theorems.proofs.Presentable.{WholeSource, WholeBuild, WholePlanned, planned_found_lem, build_found, stem_given}
 
@@ -83,7 +83,7 @@ module _ (room store : List ℕ) (made : ℕ) (name : List ℕ) where
 
   partition_by_lem : (f : PartitionFound) → partition_by room store made name (records.partition_of f) ≡ some (partition_seen room store made name f)
   partition_by_lem partitions.Nothing = refl
-  partition_by_lem (partitions.At p) = rw (flag_by p.locked)
+  partition_by_lem (partitions.At p) = rw (flag_by_lem p.locked)
 
   head_by_lem : (f : ComponentFound) → WholeComponent f → head_by room store made name (records.head_of f) ≡ some (part_of (λ (c : schemas.Component). c.head) (component_seen room store made name f))
   head_by_lem components.Nothing h = refl
@@ -101,7 +101,7 @@ module _ (room store : List ℕ) (made : ℕ) (name : List ℕ) where
   boot_by_lem components.Nothing = refl
   boot_by_lem (components.At c) =
       rw (
-        flag_by c.boot.updater,
+        flag_by_lem c.boot.updater,
         amount_by_lem c.boot.ram,
         optional_by_lem store name c.boot.pbp,
         optional_by_lem store name c.boot.pbp_package,
@@ -116,7 +116,7 @@ module _ (room store : List ℕ) (made : ℕ) (name : List ℕ) where
         amount_by_lem c.load.entry_point,
         amount_by_lem c.load.entry_offset,
         amount_by_lem c.load.header_version,
-        flag_by c.load.with_ext,
+        flag_by_lem c.load.with_ext,
       )
 
   module _ (held : holds_values room made ≡ true) where
