@@ -11,7 +11,7 @@ use Rattle.meaning.specs.Refusal.{Fault, numbered, unmet, R, ok, bad}
 use Rattle.meaning.specs.Reading.{Grown, grown, stuck, Got, got, failed, grow_map, storing}
 use Rattle.meaning.specs.Tree.{Value, Items, Table, array, table, empty, read_as, count as many, along_path, table_or_new, push_one, open_tables, push}
 use Rattle.meaning.specs.Values.{value}
-use Rattle.meaning.specs.Document.{Doc, tables, arrays, under_header}
+use Rattle.meaning.specs.Document.{Doc, tables, arrays}
 use Rattle.scalar.specs.Splits.{flat, ends_of}
 use Rattle.tree.specs.declared.Slot.{Slot}
 use Rattle.values.specs.Out.{Out}
@@ -19,7 +19,7 @@ use Rattle.values.specs.Fill.{value_out}
 use Rattle.values.specs.Grow.{Seg, segs_of, enter_s, down_s, push_s, to_last_s, Grown as GrownS, grown as grownS, stuck as stuckS, onward as onwardS}
 use Rattle.values.specs.Doc.{Doc as DocS, settle_s}
 use Rattle.agree.specs.Key.{Key, name, index}
-use Rattle.agree.specs.Finds.{get, find, set_at, nth, nth_set, at, set_same, snoc_set, count_snoc}
+use Rattle.agree.specs.Finds.{get, find, set_at, nth, nth_set, set_same, snoc_set, count_snoc}
 use Rattle.agree.specs.Steps.{Agree, to}
 use Rattle.agree.specs.Down.{onto, graft, Spelling, Stand, Came, Comes, down_comes}
 use Rattle.agree.specs.Push.{longer, Pushes, push_comes}

@@ -1,7 +1,7 @@
 -- The searches in the tree room are those in its list of values, and a string's data tells where its bytes lie.
-use Rattle.std.specs.Prelude.{ℕ, zero, suc, ◌+◌, ◌-◌, ◌*◌, ◌/◌, ◌%◌, ◌≤◌, ◌<◌, Bool, true, false, ◌≡◌, refl, drop}
-use mathlib.Core.List.{List, [], ◌∷◌, ◌++◌}
-use Rattle.std.proofs.Common.{sym, subst, ◌∙◌, arith, mod-eq_of_lt}
+use Rattle.std.specs.Prelude.{ℕ, zero, suc, ◌+◌, ◌-◌, ◌*◌, ◌/◌, ◌%◌, ◌≤◌, ◌<◌, false, ◌≡◌, refl, drop}
+use mathlib.Core.List.{List, ◌++◌}
+use Rattle.std.proofs.Common.{sym, ◌∙◌, arith, mod-eq_of_lt}
 use Rattle.std.proofs.Math.Path.{ap}
 use Rattle.std.proofs.Math.Nat.{add-mul-mod_self_left, mod-add-div}
 use Rattle.std.proofs.Math.Dec.{eqb}

@@ -1,5 +1,5 @@
 -- White space, trimming and UTF-8: what each loop keeps, and one law for each way on and out.
-use Prim.Native.Nat.{ℕ, zero, suc, ◌+◌, ◌-◌, ◌^◌, ◌≤◌, ◌<◌}
+use Prim.Native.Nat.{ℕ, suc, ◌+◌, ◌-◌, ◌^◌, ◌≤◌, ◌<◌}
 use mathlib.Core.Bool.{Bool, true, false}
 use mathlib.Core.List.{List, [], ◌∷◌, ◌++◌}
 use mathlib.Core.Path.{◌≡◌, refl, sym, ap, ◌∙◌}
@@ -12,15 +12,14 @@ use lib.Dec.{eqb}
 use lib.ListN.{length, get_or, take, drop, length-drop, drop_of_length-le}
 use lib.Seq.{take_all, take-take, take-suc, length-take-le, drop-drop, drop-cons}
 use Rattle.meaning.specs.Base.{pick, nil?, between}
-use Rattle.meaning.specs.Utf8.{Range, char, point, chars, spelled, well_formed, valid}
-use Rattle.meaning.specs.Space.{spaces, inside, white, trim_head, trim_tail, trim_start, trim_end, trim, blank}
+use Rattle.meaning.specs.Utf8.{Range, char, point, chars, well_formed, valid}
+use Rattle.meaning.specs.Space.{spaces, inside, white, trim_head, trim_tail, trim_start, trim_end, blank}
 use Rattle.laws.specs.Cases.{on}
 use Rattle.laws.specs.Parts.{rest_of}
 use Rattle.laws.specs.Chars.{char_fits, char_most, spelled_chars, valid_more, valid_stop}
 use Rattle.laws.specs.Trim.{white_at, ends_in, white_end, white_fits, end_fits, head_more, head_stop, end_more, end_stop, trim_both, blank_is}
 use Rattle.chars.specs.Ascii.{ascii_char, ascii_at, ascii_end}
 use Rattle.chars.specs.Trimmed.{Starting, Ending, Started, Ended, Trimmed}
-use Rattle.chars.specs.declared.Span.{Span}
 
 -- ---- White_Space in three groups
 inside_append : (rs qs : List Range) (p : ℕ) → inside (rs ++ qs) p ≡ pick (inside rs p) true (inside qs p)

@@ -1,5 +1,5 @@
 -- What the functions on white space leave: where a trimmed part lies.
-use Rattle.std.specs.Prelude.{ℕ, ◌+◌, ◌-◌, ◌≤◌, ◌<◌, false, List, ◌≡◌, length, get_or, take, drop}
+use Rattle.std.specs.Prelude.{ℕ, ◌-◌, ◌≤◌, ◌<◌, false, List, ◌≡◌, length, get_or, take, drop}
 use Rattle.meaning.specs.Utf8.{chars}
 use Rattle.meaning.specs.Space.{white, trim_head, trim_tail, trim_start, trim_end, trim}
 use Rattle.chars.specs.declared.Span.{Span}

@@ -1,7 +1,7 @@
 -- Corners of 01 on keys, by computation.
-use Rattle.std.specs.Prelude.{ℕ, List, [], ◌∷◌, ◌++◌, ◌≡◌, refl}
+use Rattle.std.specs.Prelude.{[], ◌∷◌, ◌≡◌, refl}
 use Rattle.meaning.specs.Base.{ascii}
-use Rattle.meaning.specs.Refusal.{R, ok, bad}
+use Rattle.meaning.specs.Refusal.{ok, bad}
 use Rattle.meaning.specs.Keys.{keys, computes}
 
 -- splitting at dots goes first: the second segment of `a"."b` is `"b`

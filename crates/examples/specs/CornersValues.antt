@@ -3,7 +3,7 @@ use Rattle.std.specs.Prelude.{ℕ, zero, suc, List, [], ◌∷◌, ◌++◌, ◌
 use Rattle.std.proofs.Common.{ap}
 use Rattle.meaning.specs.Base.{ascii}
 use Rattle.meaning.specs.Limits.{of01}
-use Rattle.meaning.specs.Refusal.{R, ok, bad, numbered}
+use Rattle.meaning.specs.Refusal.{ok, bad, numbered}
 use Rattle.meaning.specs.Integers.{integer, value, clean, computes}
 use Rattle.meaning.specs.Reading.{Got, got, failed}
 use Rattle.meaning.specs.Tree.{Value, array, none', item}

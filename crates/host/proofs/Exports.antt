@@ -1,18 +1,17 @@
 -- The exports of the text layer: one law for each way out.
-use Prim.Native.Nat.{ℕ, ◌+◌, ◌^◌, ◌≤◌, ◌<◌}
-use mathlib.Core.Bool.{Bool, true, false}
-use mathlib.Core.List.{List, [], ◌∷◌, ◌++◌}
-use mathlib.Core.Path.{◌≡◌, refl, sym, ap, ◌∙◌}
+use Prim.Native.Nat.{ℕ, ◌+◌, ◌≤◌, ◌<◌}
+use mathlib.Core.List.{List}
+use mathlib.Core.Path.{◌≡◌, sym, ap, ◌∙◌}
 use native.Mathlib.Omega.{arith}
 use borrow.Author.Tests.{lt-ltb, le-ltb}
 use lib.Dec.{ltb}
-use lib.ListN.{length, drop}
+use lib.ListN.{length}
 use mir.Syntax.{w32}
 use mir.Val.{Fits}
 use Rattle.meaning.specs.declared.Limits.{Limits}
-use Rattle.meaning.specs.Base.{pick, zeros}
+use Rattle.meaning.specs.Base.{zeros}
 use Rattle.meaning.specs.Limits.{of01}
-use Rattle.meaning.specs.Refusal.{Answer, accepted, refused, at_line, at_no_line}
+use Rattle.meaning.specs.Refusal.{accepted, at_line}
 use Rattle.meaning.specs.Utf8.{valid}
 use Rattle.meaning.specs.Lines as meant
 use Rattle.laws.specs.Cases.{on}
@@ -27,7 +26,7 @@ use Rattle.text.specs.Walk.{next, Follows}
 use Rattle.text.specs.Answers.{Count, answer_of, measured, Small, Reads}
 use Rattle.host.specs.declared.Lines.{Lines}
 use Rattle.host.specs.declared.Line.{Line}
-use Rattle.host.specs.Text.{no_line, line_of, lines_of, refused_at, judged, Exported}
+use Rattle.host.specs.Text.{no_line, line_of, refused_at, judged, Exported}
 
 -- ---- preset_text_next
 module _ (s : List ℕ) (at n : ℕ) (r : Next) (f : Follows s at n r) where

@@ -1,16 +1,15 @@
 -- The exports of keys: one law for each way out.
-use Prim.Native.Nat.{ℕ, zero, suc, ◌+◌, ◌-◌, ◌≤◌, ◌<◌}
-use mathlib.Core.Bool.{Bool, true, false}
+use Prim.Native.Nat.{ℕ, zero, suc, ◌-◌, ◌≤◌, ◌<◌}
+use mathlib.Core.Bool.{false}
 use mathlib.Core.List.{List, [], ◌∷◌, ◌++◌}
 use mathlib.Core.Path.{◌≡◌, refl, sym, ap, ◌∙◌}
 use native.Mathlib.Omega.{arith}
 use native.Mathlib.Nat.{zero-add}
 use borrow.Author.Tests.{lt-ltb, le-ltb, ltb-true, ltb-false}
 use lib.Dec.{ltb}
-use lib.ListN.{length, get_or, take, drop, length-append, get_or-append, get_or-eq_default}
-use lib.Seq.{get_or-append-add}
-use Rattle.meaning.specs.Base.{pick, zeros}
-use Rattle.meaning.specs.Refusal.{R, ok, bad}
+use lib.ListN.{length, get_or, get_or-append, get_or-eq_default}
+use Rattle.meaning.specs.Base.{zeros}
+use Rattle.meaning.specs.Refusal.{bad}
 use Rattle.meaning.specs.Keys.{keys}
 use Rattle.scalar.specs.declared.key.Key.{Key}
 use Rattle.laws.specs.Stored.{stored}
@@ -21,7 +20,7 @@ use Rattle.scalar.proofs.Keying.{Accepted, accepted}
 use Rattle.toml_lite.specs.Rooms.{verdict_number}
 use Rattle.toml_lite.proofs.Keying.{verdict_fine, verdict_bad}
 use Rattle.host.specs.declared.single_values.Segments.{Segments}
-use Rattle.host.specs.Values.{segments_of, end_of, Split, Ends}
+use Rattle.host.specs.Values.{Split, Ends}
 use Rattle.slices.proofs.Zeroing.{length_zeros}
 
 zeros_at : (n i : ℕ) → get_or (zeros n) i 0 ≡ 0

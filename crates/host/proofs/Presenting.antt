@@ -1,5 +1,5 @@
 -- The exports of whole presets: one law for each way out.
-use Prim.Native.Nat.{ℕ, ◌+◌, ◌*◌, ◌/◌, ◌≤◌, ◌<◌}
+use Prim.Native.Nat.{ℕ, ◌/◌, ◌≤◌, ◌<◌}
 use mathlib.Core.List.{List, [], ◌∷◌}
 use mathlib.Core.Path.{◌≡◌, refl, sym, ap, subst, ◌∙◌}
 use native.Mathlib.Omega.{arith}
@@ -8,7 +8,7 @@ use mir.Val.{Fits}
 use borrow.Author.Tests.{lt-ltb, le-ltb, eq-eqb, ne_eqb}
 use lib.Dec.{ltb}
 use lib.ListN.{length}
-use Rattle.meaning.specs.Base.{pick, zeros}
+use Rattle.meaning.specs.Base.{zeros}
 use Rattle.meaning.specs.Limits.{of01}
 use Rattle.meaning.specs.Refusal.{Answer, accepted, refused, number_of, in_text, at_line}
 use Rattle.meaning.specs.Document.{Parsed, in_rooms}
@@ -41,7 +41,7 @@ use Rattle.toml_lite.specs.Rooms.{read_of, Small, Cleared, suffice, judged}
 use Rattle.toml_lite.proofs.Reading.{suffices}
 use Rattle.host.specs.declared.documents.Outcome.{Outcome}
 use Rattle.host.specs.declared.documents.At.{At}
-use Rattle.host.specs.Documents.{outcome_of, Presented, at_of, within, child_shown, last_visited, next_shown}
+use Rattle.host.specs.Documents.{Presented, at_of, within, child_shown, last_visited, next_shown}
 use Rattle.slices.proofs.Zeroing.{length_zeros}
 
 -- what is accepted in the rooms is accepted

@@ -1,19 +1,19 @@
 -- The export of values: one law for each way out.
-use Prim.Native.Nat.{ℕ, zero, suc, ◌+◌, ◌*◌, ◌≤◌, ◌<◌}
+use Prim.Native.Nat.{ℕ, ◌≤◌, ◌<◌}
 use mathlib.Core.Bool.{Bool, true, false}
-use mathlib.Core.List.{List, [], ◌∷◌, ◌++◌}
-use mathlib.Core.Path.{◌≡◌, refl, sym, ap, ◌∙◌}
+use mathlib.Core.List.{List}
+use mathlib.Core.Path.{◌≡◌, sym, ap, ◌∙◌}
 use native.Mathlib.Omega.{arith}
 use native.Mathlib.Nat.{zero-add}
-use borrow.Author.Tests.{lt-ltb, le-ltb, ltb-true, ltb-false, eq-eqb, ne_eqb, eqb-true, eqb-false}
+use borrow.Author.Tests.{lt-ltb, le-ltb, ltb-false, eq-eqb, ne_eqb}
 use lib.Dec.{eqb, ltb}
 use lib.ListN.{length}
-use Rattle.meaning.specs.Base.{pick, zeros}
+use Rattle.meaning.specs.Base.{zeros}
 use Rattle.laws.specs.Cases.{on}
 use Rattle.values.specs.declared.State.{State}
 use Rattle.values.specs.declared.Reply.{Reply}
 use Rattle.values.specs.declared.Reply.TheVariants.{Fine, Fault}
-use Rattle.values.specs.Out.{Out, moved, reply_of, cells, Ready, Filled}
+use Rattle.values.specs.Out.{moved, cells, Ready, Filled}
 use Rattle.toml_lite.specs.Rooms.{suffice}
 use Rattle.toml_lite.proofs.Reading.{suffices}
 use Rattle.host.specs.declared.single_values.ValueRead.{ValueRead}

@@ -1,15 +1,15 @@
 -- The export of presets: what the rooms say of a text's records is what 01 says.
-use Prim.Native.Nat.{ℕ, ◌+◌, ◌/◌, ◌≤◌, ◌<◌}
-use mathlib.Core.Bool.{Bool, true, false}
+use Prim.Native.Nat.{ℕ, ◌/◌, ◌≤◌, ◌<◌}
+use mathlib.Core.Bool.{true}
 use mathlib.Core.List.{List, []}
 use mathlib.Core.Path.{◌≡◌, refl, sym, ap, subst, ◌∙◌}
 use native.Mathlib.Omega.{arith}
 use borrow.Author.Tests.{eq-eqb, ne_eqb, eqb-true, eqb-false, le-ltb, ltb-false}
 use lib.Dec.{eqb, ltb}
 use lib.ListN.{length}
-use Rattle.meaning.specs.Base.{pick, zeros}
+use Rattle.meaning.specs.Base.{zeros}
 use Rattle.meaning.specs.Limits.{of01}
-use Rattle.meaning.specs.Refusal.{Fault, Answer, accepted, refused, accepted_then, number_of, numbered, at_line}
+use Rattle.meaning.specs.Refusal.{Answer, accepted, refused, accepted_then, numbered, at_line}
 use Rattle.meaning.specs.Document.{Parsed, in_rooms}
 use Rattle.meaning.specs.Tree.{Table, table}
 use Rattle.meaning.specs.Schema as meant
@@ -19,13 +19,12 @@ use Rattle.meaning.specs.Rules.{rules}
 use Rattle.meaning.specs.Plan as plans
 use Rattle.laws.specs.Cases.{on}
 use Rattle.scalar.specs.Stores.{over}
-use Rattle.tree.specs.declared.Slot.{Slot}
 use Rattle.tree.specs.Doors.{fields_of}
 use Rattle.values.specs.Out.{cells}
 use Rattle.values.specs.Doc.{Doc, document_s}
 use Rattle.values.proofs.Carrying.{length_cells, length_over}
 use Rattle.agree.specs.Steps.{Agree}
-use Rattle.agree.specs.Reads.{Place, place_root}
+use Rattle.agree.specs.Reads.{place_root}
 use Rattle.agree.specs.Rooms.{Carried, carried}
 use Rattle.agree.specs.Whole.{Doc-agrees}
 use Rattle.agree.specs.Theorem.{bytes_fit, slots_fit}
@@ -35,7 +34,7 @@ use Rattle.toml_lite.specs.Rooms.{judged}
 use Rattle.parse.specs.declared.Refusal.{Refusal}
 use Rattle.preset.specs.declared.Outcome as parsed
 use Rattle.parse.specs.Refusals.{earlier}
-use Rattle.parse.specs.Refused.{lent_text, verdict}
+use Rattle.parse.specs.Refused.{lent_text}
 use Rattle.parse.specs.Views.{holds_values}
 use Rattle.parse.specs.Verdict as verdicts
 use Rattle.preset.specs.Settled as settled
@@ -51,7 +50,7 @@ use Rattle.plan.specs.ChoiceSaid.{selection, selected, plan_says}
 use Rattle.plan.specs.Planning.{planning}
 use Rattle.host.specs.declared.documents.Outcome.{Outcome}
 use Rattle.host.specs.Documents.{Shown}
-use Rattle.host.specs.Presets.{outcome_by, Recorded, Records, Answered, recorded, validated, exported}
+use Rattle.host.specs.Presets.{Answered, recorded, validated, exported}
 use Rattle.host.specs.Plans.{planned}
 use Rattle.slices.proofs.Zeroing.{length_zeros}
 use Rattle.host.proofs.Presenting.{judged_is, large, judged_agrees}

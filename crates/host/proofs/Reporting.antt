@@ -1,7 +1,7 @@
 -- The listing is 01's: one law for each way out.
-use Prim.Native.Nat.{ℕ, ◌+◌, ◌%◌, ◌≤◌, ◌<◌}
+use Prim.Native.Nat.{ℕ, ◌%◌, ◌≤◌, ◌<◌}
 use mathlib.Core.Bool.{Bool, true, false}
-use mathlib.Core.List.{List, [], ◌∷◌, ◌++◌}
+use mathlib.Core.List.{List, []}
 use mathlib.Core.Option.{none}
 use mathlib.Core.Path.{◌≡◌, refl, sym, ap, subst, ◌∙◌}
 use native.Mathlib.Omega.{arith}
@@ -32,15 +32,14 @@ use Rattle.report.specs.Shown.{lines}
 use Rattle.report.specs.Said.{lines_say}
 use Rattle.preset.specs.declared.Outcome as entered
 use Rattle.preset.specs.declared.listing.Listed as lists
-use Rattle.preset.specs.Settled.{Parsed}
 use Rattle.preset.specs.Listings as entries
 use Rattle.preset.specs.Listings.{lines_in}
 use Rattle.host.specs.declared.documents.Outcome.{Outcome}
 use Rattle.host.specs.declared.listings.Listed.{Listed}
-use Rattle.host.specs.Presets.{Recorded, Answered, outcome_by, Records, exported}
+use Rattle.host.specs.Presets.{Recorded, Answered, exported}
 use Rattle.host.specs.Plans.{planned}
 use Rattle.host.specs.Planned.{plan, planned_read, planned_made}
-use Rattle.host.specs.Listings.{listed_by, read_by, listing, ReportedBy, Reported}
+use Rattle.host.specs.Listings.{listing, Reported}
 use Rattle.host.proofs.Recording.{plan_is, plan_accepted, plan_judged}
 
 -- the same numbers

@@ -1,27 +1,26 @@
 -- The exports of the layer of values: one law for each way out.
-use Prim.Native.Nat.{ℕ, zero, suc, ◌+◌, ◌*◌, ◌/◌, ◌≤◌, ◌<◌}
-use mathlib.Core.Bool.{Bool, true, false}
-use mathlib.Core.List.{List, [], ◌∷◌, ◌++◌}
+use Prim.Native.Nat.{ℕ, ◌/◌, ◌≤◌, ◌<◌}
+use mathlib.Core.Bool.{false}
+use mathlib.Core.List.{List}
 use mathlib.Core.Path.{◌≡◌, refl, sym, ap, ◌∙◌}
 use native.Mathlib.Omega.{arith}
 use borrow.Author.Tests.{lt-ltb, le-ltb}
 use lib.Dec.{ltb}
-use lib.ListN.{length, drop}
-use Rattle.meaning.specs.Base.{pick, zeros}
+use lib.ListN.{length}
+use Rattle.meaning.specs.Base.{zeros}
 use Rattle.meaning.specs.declared.Signed.{Signed}
 use Rattle.meaning.specs.Rooms.{room_after}
 use Rattle.meaning.specs.Integers.{signed}
 use Rattle.meaning.specs.declared.StringByte.TheVariants.{Plain}
-use Rattle.meaning.specs.Strings.{Ending, closed, escape, unended, Said, decode}
+use Rattle.meaning.specs.Strings.{Ending, closed, escape, unended, decode}
 use Rattle.scalar.specs.declared.integer.Int.{Int}
 use Rattle.scalar.specs.declared.integer.Int.TheVariants as ints
 use Rattle.scalar.specs.Ints.{int_of}
 use Rattle.scalar.specs.declared.string.Decoded.{Decoded}
 use Rattle.scalar.specs.declared.string.Decoded.TheVariants.{Done, Escape, Unended}
-use Rattle.scalar.specs.Decodes.{answer, answer_of, Decodes}
-use Rattle.scalar.specs.Stores.{over}
+use Rattle.scalar.specs.Decodes.{answer, Decodes}
 use Rattle.tree.specs.declared.Slot.{Slot}
-use Rattle.tree.specs.Room.{slot_at, Holds}
+use Rattle.tree.specs.Room.{slot_at}
 use Rattle.host.specs.declared.single_values.Spelling.{Spelling}
 use Rattle.host.specs.Values.{unplaced, number_of, spelling_by, ended_as, Spelled, value_of, slot_of}
 use Rattle.slices.proofs.Zeroing.{length_zeros}

@@ -1,14 +1,13 @@
 -- What the exports of the text layer say, in the words of the definitions.
-use Rattle.std.specs.Prelude.{ℕ, ◌+◌, ◌≤◌, ◌<◌, Bool, List, [], ◌∷◌, ◌++◌, ◌≡◌, ltb, length}
+use Rattle.std.specs.Prelude.{ℕ, List, ◌≡◌, ltb, length}
 use Rattle.meaning.specs.Base.{pick}
 use Rattle.meaning.specs.Limits.{of01}
-use Rattle.meaning.specs.Refusal.{Answer, accepted, refused, Fault, number_of, numbered, at_no_line}
+use Rattle.meaning.specs.Refusal.{Answer, accepted, refused, number_of, at_no_line}
 use Rattle.meaning.specs.Rooms.{room_after}
 use Rattle.meaning.specs.Lines as meant
 use Rattle.chars.specs.declared.Span as chars
 use Rattle.text.specs.declared.Next.{Next}
 use Rattle.text.specs.declared.Next.TheVariants as nexts
-use Rattle.text.specs.declared.Place.{Place}
 use Rattle.text.specs.Laid.{laid}
 use Rattle.text.specs.Answers.{Count, measured}
 use Rattle.host.specs.declared.Span.{Span}

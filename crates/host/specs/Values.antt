@@ -1,11 +1,11 @@
 -- What the exports of the layer of values say, in the words of the definitions.
-use Rattle.std.specs.Prelude.{ℕ, ◌+◌, ◌/◌, Bool, true, false, List, [], ◌∷◌, ◌++◌, ◌≡◌, eqb, ltb, length, get_or}
+use Rattle.std.specs.Prelude.{ℕ, ◌/◌, false, List, ◌≡◌, eqb, ltb, length, get_or}
 use Rattle.meaning.specs.Base.{pick, zeros}
 use Rattle.meaning.specs.Refusal.{R, ok, bad, Answer, told, in_text}
 use Rattle.meaning.specs.Rooms.{room_after}
 use Rattle.meaning.specs.declared.Signed.{Signed}
 use Rattle.meaning.specs.declared.StringByte.TheVariants.{Plain}
-use Rattle.meaning.specs.Strings.{Ending, closed, escape, unended, Said, decode}
+use Rattle.meaning.specs.Strings.{Ending, closed, escape, unended, decode}
 use Rattle.meaning.specs.Keys.{keys}
 use Rattle.scalar.specs.Splits.{flat, ends_of}
 use Rattle.tree.specs.declared.Slot.{Slot}

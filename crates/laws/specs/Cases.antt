@@ -1,7 +1,7 @@
 -- By cases of a test.
-use Rattle.std.specs.Prelude.{ℕ, zero, suc, ◌+◌, ◌-◌, ◌≤◌, ◌<◌, Bool, true, false, List, [], ◌∷◌, ◌++◌, ◌≡◌, refl, leb}
-use Rattle.std.proofs.Common.{append_assoc, sym, ap, ◌∙◌, arith}
-use borrow.Author.Tests.{leb-true, le-leb, lt-leb}
+use Rattle.std.specs.Prelude.{ℕ, ◌≤◌, Bool, true, false, ◌≡◌, refl, leb}
+use Rattle.std.proofs.Common.{arith}
+use borrow.Author.Tests.{leb-true, le-leb}
 use Rattle.meaning.specs.Base.{pick, between}
 
 -- each side may use the test

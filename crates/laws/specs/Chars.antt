@@ -1,10 +1,10 @@
 -- Characters of a byte string: what one has, where the next begins, and the characters of two strings laid end to end.
-use Rattle.std.specs.Prelude.{ℕ, zero, suc, ◌+◌, ◌-◌, ◌≤◌, ◌<◌, Bool, true, false, List, [], ◌∷◌, ◌++◌, ◌≡◌, refl, length, take, drop}
-use Rattle.std.proofs.Common.{append_assoc, sym, ap, ◌∙◌, arith, length-drop, take-append-drop, length-append, drop-drop}
+use Rattle.std.specs.Prelude.{ℕ, zero, suc, ◌-◌, ◌≤◌, ◌<◌, true, false, List, [], ◌∷◌, ◌++◌, ◌≡◌, refl, length, drop}
+use Rattle.std.proofs.Common.{ap, ◌∙◌, arith, take-append-drop}
 use Rattle.std.proofs.lemmas.List.{take-append-le}
 use Rattle.std.proofs.Math.Seq.{drop-length}
-use Rattle.meaning.specs.Base.{pick, between}
-use Rattle.meaning.specs.Utf8.{Range, tail, reach, only, begins, one_of, utf8_1, utf8_2, utf8_3, utf8_4, char, point, Char, good, stray, head_of, chars, bytes_of, spelled, well_formed}
+use Rattle.meaning.specs.Base.{between}
+use Rattle.meaning.specs.Utf8.{Range, begins, one_of, utf8_1, utf8_2, utf8_3, utf8_4, char, head_of, chars, bytes_of, spelled, well_formed}
 use Rattle.laws.specs.Cases.{on, picked, never, between_no, between_low, between_high}
 
 -- ---- rows of the ABNF

@@ -19,7 +19,7 @@ use Rattle.meaning.specs.Document.{Parsed, in_rooms}
 use Rattle.meaning.specs.Preset.{Read, read, validate}
 use Rattle.meaning.specs.Plan as plans
 use Rattle.meaning.specs.Plan.{Selection, boot_chain, app, Entry, admitted, component_names, plan_of, plan}
-use Rattle.laws.specs.Cases.{on, picked}
+use Rattle.laws.specs.Cases.{picked}
 use Rattle.laws.specs.Never.{Any, Reads, Answers, then_read, never}
 
 -- ---- readers that know no place

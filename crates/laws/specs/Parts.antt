@@ -1,6 +1,6 @@
 -- The rest of a slice, lent as `&s[a..]` or `&mut s[a..]`. The borrow checker says `take (length xs - a) (drop a xs)` of the part, and, once a
 -- `&mut` part is back at ys, `take a xs ++ (ys ++ drop (length xs - a) (drop a xs))` of the whole.
-use Rattle.std.specs.Prelude.{ℕ, ◌+◌, ◌-◌, ◌<◌, ◌≤◌, List, [], ◌∷◌, ◌++◌, ◌≡◌, refl, length, take, drop}
+use Rattle.std.specs.Prelude.{ℕ, ◌-◌, ◌≤◌, List, ◌++◌, ◌≡◌, length, take, drop}
 use Rattle.std.proofs.Common.{append-nil, le_refl, length-drop, drop_of_length-le, take_all}
 
 -- the part is `drop a xs`

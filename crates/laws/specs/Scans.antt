@@ -1,6 +1,6 @@
 -- A scan over a text in two pieces, and how far its counts go.
-use Rattle.std.specs.Prelude.{ℕ, suc, ◌+◌, ◌≤◌, ◌<◌, Bool, true, false, List, [], ◌∷◌, ◌++◌, ◌≡◌, refl, length}
-use Rattle.std.proofs.Common.{sym, ap, ◌∙◌, arith}
+use Rattle.std.specs.Prelude.{ℕ, ◌+◌, ◌≤◌, List, [], ◌∷◌, ◌++◌, ◌≡◌, refl, length}
+use Rattle.std.proofs.Common.{arith}
 use Rattle.meaning.specs.declared.Scan.{Scan}
 use Rattle.meaning.specs.declared.StringState.{StringState}
 use Rattle.meaning.specs.Quote.{equals_outside, tally, step, scan, up_to, state_after}

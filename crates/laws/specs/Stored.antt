@@ -1,8 +1,8 @@
 -- Bytes stored in a room: what stands there afterwards, and what stands beside them as before.
-use Rattle.std.specs.Prelude.{ℕ, zero, suc, ◌+◌, ◌-◌, ◌≤◌, ◌<◌, ◌≡◌, refl, set}
+use Rattle.std.specs.Prelude.{ℕ, suc, ◌+◌, ◌-◌, ◌≤◌, ◌<◌, ◌≡◌, set}
 use mathlib.Core.List.{List, [], ◌∷◌, ◌++◌, append_assoc}
 use Rattle.std.proofs.Math.Path.{sym, ap}
-use Rattle.std.proofs.Common.{◌∙◌, add-zero, add_assoc, add-one, take-append-drop, take_at, take-suc-set, drop-set-lt}
+use Rattle.std.proofs.Common.{◌∙◌, add-zero, add-one, take-append-drop, take_at, take-suc-set, drop-set-lt}
 use native.Mathlib.Omega.{arith}
 use Rattle.std.proofs.Math.ListN.{length, get_or, take, drop, length-append, length-drop, get_or-append}
 use Rattle.std.proofs.Math.Seq.{drop_at, drop-drop, length-take-le, get_or-append-add, get_or-take, get_or-drop}

@@ -1,15 +1,15 @@
 -- Trimming on bytes, from the head on and backwards from the end, is trimming on characters.
 use Rattle.std.specs.Prelude.{ℕ, zero, suc, ◌+◌, ◌-◌, ◌≤◌, ◌<◌, Bool, true, false, List, [], ◌∷◌, ◌++◌, reverse, ◌≡◌, refl, eqb, leb, length, take, drop}
-use Rattle.std.proofs.Common.{append_assoc, append-nil, sym, ap, ◌∙◌, arith, eqb-true, leb-true, le-leb, eq-eqb, ne_eqb, length-drop, take-append-drop, length-append, drop_of_length-le, drop-drop, length-take-le}
-use Rattle.std.proofs.lemmas.List.{reverse-append, reverse-reverse, take-append-le}
+use Rattle.std.proofs.Common.{append_assoc, append-nil, sym, ap, ◌∙◌, arith, eqb-true, leb-true, le-leb, eq-eqb, length-drop, take-append-drop, length-append, drop_of_length-le, length-take-le}
+use Rattle.std.proofs.lemmas.List.{reverse-append, reverse-reverse}
 use Rattle.std.proofs.lemmas.Bool.{eqb-false}
 use Rattle.std.proofs.Math.Dec.{eqb-suc-zero}
-use Rattle.std.proofs.Math.Seq.{drop-length, drop-append_seam}
+use Rattle.std.proofs.Math.Seq.{drop-append_seam}
 use Rattle.meaning.specs.Base.{pick, nil?}
-use Rattle.meaning.specs.Utf8.{char, point, Char, good, stray, head_of, chars, bytes_of, spelled}
+use Rattle.meaning.specs.Utf8.{char, point, Char, head_of, chars, spelled}
 use Rattle.meaning.specs.Space.{white, white_char, trim_head, trim_tail, trim_start, trim_end, trim, blank}
 use Rattle.laws.specs.Cases.{on, picked, never}
-use Rattle.laws.specs.Chars.{Fresh, Head, char_head, char_fits, char_most, chars_skip, chars_step, chars_append, chars_one, spelled_chars}
+use Rattle.laws.specs.Chars.{Fresh, char_head, char_fits, char_most, chars_step, chars_append, chars_one, spelled_chars}
 
 -- how many bytes the white space at the head of s has, or 0
 unfoldable pub white_at : List ℕ → ℕ

@@ -1,7 +1,7 @@
 -- 01, "Refusal numbers" 40 to 48, over a list of partition records and a chip: it needs no preset.
-use Rattle.std.specs.Prelude.{ℕ, ◌+◌, ◌%◌, Bool, List, [], ◌∷◌, eqb, ltb}
+use Rattle.std.specs.Prelude.{ℕ, ◌+◌, ◌%◌, List, [], ◌∷◌, eqb, ltb}
 use Rattle.meaning.specs.Base.{pick, nil?}
-use Rattle.meaning.specs.Refusal.{Answer, refused, numbered, in_partition}
+use Rattle.meaning.specs.Refusal.{refused, numbered, in_partition}
 use Rattle.meaning.specs.Schema.{Chip, Partition, erase_for}
 use Rattle.meaning.specs.Verdict.{Verdict, first_refusal, judged, or_else, among, in_turn, with_last}
 

@@ -5,7 +5,7 @@ use Rattle.meaning.specs.declared.Fate.{Fate}
 use Rattle.meaning.specs.declared.Fate.TheVariants.{Over, Unended, Whole}
 use Rattle.meaning.specs.Base.{pick, nil?, final, cut}
 use Rattle.meaning.specs.Bytes.{line_feed, carriage_return, hash}
-use Rattle.meaning.specs.Refusal.{Answer, accepted, refused, accepted_then, at_line, at_no_line}
+use Rattle.meaning.specs.Refusal.{Answer, accepted, accepted_then, at_line, at_no_line}
 use Rattle.meaning.specs.Utf8.{valid}
 use Rattle.meaning.specs.Space.{blank}
 use Rattle.meaning.specs.declared.StringState.{StringState}

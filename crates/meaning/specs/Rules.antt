@@ -1,10 +1,10 @@
 -- 01, "Refusal numbers" 30 to 35 and 50 to 70: validation, "in table order, one entry through its checks before the
 -- next".
-use Rattle.std.specs.Prelude.{ℕ, ◌+◌, ◌%◌, Bool, true, false, List, [], ◌∷◌, ◌++◌, eqb, take}
+use Rattle.std.specs.Prelude.{ℕ, ◌%◌, Bool, true, false, List, [], ◌∷◌, ◌++◌, eqb, take}
 use Rattle.std.proofs.Math.Option.{Option, none, some}
 use Rattle.meaning.specs.Base.{pick, nil?, ascii, same, before}
 use Rattle.meaning.specs.Bytes.{semicolon}
-use Rattle.meaning.specs.Refusal.{Answer, refused, numbered, in_board, in_image, in_component, in_application}
+use Rattle.meaning.specs.Refusal.{refused, numbered, in_board, in_image, in_component, in_application}
 use Rattle.meaning.specs.Space.{trim}
 use Rattle.meaning.specs.Schema.{Chip, d13x, d21x, Media, spiNor, spiNand, chip_word, media_for, Board, Image}
 use Rattle.meaning.specs.Schema.{Partition, Component, Application, Preset}

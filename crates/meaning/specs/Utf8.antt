@@ -1,6 +1,6 @@
 -- UTF-8, from the ABNF of RFC 3629, section 4 (refusal 2, and the lent board name), and the characters of a byte
 -- string.
-use Rattle.std.specs.Prelude.{ℕ, zero, suc, ◌+◌, ◌-◌, ◌*◌, ◌%◌, Bool, true, false, List, [], ◌∷◌, ◌++◌, eqb, ltb, take}
+use Rattle.std.specs.Prelude.{ℕ, zero, suc, ◌+◌, ◌-◌, ◌*◌, ◌%◌, Bool, true, false, List, [], ◌∷◌, ◌++◌, take}
 use Rattle.meaning.specs.Base.{pick, between}
 
 -- what the ABNF writes as `%x80-BF`: the bytes from a lowest to a highest

@@ -13,7 +13,7 @@ use Rattle.meaning.specs.Print.{decimal, shown}
 use Rattle.meaning.specs.Quoting.{quoted}
 use Rattle.meaning.specs.Listing.{placed}
 use Rattle.laws.specs.Parts.{rest_of}
-use Rattle.laws.specs.Stored.{stored, stored_nil, stored_cons, length_stored}
+use Rattle.laws.specs.Stored.{stored, stored_nil, stored_cons}
 use Rattle.laws.specs.Variants.{Left, others}
 use Rattle.schema.specs.contracts.Text.{enum}
 use Rattle.schema.specs.declared.Text.{Text}

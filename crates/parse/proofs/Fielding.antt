@@ -10,7 +10,6 @@ use Rattle.laws.specs.Variants.{Left, others}
 use Rattle.tree.specs.Doors.{field}
 use Rattle.tree.specs.contracts.Value.{enum}
 use Rattle.schema.specs.contracts.Text as text
-use Rattle.schema.specs.declared.Text.{Text}
 use Rattle.schema.specs.declared.Text.TheVariants as texts
 use Rattle.schema.specs.declared.Number.TheVariants as numbers
 use Rattle.schema.specs.declared.Kind.TheVariants.{Raw}

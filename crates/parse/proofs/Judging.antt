@@ -1,16 +1,15 @@
 -- The whole of a preset's records: one law for each way out.
-use Prim.Native.Nat.{ℕ, ◌+◌, ◌/◌, ◌≤◌, ◌<◌}
+use Prim.Native.Nat.{ℕ, ◌/◌, ◌≤◌, ◌<◌}
 use mathlib.Core.Bool.{Bool, true, false}
 use mathlib.Core.List.{List as Seq}
-use mathlib.Core.Path.{◌≡◌, refl, sym, ap, subst, ◌∙◌}
+use mathlib.Core.Path.{◌≡◌, sym, ap, subst, ◌∙◌}
 use native.Mathlib.Omega.{arith}
 use borrow.Author.Tests.{eq-eqb, ne_eqb, lt-ltb, le-ltb, ltb-false}
-use lib.Dec.{eqb, ltb}
+use lib.Dec.{ltb}
 use lib.ListN.{length}
 use Rattle.meaning.specs.declared.Limits.{Limits}
 use Rattle.meaning.specs.Base.{pick, ascii}
 use Rattle.meaning.specs.Limits.{of01}
-use Rattle.meaning.specs.Refusal.{Answer, accepted, refused}
 use Rattle.laws.specs.Cases.{on}
 use Rattle.tree.specs.declared.Found.{Found}
 use Rattle.tree.specs.declared.Found.TheVariants as founds
@@ -24,7 +23,6 @@ use Rattle.schema.specs.declared.Text.{Text}
 use Rattle.schema.specs.declared.Media.{Media}
 use Rattle.schema.specs.declared.MediaRead.{MediaRead}
 use Rattle.schema.specs.Words.{media_choice}
-use Rattle.schema.specs.declared.Partition.{Partition}
 use Rattle.parse.specs.declared.Refusal.{Refusal}
 use Rattle.parse.specs.declared.front.TableRead.{TableRead}
 use Rattle.parse.specs.declared.front.ChipFound.{ChipFound}
@@ -45,7 +43,7 @@ use Rattle.parse.specs.Refusals.{in_section, earlier}
 use Rattle.parse.specs.Fields.{media_at}
 use Rattle.parse.specs.Front.{table_at, chip_of, board_read, image_read, front_of, front_read}
 use Rattle.parse.specs.Given.{partitioned_fault}
-use Rattle.parse.specs.Entries.{list_of, or_other, list_at, keys_of, keys_at, Among, Partitioned, partitions, components, applications, refusal_of, partition_at, component_at, application_at, Keyed, nth_key}
+use Rattle.parse.specs.Entries.{list_of, or_other, list_at, keys_of, keys_at, Among, Partitioned, partitions, components, applications, partition_at, component_at, application_at, Keyed, nth_key}
 use Rattle.parse.specs.Views.{partition_list, component_list, application_list, good_partition, good_component, good_application, partition_of, component_of, application_of, partition, component, application, lists_of, counts_of, device_of, holds_values}
 use Rattle.parse.specs.Refused as refused
 use Rattle.parse.specs.Placed.{verdict_place}

@@ -1,15 +1,14 @@
 -- Level 2 of the lists: where a list stands, an entry by the number of its value, and all entries in their order.
-use Rattle.std.specs.Prelude.{ℕ, zero, suc, ◌+◌, ◌-◌, ◌≤◌, false, List as Seq, [], ◌∷◌, ◌++◌, ◌≡◌, eqb, ltb, length, replicate}
+use Rattle.std.specs.Prelude.{ℕ, zero, suc, ◌+◌, ◌-◌, ◌≤◌, false, List as Seq, [], ◌∷◌, ◌++◌, ◌≡◌, eqb, length, replicate}
 use Rattle.meaning.specs.Base.{pick, ascii}
 use Rattle.meaning.specs.Refusal.{R, ok, bad, Answer, accepted, refused, number_of, in_partition, in_component, in_application}
 use Rattle.meaning.specs.Fields.{each, listed}
-use Rattle.tree.specs.declared.Slot.{Slot}
 use Rattle.tree.specs.declared.Found.{Found}
 use Rattle.tree.specs.declared.Found.TheVariants.{At, Nothing}
 use Rattle.tree.specs.declared.Value.{Value}
 use Rattle.tree.specs.declared.Value.TheVariants as values
 use Rattle.tree.specs.declared.Fields.{Fields}
-use Rattle.tree.specs.Room.{Holds, slot_at}
+use Rattle.tree.specs.Room.{slot_at}
 use Rattle.tree.specs.Order.{next}
 use Rattle.tree.specs.Doors.{Rooms, field, fields_of, value_at, items, nth_of}
 use Rattle.schema.specs.declared.Text.TheVariants as texts

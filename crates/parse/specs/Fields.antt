@@ -1,5 +1,5 @@
 -- Level 2 of a field: what each reader gives for a value of the rooms, with its fault, 0 for none.
-use Rattle.std.specs.Prelude.{ℕ, Bool, true, false, List, eqb, leb}
+use Rattle.std.specs.Prelude.{ℕ, Bool, false, List, eqb, leb}
 use Rattle.meaning.specs.Base.{pick, ascii}
 use Rattle.tree.specs.declared.Value.{Value}
 use Rattle.tree.specs.declared.Value.TheVariants as values
@@ -7,7 +7,6 @@ use Rattle.tree.specs.declared.Fields.{Fields}
 use Rattle.tree.specs.Doors as doors
 use Rattle.schema.specs.declared.Text.{Text}
 use Rattle.schema.specs.declared.Text.TheVariants as texts
-use Rattle.schema.specs.declared.Number.{Number}
 use Rattle.schema.specs.declared.Number.TheVariants as numbers
 use Rattle.schema.specs.declared.Kind.TheVariants.{Raw}
 use Rattle.schema.specs.declared.KindRead.{KindRead}

@@ -8,7 +8,6 @@ use Rattle.tree.specs.declared.Value.{Value as Read}
 use Rattle.tree.specs.declared.Value.TheVariants as read
 use Rattle.schema.specs.declared.Text.{Text}
 use Rattle.schema.specs.declared.Text.TheVariants as texts
-use Rattle.schema.specs.declared.Number.{Number}
 use Rattle.schema.specs.Texts.{clip, spelled, optional, or_text}
 use Rattle.parse.specs.Fields.{first_fault, text_read}
 use Rattle.parse.specs.Meant.{Got}

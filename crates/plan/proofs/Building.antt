@@ -19,7 +19,6 @@ use Rattle.tree.specs.declared.Item.{Item}
 use Rattle.tree.specs.declared.Item.TheVariants as given
 use Rattle.tree.specs.Steps.{items_from, to_come, Gives, KeyIs, item_room, item_ended, item_given, item_stands}
 use Rattle.validate.proofs.Pairing.{key_spot_lem}
-use Rattle.tree.specs.declared.Found.TheVariants.{At, Nothing}
 use Rattle.tree.specs.Room.{Holds}
 use Rattle.tree.specs.Doors as doors
 use Rattle.tree.specs.Doors.{Rooms, Stood}

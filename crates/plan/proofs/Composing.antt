@@ -14,7 +14,6 @@ use Rattle.tree.specs.declared.Items.{Items}
 use Rattle.tree.specs.declared.Item.{Item}
 use Rattle.tree.specs.declared.Item.TheVariants as given
 use Rattle.tree.specs.Steps.{items_from, to_come, Gives, item_ended, item_given}
-use Rattle.tree.specs.declared.Found.TheVariants.{At, Nothing}
 use Rattle.tree.specs.declared.Value.{Value}
 use Rattle.tree.specs.Room.{Counts}
 use Rattle.tree.specs.Doors.{Rooms, Stood, value_at}

@@ -1,22 +1,22 @@
 -- The string decoder: what its loop keeps, one law for each way on and out, and the rest of a store that is lent to it.
-use Prim.Native.Nat.{ℕ, zero, suc, ◌+◌, ◌-◌, ◌≤◌, ◌<◌}
+use Prim.Native.Nat.{ℕ, ◌+◌, ◌-◌, ◌≤◌, ◌<◌}
 use mathlib.Core.List.{List, [], ◌∷◌, ◌++◌, append_assoc, append-nil}
 use mathlib.Core.Path.{◌≡◌, refl, sym, ap, ◌∙◌}
 use native.Mathlib.Omega.{arith}
 use native.Mathlib.Nat.{add_assoc, zero-add, add-zero}
 use native.Mathlib.Numerals.{add-one}
-use lib.ListN.{length, get_or, take, drop, set, length-set, length-drop, length-append, take-append-drop, drop_of_length-le}
+use lib.ListN.{length, get_or, take, drop, set, length-set, length-drop, take-append-drop, drop_of_length-le}
 use lib.Seq.{drop-cons, take-suc-set, drop-set-lt, drop-drop, length-take-le}
 use Rattle.meaning.specs.declared.Act.{Act}
 use Rattle.meaning.specs.declared.Act.TheVariants.{End, Hold, Put, Fault}
 use Rattle.meaning.specs.declared.StringByte.{StringByte}
 use Rattle.meaning.specs.declared.StringByte.TheVariants.{Plain, AfterBackslash}
-use Rattle.meaning.specs.Strings.{held, act_of, Ending, closed, escape, unended, Said, ends_here, says_first, by_act, decode}
+use Rattle.meaning.specs.Strings.{held, act_of, Ending, closed, escape, unended, ends_here, says_first, by_act, decode}
 use Rattle.laws.specs.Parts.{rest_of, back_of}
 use Rattle.scalar.specs.declared.string.Decoded.{Decoded}
 use Rattle.scalar.specs.declared.string.Decoded.TheVariants.{Done, Escape, Unended}
-use Rattle.scalar.specs.Stores.{over, stored}
-use Rattle.scalar.specs.Decodes.{answer, answer_of, Closed, Stuck, Open, Within, Decodes, Room, Puts}
+use Rattle.scalar.specs.Stores.{stored}
+use Rattle.scalar.specs.Decodes.{answer, Within, Decodes, Room, Puts}
 
 -- what a byte does in a state, told by the state's variant
 pub act_at : (st v : StringByte) (b : ℕ) (x : Act) → st ≡ v → x ≡ act_of v b → x ≡ act_of st b

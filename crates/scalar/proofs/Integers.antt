@@ -1,5 +1,5 @@
 -- Integers: what each loop keeps, and one law for each way on and out.
-use Prim.Native.Nat.{ℕ, zero, suc, ◌+◌, ◌-◌, ◌*◌, ◌/◌, ◌^◌, ◌≤◌, ◌<◌}
+use Prim.Native.Nat.{ℕ, zero, suc, ◌+◌, ◌-◌, ◌*◌, ◌/◌, ◌≤◌, ◌<◌}
 use mathlib.Core.Bool.{Bool, true, false}
 use mathlib.Core.List.{List, [], ◌∷◌}
 use mathlib.Core.Path.{◌≡◌, refl, sym, ap, ◌∙◌}
@@ -7,16 +7,14 @@ use native.Mathlib.Nat.{div-lt_iff_lt-mul, le-div_iff_mul-le}
 use native.Mathlib.Omega.{arith}
 use native.Mathlib.Numerals.{add-one}
 use borrow.Author.Tests.{eq-eqb, ne_eqb, le-ltb, lt-ltb, le-leb, lt-leb, leb-false, ltb-true, ltb-false}
-use lib.Dec.{eqb, ltb, leb}
-use mir.Syntax.{w64}
+use lib.Dec.{ltb, leb}
 use lib.ListN.{length, get_or, drop, drop_of_length-le}
 use lib.Seq.{drop-cons}
-use Rattle.meaning.specs.Base.{pick, nil?}
+use Rattle.meaning.specs.Base.{nil?}
 use Rattle.meaning.specs.Refusal.{R, ok, bad, ok_then}
 use Rattle.meaning.specs.Integers.{digit, value, clean, most, within, magnitude, sign, body, signed}
 use Rattle.laws.specs.Cases.{on, picked}
 use Rattle.scalar.specs.Ints.{int_of, digits_of, more, Skipped, Passed}
-use Rattle.meaning.specs.declared.Signed.{Signed}
 use Rattle.scalar.specs.declared.integer.Int.{Int}
 use Rattle.scalar.specs.declared.integer.Int.TheVariants.{Value, Wrong}
 use Rattle.scalar.specs.declared.integer.Digits.{Digits}

@@ -1,12 +1,11 @@
 -- What callers cite of keys: what an answer means, where each segment lies, and that a contract decides.
 use Prim.Native.Nat.{ℕ, zero, suc, ◌+◌, ◌-◌, ◌≤◌, ◌<◌}
-use mathlib.Core.Bool.{Bool, true, false}
 use mathlib.Core.List.{List, [], ◌∷◌, ◌++◌, append_assoc, append-nil}
 use mathlib.Core.Path.{◌≡◌, refl, sym, ap, ◌∙◌}
 use native.Mathlib.Omega.{arith}
-use native.Mathlib.Nat.{add_assoc, add-zero}
+use native.Mathlib.Nat.{add-zero}
 use native.Mathlib.Numerals.{add-one}
-use lib.ListN.{length, get_or, take, drop, length-append, length-drop, get_or-append}
+use lib.ListN.{length, get_or, take, drop, length-append, get_or-append}
 use lib.Seq.{drop-drop, length-take-le, take_at, drop_at}
 use Rattle.meaning.specs.Base.{zeros, cut, part}
 use Rattle.meaning.specs.Refusal.{R, ok, bad, ok_then}
@@ -25,7 +24,7 @@ use Rattle.scalar.specs.declared.key.Key.{Key}
 use Rattle.scalar.specs.Stores.{stored}
 use Rattle.scalar.specs.Decodes.{Decodes, Puts}
 use Rattle.scalar.specs.Segments.{told, laid, Segmented}
-use Rattle.scalar.specs.Splits.{Taken, none, by, taken, takes, flat, bytes_of, ends_of, Splits}
+use Rattle.scalar.specs.Splits.{Taken, by, taken, takes, flat, bytes_of, ends_of, Splits}
 use Rattle.scalar.proofs.Splitting.{ends_size}
 
 -- ---- contracts decide

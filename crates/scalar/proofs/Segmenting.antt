@@ -1,18 +1,18 @@
 -- One segment of a key: one law for each way out.
-use Prim.Native.Nat.{ℕ, zero, suc, ◌+◌, ◌-◌, ◌≤◌, ◌<◌}
-use mathlib.Core.Bool.{Bool, true, false}
+use Prim.Native.Nat.{ℕ, ◌-◌, ◌≤◌}
+use mathlib.Core.Bool.{true, false}
 use mathlib.Core.List.{List, [], ◌∷◌, ◌++◌}
 use mathlib.Core.Path.{◌≡◌, refl, sym, ap, ◌∙◌}
 use native.Mathlib.Omega.{arith}
 use borrow.Author.Tests.{eq-eqb, ne_eqb}
 use lib.Dec.{eqb}
-use lib.ListN.{length, get_or, take, drop, length-drop, length-take}
+use lib.ListN.{length, get_or, take, drop, length-drop}
 use lib.Seq.{drop-drop, length-take-le}
 use Rattle.meaning.specs.Base.{pick, nil?, final}
 use Rattle.meaning.specs.Refusal.{R, ok, bad}
 use Rattle.meaning.specs.Space.{trim}
 use Rattle.meaning.specs.declared.StringByte.TheVariants.{Plain}
-use Rattle.meaning.specs.Strings.{Ending, closed, escape, unended, Said, decode}
+use Rattle.meaning.specs.Strings.{closed, escape, unended, decode}
 use Rattle.meaning.specs.Keys.{nonempty, quoted, segment}
 use Rattle.laws.specs.Cases.{on}
 use Rattle.laws.specs.Parts.{rest_of, back_of}
@@ -21,9 +21,9 @@ use Rattle.chars.specs.declared.Span.{Span}
 use Rattle.scalar.specs.declared.string.Decoded.{Decoded}
 use Rattle.scalar.specs.declared.string.Decoded.TheVariants as decoded
 use Rattle.scalar.specs.declared.key.Verdict.{Verdict}
-use Rattle.scalar.specs.declared.key.Verdict.TheVariants.{Fine, Malformed, Escape, Unended, TooMany}
+use Rattle.scalar.specs.declared.key.Verdict.TheVariants.{Fine, Malformed, Escape, Unended}
 use Rattle.scalar.specs.declared.key.Segment.{Segment}
-use Rattle.scalar.specs.Stores.{over, stored, Room}
+use Rattle.scalar.specs.Stores.{stored, Room}
 use Rattle.scalar.specs.Decodes.{Closed, Stuck, Open, Puts}
 use Rattle.scalar.proofs.Speaking.{Speaks, string_closed, string_escape, string_unended, closed_within, escape_within, unended_within}
 use Rattle.scalar.specs.Segments.{told, judged, laid, Segmented}

@@ -7,7 +7,7 @@ use Rattle.schema.specs.declared.Text.{Text}
 use Rattle.schema.specs.declared.Text.TheVariants as texts
 use Rattle.schema.specs.declared.Word.{Word}
 use Rattle.schema.specs.declared.Span.{Span}
-use Rattle.schema.specs.Words.{word, all, Stands, word_part}
+use Rattle.schema.specs.Words.{all, Stands, word_part}
 use Rattle.schema.specs.Texts.{clip, spelled}
 
 module _ (store name : List ℕ) (t : Text) where

@@ -1,12 +1,12 @@
 -- Words, texts and places: one law for each way out.
 use Prim.Native.Nat.{ℕ, ◌+◌, ◌-◌, ◌≤◌, ◌<◌}
-use mathlib.Core.Bool.{Bool, true, false}
+use mathlib.Core.Bool.{Bool, true}
 use mathlib.Core.List.{List, [], ◌∷◌, ◌++◌}
 use mathlib.Core.Path.{◌≡◌, refl, sym, ap, subst, ◌∙◌}
 use native.Mathlib.Omega.{arith}
 use borrow.Author.Tests.{le-leb, lt-leb, le-ltb, lt-ltb}
 use lib.ListN.{length, take, drop}
-use Rattle.meaning.specs.Base.{same, part}
+use Rattle.meaning.specs.Base.{same}
 use Rattle.meaning.specs.Schema as meant
 use Rattle.laws.specs.Variants.{Left, others}
 use Rattle.schema.specs.contracts.Text.{enum}

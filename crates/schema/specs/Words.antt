@@ -1,5 +1,5 @@
 -- The fixed words, and how chips, media and kinds are found by them.
-use Rattle.std.specs.Prelude.{ℕ, ◌≤◌, List, [], ◌∷◌, ◌++◌, ltb, length, drop, ◌≡◌, refl}
+use Rattle.std.specs.Prelude.{ℕ, ◌≤◌, List, ◌++◌, ltb, length, drop, ◌≡◌, refl}
 use Rattle.meaning.specs.Base.{pick, ascii, same, part}
 use Rattle.meaning.specs.Schema as meant
 use Rattle.schema.specs.declared.Word.{Word}

@@ -1,12 +1,12 @@
 -- Numbers laid and summed byte by byte: what each loop keeps, and one law for each way on and out of it.
-use Prim.Native.Nat.{ℕ, zero, suc, ◌+◌, ◌-◌, ◌*◌, ◌/◌, ◌%◌, ◌^◌, ◌≤◌, ◌<◌}
-use mathlib.Core.List.{List, [], ◌∷◌, ◌++◌}
+use Prim.Native.Nat.{ℕ, suc, ◌+◌, ◌-◌, ◌*◌, ◌/◌, ◌%◌, ◌^◌, ◌≤◌, ◌<◌}
+use mathlib.Core.List.{List}
 use mathlib.Core.Path.{◌≡◌, refl, sym, ap, ◌∙◌}
 use native.Mathlib.Omega.{arith}
 use native.Mathlib.Nat.{mod-lt, pow-suc, pow-le-pow_right}
 use lib.Arith.{digits_lt}
 use lib.ListN.{length, get_or, set, length-set}
-use mir.Syntax.{w8, w16, w64}
+use mir.Syntax.{w8, w64}
 use mir.Val.{Fits}
 use Rattle.laws.specs.Stored.{stored, stored_nil, stored_cons}
 use Rattle.slices.specs.Numbers.{little, number, Reading, Read}

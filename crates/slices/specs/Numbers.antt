@@ -1,6 +1,6 @@
 -- Numbers of so many bytes, the least byte first: how they are written and read, over any width.
-use Rattle.std.specs.Prelude.{ℕ, zero, suc, ◌+◌, ◌*◌, ◌/◌, ◌%◌, ◌^◌, ◌≤◌, ◌<◌, List, [], ◌∷◌, ◌++◌, ◌≡◌, refl, length, get_or}
-use Rattle.std.proofs.Common.{sym, ap, ◌∙◌, arith, add-zero, div-add-mod', div-lt_iff_lt-mul, pow-suc}
+use Rattle.std.specs.Prelude.{ℕ, zero, suc, ◌+◌, ◌*◌, ◌/◌, ◌%◌, ◌^◌, ◌≤◌, ◌<◌, List, [], ◌∷◌, ◌≡◌, refl, length, get_or}
+use Rattle.std.proofs.Common.{ap, ◌∙◌, arith, add-zero, div-add-mod', div-lt_iff_lt-mul, pow-suc}
 use Rattle.laws.specs.Stored.{stored, stored_in, stored_before, stored_after}
 
 -- the k bytes of n

@@ -1,6 +1,5 @@
 -- The joined line at the head of lines by a count that is carried from line to line is the one by a count over its text.
 use Rattle.std.proofs.Common.{ℕ, ◌+◌, ◌<◌, List, [], ◌∷◌, ◌++◌, ◌≡◌, refl, sym, ap, ◌∙◌, arith, zero-add, ne_eqb, length, length-append}
-use Rattle.meaning.specs.declared.Fate.{Fate}
 use Rattle.meaning.specs.Quote.{fresh, scan, step}
 use Rattle.meaning.specs.Lines.{fate}
 use Rattle.laws.specs.Scans.{scan_append}

@@ -1,27 +1,19 @@
 -- 3 and 4 over a whole laid text, and the whole reading: one law for each way on and out.
-use Prim.Native.Nat.{ℕ, zero, suc, ◌+◌, ◌-◌, ◌≤◌, ◌<◌}
-use mathlib.Core.Bool.{Bool, true, false}
-use mathlib.Core.List.{List, [], ◌∷◌, ◌++◌}
+use Prim.Native.Nat.{ℕ, suc, ◌+◌, ◌-◌, ◌≤◌, ◌<◌}
+use mathlib.Core.List.{List, [], ◌∷◌}
 use mathlib.Core.Path.{◌≡◌, refl, sym, ap, ◌∙◌}
 use native.Mathlib.Omega.{arith}
 use native.Mathlib.Nat.{zero-add, add-zero}
-use borrow.Author.Tests.{lt-ltb, le-ltb}
-use lib.ListN.{length, take, drop, drop_of_length-le, length-append}
-use lib.Seq.{take_at, length-take-le}
-use Rattle.meaning.specs.declared.Limits.{Limits}
-use Rattle.meaning.specs.Base.{pick}
+use lib.ListN.{length, drop, drop_of_length-le}
 use Rattle.meaning.specs.Refusal.{Answer, accepted, refused, accepted_then, at_line}
-use Rattle.meaning.specs.Utf8.{valid}
-use Rattle.meaning.specs.Lines.{Line, Pending, closed, join, joined, kept_lines, physical}
-use Rattle.meaning.specs.Lines as meant
+use Rattle.meaning.specs.Lines.{Line, closed, join}
 use Rattle.text.specs.declared.Next.{Next}
 use Rattle.text.specs.declared.Next.TheVariants as nexts
 use Rattle.text.specs.declared.Place.{Place}
-use Rattle.text.specs.declared.Checked.{Checked}
 use Rattle.text.specs.declared.Checked.TheVariants as checks
-use Rattle.text.specs.Laid.{lines_of, laid, over, Lays}
-use Rattle.text.specs.Walk.{next, Follows, Onward, Says}
-use Rattle.text.specs.Answers.{checked_of, counted, Between, Checks}
+use Rattle.text.specs.Laid.{lines_of}
+use Rattle.text.specs.Walk.{Follows, Onward, Says}
+use Rattle.text.specs.Answers.{counted, Between, Checks}
 use Rattle.text.proofs.Saying.{says}
 
 -- n lines and those of j

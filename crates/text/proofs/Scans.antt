@@ -10,7 +10,7 @@ use lib.Dec.{eqb}
 use lib.ListN.{length, get_or, take, drop, length-drop, drop_of_length-le}
 use lib.Seq.{drop-cons, drop-drop}
 use Rattle.meaning.specs.declared.Scan.{Scan}
-use Rattle.meaning.specs.Base.{pick, before}
+use Rattle.meaning.specs.Base.{before}
 use Rattle.meaning.specs.declared.StringState.{StringState}
 use Rattle.meaning.specs.declared.StringState.TheVariants.{Outside, Inside, Escaped}
 use Rattle.meaning.specs.Quote.{state_after, equals_outside, tally, step, scan, fresh, up_to}

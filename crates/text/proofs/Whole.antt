@@ -6,15 +6,15 @@ use mathlib.Core.Path.{◌≡◌, refl, sym, ap, ◌∙◌}
 use native.Mathlib.Omega.{arith}
 use native.Mathlib.Numerals.{add-one}
 use borrow.Author.Tests.{lt-ltb, le-ltb, ltb-true, ltb-false, eqb-true, eqb-false, eq-eqb}
-use lib.Dec.{eqb, ltb, leb-suc-suc}
+use lib.Dec.{eqb, ltb}
 use lib.ListN.{length, get_or, take, drop, length-drop, length-append, length-take}
-use lib.Seq.{take_at, drop_at, length-take-le, take-append-le, take-take}
+use lib.Seq.{take_at, drop_at, length-take-le}
 use Rattle.meaning.specs.declared.Limits.{Limits}
-use Rattle.meaning.specs.Base.{pick, before, cut}
+use Rattle.meaning.specs.Base.{pick, before}
 use Rattle.meaning.specs.Limits.{of01}
 use Rattle.meaning.specs.declared.StringState.TheVariants.{Outside}
 use Rattle.meaning.specs.Quote.{up_to}
-use Rattle.meaning.specs.Refusal.{Answer, accepted, refused, accepted_then, at_line, at_no_line}
+use Rattle.meaning.specs.Refusal.{Answer, accepted, refused, at_line}
 use Rattle.meaning.specs.Utf8.{valid}
 use Rattle.meaning.specs.Lines.{Line, closed, join, joined, drop_cr, kept, kept_lines, physical}
 use Rattle.meaning.specs.Lines as meant
@@ -24,9 +24,9 @@ use Rattle.text.specs.declared.Checked.TheVariants as checks
 use Rattle.text.specs.declared.Reading.{Reading}
 use Rattle.text.specs.declared.Reading.TheVariants as readings
 use Rattle.text.specs.Laid.{lines_of, laid, over, first_line, Begins, Lays}
-use Rattle.text.specs.Answers.{answer_of, checked_of, counted, measured, Most, Between, Checks, Small, Roomy, Reads}
-use Rattle.text.proofs.Cuts.{before_fits, physical_there, physical_last, laid_there, laid_last, lines_there, lines_none}
-use Rattle.text.proofs.Laying.{whole_line, empty_line, cr_line, plain_line, Keeps, keeps, laid_short}
+use Rattle.text.specs.Answers.{answer_of, checked_of, counted, measured, Between, Checks, Small, Roomy, Reads}
+use Rattle.text.proofs.Cuts.{before_fits, physical_there, physical_last, laid_there, laid_last, lines_there}
+use Rattle.text.proofs.Laying.{whole_line, empty_line, cr_line, plain_line, Keeps, keeps}
 
 -- ---- no LF stands in a kept line
 record Kept (n : ℕ) (s : List ℕ) : Type 0 where

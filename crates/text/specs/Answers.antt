@@ -1,5 +1,5 @@
 -- What the answers of `text` say in 01's words.
-use Rattle.std.specs.Prelude.{ℕ, ◌+◌, ◌≤◌, ◌<◌, List, [], ◌≡◌, ltb, length, drop}
+use Rattle.std.specs.Prelude.{ℕ, ◌+◌, ◌≤◌, ◌<◌, List, ◌≡◌, ltb, length, drop}
 use Rattle.meaning.specs.declared.Limits.{Limits}
 use Rattle.meaning.specs.Base.{pick}
 use Rattle.meaning.specs.Refusal.{Answer, accepted, accepted_then, at_line, at_no_line}

@@ -1,5 +1,5 @@
 -- Kept lines one after the other: a joined line is a part of this text, and a line number is a count of LFs.
-use Rattle.std.specs.Prelude.{ℕ, ◌+◌, ◌-◌, ◌≤◌, ◌<◌, Bool, true, false, List, [], ◌∷◌, ◌++◌, ◌≡◌, eqb, ltb, length, get_or, take, drop}
+use Rattle.std.specs.Prelude.{ℕ, ◌+◌, ◌≤◌, ◌<◌, Bool, true, false, List, [], ◌∷◌, ◌++◌, ◌≡◌, eqb, ltb, length, get_or, take, drop}
 use Rattle.meaning.specs.Base.{pick, nil?, final, before, cut}
 pub use Rattle.meaning.specs.Rooms.{over}
 use Rattle.meaning.specs.Lines.{drop_cr, physical, kept, kept_lines}

@@ -1,5 +1,5 @@
 -- The walk over joined lines, each told by its place in a laid text.
-use Rattle.std.specs.Prelude.{ℕ, ◌+◌, ◌≤◌, ◌<◌, Bool, false, List, [], ◌∷◌, ◌++◌, ◌≡◌, eqb, ltb, length, drop}
+use Rattle.std.specs.Prelude.{ℕ, ◌+◌, ◌≤◌, ◌<◌, false, List, [], ◌∷◌, ◌++◌, ◌≡◌, eqb, ltb, length, drop}
 use Rattle.meaning.specs.declared.Fate.{Fate}
 use Rattle.meaning.specs.declared.Fate.TheVariants.{Over, Unended, Whole}
 use Rattle.meaning.specs.Base.{pick, part}
@@ -7,7 +7,7 @@ use Rattle.meaning.specs.Refusal.{Answer, accepted, accepted_then, at_line}
 use Rattle.meaning.specs.Space.{blank}
 use Rattle.meaning.specs.declared.Scan.{Scan}
 use Rattle.meaning.specs.Quote.{fresh, scan, step}
-use Rattle.meaning.specs.Lines.{Line, Pending, closed, fate, join}
+use Rattle.meaning.specs.Lines.{Line, closed, fate, join}
 use Rattle.text.specs.declared.Joint.{Joint}
 use Rattle.text.specs.declared.Joint.TheVariants as joints
 use Rattle.text.specs.declared.Next.{Next}

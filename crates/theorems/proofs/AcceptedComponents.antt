@@ -1,10 +1,10 @@
 -- What accepted components have, by places.
-use Prim.Native.Nat.{ℕ, ◌<◌}
+use Prim.Native.Nat.{ℕ}
 use mathlib.Core.Bool.{true, false}
-use mathlib.Core.List.{List, [], ◌∷◌}
-use mathlib.Core.Path.{◌≡◌, refl, sym, ap, ◌∙◌, subst}
-use lib.ListN.{length, get_or}
-use Rattle.meaning.specs.Base.{pick, nil?}
+use mathlib.Core.List.{List, []}
+use mathlib.Core.Path.{◌≡◌, sym, ap, ◌∙◌}
+use lib.ListN.{get_or}
+use Rattle.meaning.specs.Base.{pick}
 use Rattle.meaning.specs.Schema.{Partition, Component, Preset}
 use Rattle.meaning.specs.Verdict.{fine, among}
 use Rattle.meaning.specs.Rules.{given, name_of, partition_names, rules}
@@ -13,7 +13,7 @@ use Rattle.laws.specs.Order.{same_eq, eq_same}
 use Rattle.laws.specs.Accepted.{Kept, Groups, Meant, rules_groups, kept_source, components_some, components_kept, components_names, layout_meant}
 use Rattle.laws.specs.Places.{at_inside, at_get_or, get_d_at, all_of}
 use Rattle.theorems.specs.Words.{At}
-use Rattle.theorems.specs.AcceptedComponents.{SoundComponent, SoundComponents, AcceptedComponentsAreSound}
+use Rattle.theorems.specs.AcceptedComponents.{SoundComponent, AcceptedComponentsAreSound}
 use Rattle.theorems.proofs.Standing.{lemma_at, at_lemma}
 
 abbrev nowhere : Partition

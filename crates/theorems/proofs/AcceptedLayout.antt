@@ -1,11 +1,11 @@
 -- What an accepted layout has, by places.
 use Prim.Native.Nat.{ℕ, ◌≤◌, ◌<◌}
 use mathlib.Core.List.{List, []}
-use mathlib.Core.Bool.{Bool, true, false}
+use mathlib.Core.Bool.{true, false}
 use mathlib.Core.Path.{◌≡◌, refl, sym, ap, ◌∙◌, subst}
 use native.Mathlib.Omega.{arith}
 use lib.ListN.{length, get_or}
-use Rattle.meaning.specs.Schema.{Chip, Media, spiNor, spiNand, Board, Image, Partition, Preset, media_for, erase, erase_for}
+use Rattle.meaning.specs.Schema.{Chip, Media, spiNor, spiNand, Partition, media_for, erase, erase_for}
 use Rattle.meaning.specs.Verdict.{fine}
 use Rattle.meaning.specs.Layout.{end_of, layout}
 use Rattle.meaning.specs.Rules.{same_media, device_fault}
@@ -14,7 +14,7 @@ use Rattle.laws.specs.Order.{eq_same}
 use Rattle.laws.specs.Accepted.{Sound, rules_groups, layout_some, layout_start, layout_at, layout_names, layout_ends, layout_share}
 use Rattle.laws.specs.Places.{at_inside, at_get_or}
 use Rattle.theorems.specs.Words.{At, Holds}
-use Rattle.theorems.specs.AcceptedLayout.{SoundPartition, SoundLayout, AcceptedLayoutIsSound, PresetLayoutIsSound, EraseBlockIsTheMedias}
+use Rattle.theorems.specs.AcceptedLayout.{SoundLayout, AcceptedLayoutIsSound, PresetLayoutIsSound, EraseBlockIsTheMedias}
 use Rattle.theorems.proofs.Standing.{lemma_at}
 
 abbrev nowhere : Partition

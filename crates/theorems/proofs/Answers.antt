@@ -26,7 +26,7 @@ use Rattle.host.specs.Presets.{outcome_by, Answered, recorded, validated}
 use Rattle.host.specs.Planned.{Composed, planned_read, planned_shown}
 use Rattle.host.specs.Listings.{listed_by, listing, reported_decides}
 use Rattle.host.proofs.Recording.{answered_decides}
-use Rattle.theorems.specs.Answers.{Numbers, Sized, Says, RoomsAfter, ReadSays, ValidateSays, plan_by01, read_of, PlanSays, PlanIsShown, Lists, read_for, ListingSays, OneAnswer, OneListing}
+use Rattle.theorems.specs.Answers.{Numbers, Sized, Says, ReadSays, ValidateSays, plan_by01, read_of, PlanSays, PlanIsShown, Lists, read_for, ListingSays, OneAnswer, OneListing}
 
 -- ---- what the contracts come to
 

@@ -17,7 +17,6 @@ use Rattle.tree.specs.declared.Value.TheVariants as values
 use Rattle.tree.specs.declared.Fields.{Fields}
 use Rattle.tree.specs.Room.{slot_at, under, mine}
 use Rattle.tree.specs.Doors.{text_of, value_of, value_at, newest, fields_of, look_in, among, value_found, field, items}
-use Rattle.schema.specs.declared.Text.{Text}
 use Rattle.schema.specs.declared.Component.{Component}
 use Rattle.features.specs.Pieces.{words_from, all_texts, pieces, features_read}
 use Rattle.parse.specs.Component as component

@@ -1,5 +1,5 @@
 -- All views of the rooms that an accepted call leaves, as they are exported: decoded, they are 01's records.
-use Prim.Native.Nat.{ℕ, ◌-◌}
+use Prim.Native.Nat.{ℕ}
 use mathlib.Core.Bool.{true}
 use mathlib.Core.List.{List, []}
 use mathlib.Core.Option.{Option, some}

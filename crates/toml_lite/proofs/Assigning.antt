@@ -1,16 +1,14 @@
 -- An assignment: the value first, then its key.
-use Prim.Native.Nat.{ℕ, zero, suc, ◌+◌, ◌-◌, ◌*◌, ◌≤◌, ◌<◌}
-use mathlib.Core.Bool.{Bool, true, false}
+use Prim.Native.Nat.{ℕ, ◌+◌, ◌*◌, ◌≤◌}
+use mathlib.Core.Bool.{true, false}
 use mathlib.Core.List.{List, [], ◌∷◌, ◌++◌, append_assoc}
 use mathlib.Core.Path.{◌≡◌, refl, sym, ap, ◌∙◌}
 use native.Mathlib.Omega.{arith}
-use native.Mathlib.Nat.{le_refl}
 use borrow.Author.Tests.{eq-eqb}
-use lib.Dec.{eqb}
 use lib.ListN.{length, take, drop, length-append}
 use lib.Seq.{length-take-le, take_at}
 use Rattle.meaning.specs.declared.Limits.{Limits}
-use Rattle.meaning.specs.Base.{pick, nil?, zeros}
+use Rattle.meaning.specs.Base.{nil?, zeros}
 use Rattle.meaning.specs.Refusal.{R, ok, bad}
 use Rattle.laws.specs.Stored.{stored}
 use Rattle.scalar.specs.Stores.{over}
@@ -19,7 +17,7 @@ use Rattle.tree.specs.declared.Slot.{Slot}
 use Rattle.values.specs.declared.State.{State}
 use Rattle.values.specs.declared.Reply.{Reply}
 use Rattle.values.specs.declared.Reply.TheVariants as replies
-use Rattle.values.specs.Out.{Out, moved, cells, Ready, Filled}
+use Rattle.values.specs.Out.{Out, cells, Ready, Filled}
 use Rattle.values.specs.Fill.{value_out}
 use Rattle.values.specs.Carries.{slots_of, AllSized, Carries, AllWithin, Grows}
 use Rattle.values.specs.Doc.{Doc, set_s, assign_by}
@@ -27,8 +25,8 @@ use Rattle.values.proofs.Outs.{Left, left_of, Went, went, Failed, failed, same_s
 use Rattle.values.proofs.Carrying.{length_cells, cells_append, length_slots, over_over, over_carries, slots_of_lem, carries_grows}
 use Rattle.values.proofs.Beginning.{within_more, within_append}
 use Rattle.toml_lite.specs.declared.LineRead.{LineRead}
-use Rattle.toml_lite.specs.declared.LineRead.TheVariants.{Fine, Fault}
-use Rattle.toml_lite.specs.Rooms.{doc_of, hang_k, Holding, Taking, Hanging, Wrote, Lined}
+use Rattle.toml_lite.specs.declared.LineRead.TheVariants.{Fault}
+use Rattle.toml_lite.specs.Rooms.{doc_of, hang_k, Taking, Hanging, Wrote, Lined}
 use Rattle.toml_lite.proofs.Sizes.{Bare, value_bare, value_adds}
 
 -- ---- from one state of the rooms to the next, by at most n bytes

@@ -1,12 +1,11 @@
 -- A key laid into the store, and the walk of the tree along it.
-use Prim.Native.Nat.{ℕ, zero, suc, ◌+◌, ◌-◌, ◌*◌, ◌≤◌, ◌<◌}
-use mathlib.Core.Bool.{Bool, true, false}
+use Prim.Native.Nat.{ℕ, zero, suc, ◌+◌, ◌-◌, ◌≤◌, ◌<◌}
 use mathlib.Core.List.{List, [], ◌∷◌, ◌++◌, append_assoc}
 use mathlib.Core.Path.{◌≡◌, refl, sym, ap, ◌∙◌}
 use native.Mathlib.Omega.{arith}
 use lib.Dec.{eqb, leb}
 use lib.ListN.{length, get_or, take, drop, length-append}
-use lib.Seq.{length-take-le, drop-drop}
+use lib.Seq.{length-take-le}
 use Rattle.meaning.specs.declared.Limits.{Limits}
 use Rattle.meaning.specs.Base.{pick, cut, on_first, zeros}
 use Rattle.meaning.specs.Refusal.{R, ok, bad, ok_then}
@@ -27,16 +26,15 @@ use Rattle.tree.specs.declared.Found.{Found}
 use Rattle.tree.specs.declared.Found.TheVariants as found
 use Rattle.values.specs.declared.State.{State}
 use Rattle.values.specs.declared.grow.Grown as code
-use Rattle.values.specs.declared.grow.Grown.TheVariants.{At, Full, Clash}
-use Rattle.values.specs.Out.{cells}
-use Rattle.values.specs.Grow.{Seg, Grown, grown, stuck, seg_of, segs_of, spelt, void, keyed_slot, look_s, onward, make_s, enter_by, enter_s, down_s, item_s, push_by, push_s, to_last_s, hang_s}
-use Rattle.values.specs.Carries.{slots_of, Begins, AllWithin, SegsWithin, GrownWithin, Grows, Paths, Keyed, Assigns, grown_of, Grew}
+use Rattle.values.specs.declared.grow.Grown.TheVariants.{At}
+use Rattle.values.specs.Grow.{Seg, Grown, grown, stuck, segs_of, spelt, void, keyed_slot, look_s, onward, make_s, enter_by, enter_s, down_s, item_s, push_by, push_s, to_last_s, hang_s}
+use Rattle.values.specs.Carries.{slots_of, Begins, AllWithin, SegsWithin, GrownWithin, Paths, Keyed, Assigns, Grew}
 use Rattle.values.specs.Doc.{Doc, settle_s, path_by, line_s}
 use Rattle.values.proofs.Carrying.{over_over}
 use Rattle.values.proofs.Beginning.{within_more, ends_within, ends_rising, key_ends, key_there, down_begins, push_path_begins, assign_begins, down_within, push_path_within, assign_within}
 use Rattle.toml_lite.specs.declared.LineRead.{LineRead}
 use Rattle.toml_lite.specs.declared.LineRead.TheVariants.{Fine, Fault}
-use Rattle.toml_lite.specs.Rooms.{verdict_number, line_after, doc_of, hang_k, Hanging, Holding, Taking, Wrote, Kept, line_of, Lined}
+use Rattle.toml_lite.specs.Rooms.{verdict_number, line_after, doc_of, hang_k, Hanging, Taking, Lined}
 
 -- ---- settle
 pub settled_there : (g : code.Grown) (used m p : ℕ) → g ≡ At m p → Fine (record { used = used; made = m }) p ≡ line_after (λ q. q) used g

@@ -1,8 +1,7 @@
 -- A line by its form: one law for each way out.
-use Prim.Native.Nat.{ℕ, zero, suc, ◌+◌, ◌-◌, ◌*◌, ◌^◌, ◌≤◌, ◌<◌}
-use mathlib.Core.Bool.{Bool, true, false}
-use mathlib.Core.List.{List, [], ◌∷◌, ◌++◌}
-use mathlib.Core.Path.{◌≡◌, refl, sym, ap, ◌∙◌}
+use Prim.Native.Nat.{ℕ, suc, ◌+◌, ◌-◌, ◌≤◌, ◌<◌}
+use mathlib.Core.List.{List}
+use mathlib.Core.Path.{◌≡◌, sym, ap, ◌∙◌}
 use native.Mathlib.Omega.{arith}
 use native.Mathlib.Numerals.{add-one}
 use mir.Syntax.{w64}
@@ -19,11 +18,11 @@ use Rattle.chars.specs.declared.Span.{Span}
 use Rattle.values.specs.declared.State.{State}
 use Rattle.values.specs.declared.form.Form.{Form}
 use Rattle.values.specs.declared.form.Form.TheVariants.{Pushes, Heads, Sets, Neither}
-use Rattle.values.specs.Forms.{form_of, Inside, Formed}
+use Rattle.values.specs.Forms.{Formed}
 use Rattle.values.specs.Doc.{Doc, set_s, line_s}
 use Rattle.toml_lite.specs.declared.LineRead.{LineRead}
-use Rattle.toml_lite.specs.declared.LineRead.TheVariants.{Fine, Fault}
-use Rattle.toml_lite.specs.Rooms.{doc_of, Holding, Taking, Wrote, Lined}
+use Rattle.toml_lite.specs.declared.LineRead.TheVariants.{Fault}
+use Rattle.toml_lite.specs.Rooms.{doc_of, Taking, Lined}
 
 -- ---- more bytes
 pub lined_more : (limits : Limits) (n k : ℕ) (store tree store' tree' : List ℕ) (st : State) (m : R Doc) (r : LineRead) → n ≤ k

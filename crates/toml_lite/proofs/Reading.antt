@@ -13,7 +13,7 @@ use Rattle.meaning.specs.Base.{pick, zeros}
 use Rattle.meaning.specs.Limits.{of01}
 use Rattle.meaning.specs.Refusal.{Answer, accepted, refused, accepted_then, in_text, at_line}
 use Rattle.meaning.specs.Utf8.{valid}
-use Rattle.meaning.specs.Lines.{Line, closed, join, joined}
+use Rattle.meaning.specs.Lines.{Line, closed, join}
 use Rattle.laws.specs.Cases.{on}
 use Rattle.text.specs.declared.Place.{Place}
 use Rattle.text.specs.declared.Checked.{Checked}
@@ -22,11 +22,11 @@ use Rattle.text.specs.Answers.{checked_of, counted, Checks}
 use Rattle.text.specs.Laid.{lines_of, laid, clean, Lays}
 use Rattle.text.proofs.Standing.{clean_stands}
 use Rattle.text.proofs.Whole.{checked_joined}
-use Rattle.values.specs.Doc.{Doc, lines_s, empty, document_s}
+use Rattle.values.specs.Doc.{lines_s, empty, document_s}
 use Rattle.values.proofs.Carrying.{carries_none, carries_grows}
 use Rattle.toml_lite.specs.declared.Read.{Read}
-use Rattle.toml_lite.specs.declared.Read.TheVariants.{Fine, Fault}
-use Rattle.toml_lite.specs.Rooms.{read_of, whole_of, AfterLine, fault_after, Told, Begun, Cleared, Ready, Standing, Roomy, Empty, suffice, judged}
+use Rattle.toml_lite.specs.declared.Read.TheVariants.{Fault}
+use Rattle.toml_lite.specs.Rooms.{whole_of, AfterLine, fault_after, Told, Begun, Cleared, Ready, Standing, Roomy, Empty, suffice, judged}
 use Rattle.slices.proofs.Zeroing.{length_zeros}
 
 -- ---- 3 and 4 after a refused line

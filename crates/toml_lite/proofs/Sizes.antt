@@ -2,11 +2,11 @@
 use Prim.Native.Nat.{ℕ, zero, suc, ◌+◌, ◌-◌, ◌*◌, ◌^◌, ◌≤◌, ◌<◌}
 use mathlib.Core.Bool.{Bool, true, false}
 use mathlib.Core.List.{List, [], ◌∷◌, ◌++◌}
-use mathlib.Core.Path.{◌≡◌, refl, sym, ap, ◌∙◌}
+use mathlib.Core.Path.{◌≡◌, ap}
 use native.Mathlib.Omega.{arith}
 use borrow.Author.Tests.{leb-false, ltb-false}
 use lib.Dec.{eqb, leb, ltb}
-use lib.ListN.{length, get_or, take, drop, length-append, length-take, length-drop}
+use lib.ListN.{length, get_or, take, drop, length-take, length-drop}
 use Rattle.meaning.specs.Base.{pick, ascii, same, final, split, nil?}
 use Rattle.meaning.specs.Refusal.{R, ok, bad, ok_then}
 use Rattle.meaning.specs.Space.{blank, trim}
@@ -21,7 +21,7 @@ use Rattle.laws.specs.Cases.{on, picked}
 use Rattle.tree.specs.declared.Slot.{Slot}
 use Rattle.tree.specs.Room.{Sized}
 use Rattle.values.specs.Out.{Out, fine, wrong, join, and_then}
-use Rattle.values.specs.Fill.{valued, string_slot, int_slot, bool_slot, array_slot, sign_kind, truth, makes, string_by, string_out, int_out, plain_out, one_out, items_out, brackets_out, value_out}
+use Rattle.values.specs.Fill.{valued, array_slot, sign_kind, makes, string_by, string_out, int_out, plain_out, one_out, items_out, brackets_out, value_out}
 use Rattle.meaning.specs.Tree.{Value, str, int, boolean, array, table}
 use Rattle.meaning.specs.Values.{value}
 use Rattle.values.specs.Layout.{size, length_seens, length_layout}

@@ -1,12 +1,9 @@
 -- The layout and the searches on a small room, computed.
-use Rattle.std.specs.Prelude.{ℕ, List, [], ◌∷◌, ◌++◌, ◌≡◌, refl}
+use Rattle.std.specs.Prelude.{ℕ, List, ◌∷◌, ◌++◌, ◌≡◌, refl}
 use Rattle.meaning.specs.Base.{zeros, ascii}
-use Rattle.slices.specs.Numbers.{little, number}
-use Rattle.tree.specs.declared.Slot.{Slot}
-use Rattle.tree.specs.declared.Found.{Found}
 use Rattle.tree.specs.declared.Found.TheVariants.{At, Nothing}
 use Rattle.tree.specs.Order.{has_key, before, follows, better, next}
-use Rattle.tree.specs.Room.{place, body, cell, slot_at, keyed, under, mine, look, first, child, count}
+use Rattle.tree.specs.Room.{place, body, cell, slot_at, keyed, under, mine, look, child, count}
 
 -- an integer 65543 under value number 256, its key the 4 bytes at 3 of the store
 one_cell : cell (record { kind = 2; parent = 258; key = 3; len = 4; «data» = 65543 }) ≡ 2 ∷ 0 ∷ 2 ∷ 1 ∷ 3 ∷ 0 ∷ 4 ∷ 0 ∷ 7 ∷ 0 ∷ 1 ∷ zeros 21

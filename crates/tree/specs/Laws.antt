@@ -1,19 +1,18 @@
 -- A value once made is read back as made, and making or hanging up another leaves it alone.
-use Rattle.std.specs.Prelude.{ℕ, zero, suc, ◌+◌, ◌*◌, ◌-◌, ◌^◌, ◌≤◌, ◌<◌, Bool, true, false, List, [], ◌∷◌, ◌++◌, ◌≡◌, refl, ltb, length}
-use Rattle.std.proofs.Common.{sym, ◌∙◌, arith, add-zero, Fits}
+use Rattle.std.specs.Prelude.{ℕ, zero, suc, ◌+◌, ◌*◌, ◌-◌, ◌≤◌, ◌<◌, List, ◌≡◌, refl, ltb, length}
+use Rattle.std.proofs.Common.{sym, ◌∙◌, arith, add-zero}
 use Rattle.std.proofs.Math.Path.{ap}
 use Rattle.std.proofs.Math.Dec.{eqb}
 use Rattle.std.proofs.Math.ListN.{get_or}
 use borrow.Author.Tests.{ltb-true, ltb-false}
-use Rattle.std.specs.Int.{w64}
-use Rattle.meaning.specs.Base.{pick, zeros}
+use Rattle.meaning.specs.Base.{zeros}
 use Rattle.laws.specs.Cases.{on}
-use Rattle.laws.specs.Stored.{stored, length_stored, stored_in, stored_before, stored_after, stored_again}
-use Rattle.slices.specs.Numbers.{little, number, number_little, number_in, number_before, number_after}
+use Rattle.laws.specs.Stored.{stored, length_stored, stored_in, stored_again}
+use Rattle.slices.specs.Numbers.{number, number_little, number_in, number_before, number_after}
 use Rattle.tree.specs.declared.Slot.{Slot}
 use Rattle.tree.specs.declared.Found.{Found}
-use Rattle.tree.specs.declared.Found.TheVariants.{At, Nothing}
-use Rattle.tree.specs.Room.{Holds, Sized, From, Below, place, body, cell, slot_at, hung, under, keyed, mine, look, first, child, count}
+use Rattle.tree.specs.declared.Found.TheVariants.{At}
+use Rattle.tree.specs.Room.{Holds, Sized, From, Below, place, body, cell, slot_at, hung, under, mine, look, first, child, count}
 
 pub length_cell : (v : Slot) → length (cell v) ≡ 32
 unfolding cell place body

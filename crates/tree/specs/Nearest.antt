@@ -8,7 +8,7 @@ use Rattle.laws.specs.Order.{less_self, less_on, less_most}
 use Rattle.tree.specs.declared.Slot.{Slot}
 use Rattle.tree.specs.declared.Found.{Found}
 use Rattle.tree.specs.declared.Found.TheVariants.{At, Nothing}
-use Rattle.tree.specs.Room.{Below, Finds, slot_at}
+use Rattle.tree.specs.Room.{Below}
 use Rattle.tree.specs.Order.{key_of, has_key, before, above, nearer, follows, better, nearest, is_made, next, ahead}
 
 -- ---- keys

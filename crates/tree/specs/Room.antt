@@ -1,5 +1,5 @@
 -- The tree room: value number n is the 32 bytes from 32 * n on, and hangs under a parent: 0 none yet, 1 the root, n + 2 value number n.
-use Rattle.std.specs.Prelude.{ℕ, zero, suc, ◌+◌, ◌*◌, ◌-◌, ◌^◌, ◌≤◌, ◌<◌, Bool, true, false, List, [], ◌∷◌, ◌++◌, ◌≡◌, eqb, leb, length, get_or}
+use Rattle.std.specs.Prelude.{ℕ, zero, suc, ◌+◌, ◌*◌, ◌-◌, ◌^◌, ◌≤◌, ◌<◌, Bool, true, false, List, ◌∷◌, ◌++◌, ◌≡◌, eqb, leb, length, get_or}
 use Rattle.meaning.specs.Base.{pick, zeros, same, part}
 use Rattle.laws.specs.Stored.{stored}
 use Rattle.slices.specs.Numbers.{little, number}

@@ -1,7 +1,6 @@
 -- A text that is read is short: it begins below 65,536 and has fewer than 65,536 bytes, whatever stands in the room.
-use Rattle.std.specs.Prelude.{ℕ, ◌+◌, ◌/◌, ◌%◌, ◌≤◌, ◌<◌, Bool, true, false, List, ◌≡◌, eqb, leb, length}
+use Rattle.std.specs.Prelude.{ℕ, ◌+◌, ◌/◌, ◌%◌, ◌<◌, List, ◌≡◌, eqb, leb, length}
 use Rattle.std.proofs.Common.{arith, leb-true}
-use Rattle.meaning.specs.Base.{pick}
 use Rattle.laws.specs.Cases.{on}
 use Rattle.tree.specs.declared.Slot.{Slot}
 use Rattle.tree.specs.declared.Found.{Found}
@@ -10,7 +9,7 @@ use Rattle.tree.specs.declared.Value.{Value}
 use Rattle.tree.specs.declared.Value.TheVariants.{Absent, Text, Number, Flag, Array, Table}
 use Rattle.tree.specs.declared.Fields.{Fields}
 use Rattle.tree.specs.Room.{slot_at}
-use Rattle.tree.specs.Doors.{nonzero, text_of, value_of, value_at, among, value_found, field}
+use Rattle.tree.specs.Doors.{text_of, value_of, value_at, among, value_found, field}
 
 -- the value is no text, or a short one
 abbrev Short : Value → Type 0

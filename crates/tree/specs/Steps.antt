@@ -3,9 +3,8 @@
 -- Of each step it learns `Gives room w step`: `item_given` and `item_ended` say what is to come, `item_fewer` that the walk ends,
 -- `item_room` and `item_stands` that the room holds the walk and the value.
 -- A loop over keys keeps `Over room table made w` and what is left after `w.after`; `key_given` and `key_ended` say what the next key is.
-use Rattle.std.specs.Prelude.{ℕ, suc, ◌+◌, ◌≤◌, ◌<◌, List, [], ◌∷◌, ◌≡◌, refl, length}
-use Rattle.std.proofs.Common.{sym, ap, ◌∙◌, arith}
-use Rattle.tree.specs.declared.Slot.{Slot}
+use Rattle.std.specs.Prelude.{ℕ, ◌≤◌, ◌<◌, List, [], ◌∷◌, ◌≡◌, length}
+use Rattle.std.proofs.Common.{ap, arith}
 use Rattle.tree.specs.declared.Span.{Span}
 use Rattle.tree.specs.declared.Found.{Found}
 use Rattle.tree.specs.declared.Found.TheVariants as founds

@@ -1,5 +1,5 @@
 -- A rule's refusal is told at an entry, so its place is small.
-use Prim.Native.Nat.{ℕ, ◌+◌, ◌-◌, ◌≤◌}
+use Prim.Native.Nat.{ℕ, ◌+◌, ◌≤◌}
 use mathlib.Core.Bool.{Bool}
 use mathlib.Core.List.{List as Seq, [], ◌∷◌, map}
 use mathlib.Core.Path.{◌≡◌}

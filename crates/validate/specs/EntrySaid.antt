@@ -1,5 +1,5 @@
 -- The rules over what was read are 01's rules over what it means: components, applications, and the first partition.
-use Rattle.std.specs.Prelude.{ℕ, ◌+◌, Bool, ◌≡◌, eqb, ltb, length}
+use Rattle.std.specs.Prelude.{ℕ, ◌+◌, Bool, ◌≡◌, eqb}
 use Rattle.std.proofs.Math.Bool.{true, false}
 use mathlib.Core.List.{List, [], ◌∷◌, ◌++◌, map}
 use Rattle.std.proofs.Math.Path.{refl, ap}

@@ -1,5 +1,5 @@
 -- A verdict's refusal says what the verdict says; the front's texts stand in one place each.
-use Rattle.std.specs.Prelude.{ℕ, ◌≤◌, List, refl, eqb}
+use Rattle.std.specs.Prelude.{ℕ, List, refl, eqb}
 use Rattle.std.proofs.Common.{arith}
 use Rattle.std.proofs.lemmas.Bool.{eqb-false}
 use Rattle.meaning.specs.Base.{pick, nil?, ascii}

@@ -14,7 +14,7 @@ use Rattle.tree.specs.Room.{Sized, cell, slot_at, hung}
 use Rattle.values.specs.declared.grow.Grown as code
 use Rattle.values.specs.declared.grow.Grown.TheVariants.{At, Full, Clash}
 use Rattle.values.specs.Out.{cells}
-use Rattle.values.specs.Grow.{Seg, Grown, grown, stuck, seg_of, segs_of, void, onward, enter_s, down_s, push_s, to_last_s, hang_s}
+use Rattle.values.specs.Grow.{Seg, Grown, grown, stuck, seg_of, segs_of, void, onward, enter_s, down_s, to_last_s, hang_s}
 use Rattle.values.specs.declared.grow.Segment.{Segment}
 use Rattle.values.specs.Carries.{slots_of, Grows, Lies, Enters, Rising, Paths, LongKey, last_of, Keyed, Hangs, Grew}
 use Rattle.values.proofs.Carrying.{length_cells, length_slots, over_over, slot_carried, sized_at, sized_set, set_over}

@@ -1,20 +1,17 @@
 -- What a line is: one law for each way out.
-use Prim.Native.Nat.{ℕ, suc, ◌+◌, ◌-◌, ◌≤◌, ◌<◌}
+use Prim.Native.Nat.{ℕ, ◌≤◌, ◌<◌}
 use mathlib.Core.Bool.{Bool, true, false}
-use mathlib.Core.List.{List, [], ◌∷◌}
-use mathlib.Core.Path.{◌≡◌, refl, sym, ap, ◌∙◌}
-use native.Mathlib.Omega.{arith}
-use borrow.Author.Tests.{lt-ltb, le-ltb, ltb-true, ltb-false}
+use mathlib.Core.List.{List}
+use mathlib.Core.Path.{◌≡◌, refl, sym, ◌∙◌}
+use borrow.Author.Tests.{lt-ltb, le-ltb, ltb-false}
 use lib.Dec.{ltb}
-use lib.ListN.{length, get_or, take, drop}
-use Rattle.meaning.specs.Base.{pick}
+use lib.ListN.{length}
 use Rattle.meaning.specs.declared.StringState.TheVariants.{Outside}
 use Rattle.meaning.specs.Quote.{up_to}
 use Rattle.meaning.specs.Document as meant
 use Rattle.laws.specs.Cases.{on, never}
-use Rattle.values.specs.declared.form.Form.{Form}
 use Rattle.values.specs.declared.form.Form.TheVariants.{Pushes, Heads, Sets, Neither}
-use Rattle.values.specs.Forms.{form_of, Inside, Formed}
+use Rattle.values.specs.Forms.{Formed}
 
 double_long : (l : List ℕ) → meant.array_header l ≡ true → 4 ≤ length l
 unfolding meant.array_header

@@ -10,7 +10,7 @@ use Rattle.values.specs.declared.grow.Grown as code
 use Rattle.values.specs.declared.grow.Segment.{Segment}
 use Rattle.values.specs.declared.grow.Grown.TheVariants.{At, Full, Clash}
 use Rattle.values.specs.Out.{cells}
-use Rattle.values.specs.Grow.{Seg, Grown, grown, stuck, seg_of}
+use Rattle.values.specs.Grow.{Seg, Grown, grown, stuck}
 
 -- the first n values of a room
 abbrev pub slots_of : List ℕ → ℕ → List Slot

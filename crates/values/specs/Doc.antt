@@ -1,8 +1,8 @@
 -- Whole documents into the two rooms, line by line, as `meaning`'s Document has them.
-use Rattle.std.specs.Prelude.{ℕ, suc, ◌+◌, Bool, List, [], ◌∷◌, ◌++◌, eqb, ltb, length}
+use Rattle.std.specs.Prelude.{ℕ, List, [], ◌∷◌, ◌++◌, eqb, ltb, length}
 use Rattle.meaning.specs.declared.Limits.{Limits}
 use Rattle.meaning.specs.Base.{pick, nil?}
-use Rattle.meaning.specs.Refusal.{Answer, accepted, refused, accepted_then, R, ok, bad, at_line, at_no_line}
+use Rattle.meaning.specs.Refusal.{Answer, accepted, accepted_then, R, ok, bad, at_line, at_no_line}
 use Rattle.meaning.specs.Utf8.{valid}
 use Rattle.meaning.specs.Space.{trim}
 use Rattle.meaning.specs.Lines.{Line, joined}

@@ -1,5 +1,5 @@
 -- What a line is, as the code tells it: the parts that are read on are parts of the line.
-use Rattle.std.specs.Prelude.{ℕ, suc, ◌+◌, ◌-◌, ◌≤◌, ◌<◌, List, ◌≡◌, length, take, drop}
+use Rattle.std.specs.Prelude.{ℕ, suc, ◌-◌, ◌≤◌, ◌<◌, List, ◌≡◌, length, take, drop}
 use Rattle.meaning.specs.Document as meant
 use Rattle.values.specs.declared.form.Form.{Form}
 use Rattle.values.specs.declared.form.Form.TheVariants.{Pushes, Heads, Sets, Neither}

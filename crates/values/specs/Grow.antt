@@ -1,6 +1,6 @@
 -- Tables and arrays in the tree room, as a list of values: what headers and keys do to it. A place is 1 for the root, n + 2 for value number n.
-use Rattle.std.specs.Prelude.{ℕ, zero, suc, ◌+◌, ◌-◌, Bool, true, false, List, [], ◌∷◌, ◌++◌, eqb, leb, length, get_or, set}
-use Rattle.meaning.specs.Base.{pick, same, part}
+use Rattle.std.specs.Prelude.{ℕ, ◌+◌, ◌-◌, Bool, false, List, [], ◌∷◌, ◌++◌, eqb, leb, length, get_or, set}
+use Rattle.meaning.specs.Base.{pick, part}
 use Rattle.tree.specs.declared.Slot.{Slot}
 use Rattle.tree.specs.declared.Found.{Found}
 use Rattle.tree.specs.declared.Found.TheVariants.{At, Nothing}

@@ -29,6 +29,6 @@ shape_of-room c = simp length-set (omega arith)
 pub returns : goal.returns
 returns c =
     elim c.loop-n-test.branch [
-      else-loop-n-test w ↦ search (rules, spell_end)
-    | then-loop-n-test+then-i-eq0 w ↦ search (rules, spell_full)
+      | else-loop-n-test w ↦ search (rules, spell_end)
+      | then-loop-n-test+then-i-eq0 w ↦ search (rules, spell_full)
     ]

@@ -1,5 +1,4 @@
-use Rattle.std.proofs.Common.{refl}
-use Rattle.features.proofs.Wording.{count_start, meeting, meet_on, meet_less, meet_end}
+use Rattle.features.proofs.Wording.{count_start, meeting, meet_on, meet_less}
 use borrow.Author.Rules.{rules}
 use Rattle.features.proofs.reader.count.Goals as goal
 

@@ -37,6 +37,6 @@ first_clash-requires c = search (rules, apps_all)
 pub returns : goal.returns
 returns c =
     elim c.match-step.branch [
-      in-End w ↦ search (rules, apps_none)
-    | in-At+then-i-ge-APPLICATIONS w ↦ search (rules, apps_many)
+      | in-End w ↦ search (rules, apps_none)
+      | in-At+then-i-ge-APPLICATIONS w ↦ search (rules, apps_many)
     ]
