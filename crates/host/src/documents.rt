@@ -26,16 +26,14 @@ pub struct At {
 }
 
 // Bytes per value of the tree room.
-#[unsafe(no_mangle)]
-pub extern "C" fn preset_value_size() -> u32
+pub fn preset_value_size() -> u32
     ensures { result ≡ value_bytes }
 {
     tree::width()
 }
 
 // Reads a text's tree into the two rooms, whatever its records are. A refusal leaves both rooms all zero.
-#[unsafe(no_mangle)]
-pub extern "C" fn document_read(text: &[u8], store: &mut [u8], tree: &mut [u8]) -> Outcome
+pub fn document_read(text: &[u8], store: &mut [u8], tree: &mut [u8]) -> Outcome
     ensures { Presented text.now store.old tree.old store.new
         tree.new result }
 {
@@ -72,14 +70,7 @@ fn at_of(f: Found) -> At
 }
 
 // The newest of the values made that hangs under the parent with the key; nothing where the room has fewer values.
-#[unsafe(no_mangle)]
-pub extern "C" fn preset_tree_find(
-    tree: &[u8],
-    store: &[u8],
-    made: usize,
-    parent: u16,
-    key: &[u8],
-) -> At
+pub fn preset_tree_find(tree: &[u8], store: &[u8], made: usize, parent: u16, key: &[u8]) -> At
     ensures { result ≡ key_shown tree.now store.now made parent key.now }
 {
     if tree::capacity(tree) < made {
@@ -89,8 +80,7 @@ pub extern "C" fn preset_tree_find(
 }
 
 // The first of the values made, from a number on, that hangs under the parent; nothing where the room has fewer values.
-#[unsafe(no_mangle)]
-pub extern "C" fn preset_tree_child(tree: &[u8], made: usize, parent: u16, from: usize) -> At
+pub fn preset_tree_child(tree: &[u8], made: usize, parent: u16, from: usize) -> At
     ensures { result ≡ child_shown tree.now made parent from }
 {
     if tree::capacity(tree) < made {
@@ -115,8 +105,7 @@ fn last_visited(begun: u32, after: usize) -> Found
 
 // The value under the parent with the least key of all (begun 0), or with the least key above that of value number
 // after; nothing where the room has fewer values.
-#[unsafe(no_mangle)]
-pub extern "C" fn preset_tree_next(
+pub fn preset_tree_next(
     tree: &[u8],
     store: &[u8],
     made: usize,

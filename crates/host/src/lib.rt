@@ -1,4 +1,4 @@
-// The boundary for hosts: what C and Rust call. No export has a `requires`.
+// The boundary for hosts: what C and Rust call, through the exports of `host_c`. No function of theirs has a `requires`.
 
 #![tactic(auto)]
 
@@ -16,7 +16,28 @@ ghost use Rattle.chars.specs.Trimmed.{Trimmed};
 ghost use Rattle.text.specs.Walk as walk;
 ghost use Rattle.host.specs.Text.{span_of, state_number, scanned, refused_at, no_line, line_of, Exported};
 
+pub use documents::{
+    At, Outcome, document_read, preset_tree_child, preset_tree_find, preset_tree_next,
+    preset_value_size,
+};
+pub use listings::{Listed, preset_listing};
 use meaning::StringState;
+pub use plans::{
+    BuildView, PlanCounts, SourceView, preset_plan, preset_plan_boot, preset_plan_build,
+    preset_plan_counts, preset_plan_head, preset_plan_load, preset_plan_partition, preset_plan_pbp,
+    preset_plan_role, preset_plan_source, preset_plan_stem,
+};
+pub use presets::{preset_read, preset_validate};
+pub use records::{
+    Amount, ApplicationView, BoardView, BootView, Bytes, Counts, FeatureList, FeatureView,
+    HeadView, ImageView, LoadView, PartitionView, RoleView, preset_application, preset_board,
+    preset_component_boot, preset_component_head, preset_component_load, preset_component_role,
+    preset_counts, preset_feature, preset_image, preset_partition, preset_word,
+};
+pub use single_values::{
+    Number, Segments, Spelling, Value, ValueRead, preset_tree_slot, preset_value_int,
+    preset_value_key, preset_value_key_end, preset_value_read, preset_value_string,
+};
 use text::{Next, Reading};
 
 // A part of a byte string, by its first byte and the byte after its last.
@@ -62,8 +83,7 @@ pub struct Line {
 }
 
 // Where s lies without White_Space at both ends.
-#[unsafe(no_mangle)]
-pub extern "C" fn preset_text_trim(s: &[u8]) -> Span
+pub fn preset_text_trim(s: &[u8]) -> Span
     ensures { Trimmed s.now (span_of result) }
 {
     let t = chars::trim(s);
@@ -74,16 +94,14 @@ pub extern "C" fn preset_text_trim(s: &[u8]) -> Span
 }
 
 // Whether s is UTF-8.
-#[unsafe(no_mangle)]
-pub extern "C" fn preset_text_valid(s: &[u8]) -> bool
+pub fn preset_text_valid(s: &[u8]) -> bool
     ensures { result ≡ utf8.valid s.now }
 {
     chars::valid(s)
 }
 
 // How many bytes of one physical line stand before its comment.
-#[unsafe(no_mangle)]
-pub extern "C" fn preset_text_kept(line: &[u8]) -> usize
+pub fn preset_text_kept(line: &[u8]) -> usize
     ensures { result ≡ quotes.up_to 35 StringState.Outside line.now }
 {
     text::find_outside(line, b'#')
@@ -101,8 +119,7 @@ fn state_number(state: StringState) -> u8
 }
 
 // The string state and the brackets of s.
-#[unsafe(no_mangle)]
-pub extern "C" fn preset_text_scan(s: &[u8]) -> Scanned
+pub fn preset_text_scan(s: &[u8]) -> Scanned
     ensures { result ≡ scanned (quotes.scan quotes.fresh s.now) }
 {
     let c = text::scan(s);
@@ -129,8 +146,7 @@ fn no_line(kind: u32, line: usize) -> Line
 }
 
 // The next joined line of a laid text, from a place between joined lines on; the first is 0, line 1.
-#[unsafe(no_mangle)]
-pub extern "C" fn preset_text_next(laid: &[u8], at: usize, line: u32) -> Line
+pub fn preset_text_next(laid: &[u8], at: usize, line: u32) -> Line
     ensures { result ≡ line_of (walk.next laid.now at line) }
 {
     let r = text::next_line(laid, at, line as usize);
@@ -167,8 +183,7 @@ fn refused_lines(number: u32, place: u32) -> Lines
 }
 
 // Lays a text into the scratch and judges its joined lines. A refusal leaves the scratch all zero.
-#[unsafe(no_mangle)]
-pub extern "C" fn preset_text_lines(text: &[u8], scratch: &mut [u8]) -> Lines
+pub fn preset_text_lines(text: &[u8], scratch: &mut [u8]) -> Lines
     ensures { Exported text.now scratch.old scratch.new result }
 {
     slices::zero(scratch);

@@ -14,8 +14,7 @@ pub struct Listed {
 
 // Reads a preset into the two rooms, holds it to the rules and writes the listing of its boot chain to out, which
 // stays as it is after the lines. A refusal leaves all three all zero.
-#[unsafe(no_mangle)]
-pub extern "C" fn preset_listing(
+pub fn preset_listing(
     text: &[u8],
     name: &[u8],
     store: &mut [u8],

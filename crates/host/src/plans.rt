@@ -48,8 +48,7 @@ pub struct PlanCounts {
 
 // Reads a preset into the two rooms, holds it to the rules and plans it: selection 0 is the boot chain, any other
 // the application of the key. A refusal leaves both rooms all zero.
-#[unsafe(no_mangle)]
-pub extern "C" fn preset_plan(
+pub fn preset_plan(
     text: &[u8],
     name: &[u8],
     app: u32,
@@ -96,8 +95,7 @@ fn spec_of(f: PlannedFound) -> ComponentFound
 }
 
 // What component number i of a plan is; its `file` is absent where that is its source.
-#[unsafe(no_mangle)]
-pub extern "C" fn preset_plan_head(
+pub fn preset_plan_head(
     tree: &[u8],
     store: &[u8],
     made: usize,
@@ -112,8 +110,7 @@ pub extern "C" fn preset_plan_head(
 }
 
 // What it is built with and where it goes.
-#[unsafe(no_mangle)]
-pub extern "C" fn preset_plan_role(
+pub fn preset_plan_role(
     tree: &[u8],
     store: &[u8],
     made: usize,
@@ -128,8 +125,7 @@ pub extern "C" fn preset_plan_role(
 }
 
 // What it does at boot; its `pbp` is a source.
-#[unsafe(no_mangle)]
-pub extern "C" fn preset_plan_boot(
+pub fn preset_plan_boot(
     tree: &[u8],
     store: &[u8],
     made: usize,
@@ -144,8 +140,7 @@ pub extern "C" fn preset_plan_boot(
 }
 
 // How it is loaded.
-#[unsafe(no_mangle)]
-pub extern "C" fn preset_plan_load(
+pub fn preset_plan_load(
     tree: &[u8],
     store: &[u8],
     made: usize,
@@ -199,8 +194,7 @@ fn no_source() -> SourceView
 }
 
 // Its payload: a package or a file, as written.
-#[unsafe(no_mangle)]
-pub extern "C" fn preset_plan_source(
+pub fn preset_plan_source(
     tree: &[u8],
     store: &[u8],
     made: usize,
@@ -222,8 +216,7 @@ pub extern "C" fn preset_plan_source(
 }
 
 // Its PBP.
-#[unsafe(no_mangle)]
-pub extern "C" fn preset_plan_pbp(
+pub fn preset_plan_pbp(
     tree: &[u8],
     store: &[u8],
     made: usize,
@@ -260,8 +253,7 @@ fn target_of(tree: &[u8], store: &[u8], made: usize, f: PlannedFound) -> Partiti
     }
 }
 
-#[unsafe(no_mangle)]
-pub extern "C" fn preset_plan_partition(
+pub fn preset_plan_partition(
     tree: &[u8],
     store: &[u8],
     made: usize,
@@ -304,8 +296,7 @@ fn build_of(f: BuildFound) -> BuildView
 }
 
 // Build number i of a plan, in first use.
-#[unsafe(no_mangle)]
-pub extern "C" fn preset_plan_build(
+pub fn preset_plan_build(
     tree: &[u8],
     store: &[u8],
     made: usize,
@@ -323,8 +314,7 @@ pub extern "C" fn preset_plan_build(
 }
 
 // How many components and builds a plan has.
-#[unsafe(no_mangle)]
-pub extern "C" fn preset_plan_counts(
+pub fn preset_plan_counts(
     tree: &[u8],
     store: &[u8],
     made: usize,
@@ -348,8 +338,7 @@ pub extern "C" fn preset_plan_counts(
 }
 
 // The stem of a plan's files; the lent name is the board's where the text has none.
-#[unsafe(no_mangle)]
-pub extern "C" fn preset_plan_stem(
+pub fn preset_plan_stem(
     tree: &[u8],
     store: &[u8],
     made: usize,

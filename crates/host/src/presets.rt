@@ -22,13 +22,7 @@ pub fn exported(r: preset::Outcome) -> Outcome
 
 // Reads a preset into the two rooms; the lent name is the board's where the text has none. A refusal leaves both
 // rooms all zero.
-#[unsafe(no_mangle)]
-pub extern "C" fn preset_read(
-    text: &[u8],
-    name: &[u8],
-    store: &mut [u8],
-    tree: &mut [u8],
-) -> Outcome
+pub fn preset_read(text: &[u8], name: &[u8], store: &mut [u8], tree: &mut [u8]) -> Outcome
     ensures { Answered
         (recorded text.now name.now store.old tree.old) text.now
         name.now store.old tree.old store.new tree.new result }
@@ -37,13 +31,7 @@ pub extern "C" fn preset_read(
 }
 
 // The same, held to the rules: an accepted preset obeys 30 to 70.
-#[unsafe(no_mangle)]
-pub extern "C" fn preset_validate(
-    text: &[u8],
-    name: &[u8],
-    store: &mut [u8],
-    tree: &mut [u8],
-) -> Outcome
+pub fn preset_validate(text: &[u8], name: &[u8], store: &mut [u8], tree: &mut [u8]) -> Outcome
     ensures { Answered
         (validated text.now name.now store.old tree.old) text.now
         name.now store.old tree.old store.new tree.new result }

@@ -333,8 +333,7 @@ fn board_view(tree: &[u8], store: &[u8], made: usize, lent: &[u8]) -> BoardView
 }
 
 // The board, whose name may be the lent one.
-#[unsafe(no_mangle)]
-pub extern "C" fn preset_board(tree: &[u8], store: &[u8], made: usize, name: &[u8]) -> BoardView
+pub fn preset_board(tree: &[u8], store: &[u8], made: usize, name: &[u8]) -> BoardView
     ensures { result ≡ records.board_shown tree.now store.now made name.now }
 {
     if parse::view::holds_values(tree, made) {
@@ -386,8 +385,7 @@ fn image_view(tree: &[u8], store: &[u8], made: usize) -> ImageView
     }
 }
 
-#[unsafe(no_mangle)]
-pub extern "C" fn preset_image(tree: &[u8], store: &[u8], made: usize) -> ImageView
+pub fn preset_image(tree: &[u8], store: &[u8], made: usize) -> ImageView
     ensures { result ≡ records.image_shown tree.now store.now made }
 {
     if parse::view::holds_values(tree, made) {
@@ -426,13 +424,7 @@ pub fn partition_of(f: PartitionFound) -> PartitionView
 }
 
 // Partition number i.
-#[unsafe(no_mangle)]
-pub extern "C" fn preset_partition(
-    tree: &[u8],
-    store: &[u8],
-    made: usize,
-    i: usize,
-) -> PartitionView
+pub fn preset_partition(tree: &[u8], store: &[u8], made: usize, i: usize) -> PartitionView
     ensures { result ≡ records.partition_shown tree.now store.now made i }
 {
     if parse::view::holds_values(tree, made) {
@@ -486,13 +478,7 @@ pub fn head_of(f: ComponentFound) -> HeadView
 }
 
 // What component number i is and what it is made from.
-#[unsafe(no_mangle)]
-pub extern "C" fn preset_component_head(
-    tree: &[u8],
-    store: &[u8],
-    made: usize,
-    i: usize,
-) -> HeadView
+pub fn preset_component_head(tree: &[u8], store: &[u8], made: usize, i: usize) -> HeadView
     ensures { result ≡ records.head_of (records.component tree.now store.now made i) }
 {
     head_of(component(tree, store, made, i))
@@ -533,13 +519,7 @@ pub fn role_of(f: ComponentFound) -> RoleView
 }
 
 // What it is built with and where it goes.
-#[unsafe(no_mangle)]
-pub extern "C" fn preset_component_role(
-    tree: &[u8],
-    store: &[u8],
-    made: usize,
-    i: usize,
-) -> RoleView
+pub fn preset_component_role(tree: &[u8], store: &[u8], made: usize, i: usize) -> RoleView
     ensures { result ≡ records.role_of (records.component tree.now store.now made i) }
 {
     role_of(component(tree, store, made, i))
@@ -576,13 +556,7 @@ pub fn boot_of(f: ComponentFound) -> BootView
 }
 
 // What it does at boot.
-#[unsafe(no_mangle)]
-pub extern "C" fn preset_component_boot(
-    tree: &[u8],
-    store: &[u8],
-    made: usize,
-    i: usize,
-) -> BootView
+pub fn preset_component_boot(tree: &[u8], store: &[u8], made: usize, i: usize) -> BootView
     ensures { result ≡ records.boot_of (records.component tree.now store.now made i) }
 {
     boot_of(component(tree, store, made, i))
@@ -621,13 +595,7 @@ pub fn load_of(f: ComponentFound) -> LoadView
 }
 
 // How it is loaded.
-#[unsafe(no_mangle)]
-pub extern "C" fn preset_component_load(
-    tree: &[u8],
-    store: &[u8],
-    made: usize,
-    i: usize,
-) -> LoadView
+pub fn preset_component_load(tree: &[u8], store: &[u8], made: usize, i: usize) -> LoadView
     ensures { result ≡ records.load_of (records.component tree.now store.now made i) }
 {
     load_of(component(tree, store, made, i))
@@ -679,13 +647,7 @@ fn application_of(f: ApplicationFound) -> ApplicationView
 }
 
 // Application number i, in byte order of key.
-#[unsafe(no_mangle)]
-pub extern "C" fn preset_application(
-    tree: &[u8],
-    store: &[u8],
-    made: usize,
-    i: usize,
-) -> ApplicationView
+pub fn preset_application(tree: &[u8], store: &[u8], made: usize, i: usize) -> ApplicationView
     ensures { result ≡ records.application_shown tree.now store.now made i }
 {
     if parse::view::holds_values(tree, made) {
@@ -695,8 +657,7 @@ pub extern "C" fn preset_application(
 }
 
 // How many entries the three lists have.
-#[unsafe(no_mangle)]
-pub extern "C" fn preset_counts(tree: &[u8], store: &[u8], made: usize) -> Counts
+pub fn preset_counts(tree: &[u8], store: &[u8], made: usize) -> Counts
     ensures { result ≡ records.counts_of (views.counts_at tree.now store.now made) }
 {
     let c = parse::view::counts_at(tree, store, made);
@@ -754,8 +715,7 @@ fn feature_of(f: Feature) -> FeatureView
 
 // The item of a feature list with the least bytes of all (begun 0), or with the least above size bytes of the store
 // from last on.
-#[unsafe(no_mangle)]
-pub extern "C" fn preset_feature(
+pub fn preset_feature(
     tree: &[u8],
     store: &[u8],
     made: usize,
@@ -809,8 +769,7 @@ fn word_by(n: u32) -> Word
 
 // Writes a word's bytes at the head of a room and zeros after them, and says how many; 0 where there is no such word
 // or the room is shorter.
-#[unsafe(no_mangle)]
-pub extern "C" fn preset_word(word: u32, out: &mut [u8]) -> usize
+pub fn preset_word(word: u32, out: &mut [u8]) -> usize
     ensures { Worded word out.old out.new result }
 {
     slices::zero(out);

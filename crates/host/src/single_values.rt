@@ -41,8 +41,7 @@ pub struct Value {
 }
 
 // The integer that s is.
-#[unsafe(no_mangle)]
-pub extern "C" fn preset_value_int(s: &[u8]) -> Number
+pub fn preset_value_int(s: &[u8]) -> Number
     ensures { result ≡ number_of (ints.signed s.now) }
 {
     let r = scalar::integer::read_int(s);
@@ -72,8 +71,7 @@ fn refused_string(number: u32, at: usize) -> Spelling
 }
 
 // Decodes a string after its opening quote. A refusal leaves the room all zero.
-#[unsafe(no_mangle)]
-pub extern "C" fn preset_value_string(src: &[u8], out: &mut [u8]) -> Spelling
+pub fn preset_value_string(src: &[u8], out: &mut [u8]) -> Spelling
     ensures { Spelled src.now out.old out.new result }
 {
     slices::zero(out);
@@ -100,8 +98,7 @@ pub extern "C" fn preset_value_string(src: &[u8], out: &mut [u8]) -> Spelling
 }
 
 // Value number n of a tree room; no value where the room is too short for it.
-#[unsafe(no_mangle)]
-pub extern "C" fn preset_tree_slot(tree: &[u8], n: usize) -> Value
+pub fn preset_tree_slot(tree: &[u8], n: usize) -> Value
     ensures { result ≡ slot_of tree.now n }
 {
     if n < tree::capacity(tree) {
@@ -143,8 +140,7 @@ fn refused_key(number: u32) -> Segments
 }
 
 // Splits a key at its dots, under 01's limit of 16 segments. A refusal leaves the room all zero.
-#[unsafe(no_mangle)]
-pub extern "C" fn preset_value_key(s: &[u8], store: &mut [u8]) -> Segments
+pub fn preset_value_key(s: &[u8], store: &mut [u8]) -> Segments
     ensures { Split s.now store.old store.new result }
 {
     slices::zero(store);
@@ -166,8 +162,7 @@ pub extern "C" fn preset_value_key(s: &[u8], store: &mut [u8]) -> Segments
 }
 
 // Where segment i of a key ends among its bytes; 0 where there is none. The room is all zero after it.
-#[unsafe(no_mangle)]
-pub extern "C" fn preset_value_key_end(s: &[u8], store: &mut [u8], i: usize) -> usize
+pub fn preset_value_key_end(s: &[u8], store: &mut [u8], i: usize) -> usize
     ensures { Ends s.now store.old store.new i result }
 {
     slices::zero(store);
@@ -221,8 +216,7 @@ fn size_fault(text: &[u8], store: &[u8], tree: &[u8]) -> u32
 }
 
 // Reads one value under 01's limits into the two rooms. A refusal leaves both all zero.
-#[unsafe(no_mangle)]
-pub extern "C" fn preset_value_read(text: &[u8], store: &mut [u8], tree: &mut [u8]) -> ValueRead
+pub fn preset_value_read(text: &[u8], store: &mut [u8], tree: &mut [u8]) -> ValueRead
     ensures { Readout text.now store.old tree.old store.new
         tree.new result }
 {
