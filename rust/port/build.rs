@@ -1,5 +1,5 @@
 //! Links libhost.a: of the folder that PRESET_LIB_DIR names, and of no other where it names one; else the newer one of
-//! what `rt staticlib host` wrote and what is prebuilt.
+//! what `scripts/archive --prove` wrote and what is prebuilt.
 use std::env;
 use std::fs;
 use std::path::{Path, PathBuf};
@@ -79,7 +79,7 @@ fn missing(folders: &[PathBuf]) -> String {
     let folders: Vec<String> = folders.collect();
     format!(
         "{NAME} is missing in {}: at the repository's root, `git checkout -- prebuilt` brings the prebuilt one back, \
-         and `rt staticlib host` of the Rattle kit proves and builds one in target/staticlib",
+         and `scripts/archive --prove` proves and builds one in target/staticlib by the Rattle kit",
         folders.join(" and ")
     )
 }

@@ -15,8 +15,8 @@ const COPIED: &str = "preset install LICENSE NOTICE crates.txt crates/*/src docs
                       rust/Cargo.* rust/cross rust/port rust/preset rust/replay";
 const OK: &str = "ok: d13x, spi-nor, 2 partitions, 1 component, 1 application\n";
 // A kit whose proofs take no time: it writes down that it was asked, and hands out the archive of the test.
-const KIT: &str = "#!/bin/sh\n[ \"$1\" != version ] || exec echo kit of the tests\necho \"$@\" >>asked\n\
-                   mkdir -p target/staticlib && cat \"$PRESET_TEST_ARCHIVE\" >target/staticlib/libhost.a\n";
+const KIT: &str = "#!/bin/sh\n[ \"$1\" != version ] || exec echo kit of the tests\necho \"$@\" >>../../asked\n\
+                   mkdir -p out && cat \"$PRESET_TEST_ARCHIVE\" >out/libhost_c.a\n";
 
 #[derive(Debug)]
 struct Said {
