@@ -1,13 +1,13 @@
 // Reads one preset from standard input and prints the listing of its boot chain, or its refusal. Where it cannot read
-// or write it says so on standard error and prints nothing more; a proved program has no exit status.
+// or write it says so on standard error and prints nothing more. Its words tell: its exit status is always 0.
 
 #![tactic(auto)]
 
 ghost use Rattle.std.specs.Prelude.{◌≤◌, length};
 
-use libc::{STDERR_FILENO, STDIN_FILENO, STDOUT_FILENO};
 use meaning::TEXT_BYTES;
 use preset::listing::Listed;
+use std::io::{Read, Stdin, Stdout, Write};
 
 // The name that a preset without one is given.
 const NAME: [u8; 5] = *b"board";
@@ -30,26 +30,21 @@ struct Input {
 }
 
 // Reads until the room is full, the input ends or a read fails.
-fn read_input(room: &mut [u8]) -> Input
+fn read_input(stdin: &mut Stdin, room: &mut [u8]) -> Input
     ensures { result.«count» ≤ length room.new }
 {
     let mut count = 0;
     while count < room.len() {
-        let got = libc::read(STDIN_FILENO, &mut room[count..]);
-        if got < 0 {
-            return Input {
-                failed: true,
-                count,
-            };
+        match stdin.read(&mut room[count..]) {
+            Ok(0) => break,
+            Ok(more) => count += more,
+            Err(_) => {
+                return Input {
+                    failed: true,
+                    count,
+                };
+            }
         }
-        let more = io::count(got, &room[count..]);
-        if more == 0 {
-            return Input {
-                failed: false,
-                count,
-            };
-        }
-        count += more;
     }
     Input {
         failed: false,
@@ -58,58 +53,57 @@ fn read_input(room: &mut [u8]) -> Input
 }
 
 // The first n bytes of a room; whether all could be written.
-fn print(room: &[u8], n: usize) -> bool {
-    n <= room.len() && io::write_all(STDOUT_FILENO, &room[0..n])
+fn print(stdout: &mut Stdout, room: &[u8], n: usize) -> bool {
+    n <= room.len() && stdout.write_all(&room[0..n]).is_ok()
 }
 
 // `refused`, number, section, place.
-fn refuse(r: Listed) -> bool {
+fn refuse(stdout: &mut Stdout, r: Listed) -> bool {
     let mut room = [0u8; REFUSAL_BYTES];
     let n = report::line::refused(&mut room, 0, r.number, r.section, r.place);
-    print(&room, n)
+    print(stdout, &room, n)
 }
 
-// A text too long is still read to its end, so that who writes it is not cut off; a proved loop has to end, so it
-// counts down.
-fn drain() {
-    let mut turns = u64::MAX;
-    while 0 < turns {
-        let mut more = [0u8; 4096];
-        if io::read_full(STDIN_FILENO, &mut more) == 0 {
-            return;
+// Reads a text too long to its end, so that who writes it is not cut off; a proved loop has to end, so it counts.
+fn drain(stdin: &mut Stdin) {
+    let mut more = [0u8; 4096];
+    for _ in 0..u64::MAX {
+        match stdin.read(&mut more) {
+            Ok(0) | Err(_) => return,
+            Ok(_) => {}
         }
-        turns -= 1;
     }
 }
 
 // The listing of a text, or its refusal; whether all could be written.
-fn list(text: &[u8]) -> bool {
+fn list(stdout: &mut Stdout, text: &[u8]) -> bool {
     let mut store = [0u8; TEXT_BYTES];
     let mut tree = [0u8; TREE_BYTES];
     let mut out = [0u8; OUTPUT_BYTES];
     let r = preset::listing::listing(text, &NAME, &mut store, &mut tree, &mut out);
     if r.number == 0 {
-        print(&out, r.written)
+        print(stdout, &out, r.written)
     } else {
-        refuse(r)
+        refuse(stdout, r)
     }
 }
 
-fn main() {
+fn main(rt: HostRuntime) {
     let mut room = [0u8; INPUT_BYTES];
-    let input = read_input(&mut room);
+    let input = read_input(&mut rt.stdin(), &mut room);
     if input.failed {
-        io::write_all(STDERR_FILENO, b"listing: standard input cannot be read\n");
+        let _ = rt
+            .stderr()
+            .write_all(b"listing: standard input cannot be read\n");
         return;
     }
     let n = input.count;
     if n == INPUT_BYTES {
-        drain();
+        drain(&mut rt.stdin());
     }
-    if !list(&room[0..n]) {
-        io::write_all(
-            STDERR_FILENO,
-            b"listing: standard output cannot be written\n",
-        );
+    if !list(&mut rt.stdout(), &room[0..n]) {
+        let _ = rt
+            .stderr()
+            .write_all(b"listing: standard output cannot be written\n");
     }
 }

@@ -381,7 +381,7 @@ fn cargo_says_in_a_line_what_is_missing() {
     for part in [
         word(&none),
         "libhost.a is missing",
-        "rt staticlib host",
+        "scripts/archive --prove",
         "prebuilt",
     ] {
         assert!(missing.contains(part), "{missing}");

@@ -1,8 +1,0 @@
--- It ends because it counts down; nothing else is promised.
-use Rattle.listing.proofs.drain.Given as goal
-
-abbrev pub invariant-loop-turns : goal.invariant-loop-turns
-invariant-loop-turns l = Unit {0}
-
-abbrev pub decreases-loop-turns : goal.decreases-loop-turns
-decreases-loop-turns l = l.turns
