@@ -12,7 +12,7 @@ pub enum Word {
     At { from: usize, to: usize },
 }
 
-// The functions over it are thin, for each is proved by a walk by hand: they call those with plain parameters.
+// The functions over it are thin: they call those with plain parameters.
 #[derive(Drop)]
 pub struct Reader<'a> {
     pub words: &'a [u8],
@@ -114,14 +114,14 @@ pub fn next<'a>(here: Reader<'a>) -> Step<'a>
     Step { word, rest }
 }
 
-// The first word from a place on, by the reader: whoever calls this needs no walk.
+// The first word from a place on, by the reader.
 pub fn first(words: &[u8], at: usize) -> Word
     ensures { result ≡ reading.word_at words.now at }
 {
     next(new(words, at)).word
 }
 
-// How many words a string has, by the reader: whoever calls this needs no walk.
+// How many words a string has, by the reader.
 pub fn count(words: &[u8]) -> usize
     ensures { result ≡ length (meant.words words.now) }
 {

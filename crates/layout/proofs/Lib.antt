@@ -2,4 +2,3 @@ pub mod Marking
 pub mod Naming
 pub mod Finding
 pub mod Checking
-pub mod Walking

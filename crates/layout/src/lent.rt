@@ -23,7 +23,7 @@ pub fn scan(bytes: &[u8], items: &[Partition], count: usize, name: &[u8]) -> usi
     count
 }
 
-// The same of an array, which is lent on: who calls this needs no proof by hand.
+// The same of an array, which is lent on.
 pub fn find(bytes: &[u8], items: [Partition; PARTITIONS], count: usize, name: &[u8]) -> usize
     requires { count ≤ 32 }
     ensures { result ≡ rank name.now (map (part_name bytes.now) (take count items)) }
