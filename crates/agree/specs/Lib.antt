@@ -9,10 +9,8 @@ pub mod Down
 pub mod Push
 pub mod Block
 pub mod Store
-pub mod Hang
 pub mod Here
 pub mod Lines
-pub mod Sets
 pub mod Whole
 pub mod Layouts
 pub mod Theorem
@@ -20,8 +18,4 @@ pub mod Reads
 pub mod Order
 pub mod Rooms
 pub mod Doors
-pub mod Fields
-pub mod Groups
-pub mod Fronts
-pub mod Presets
 pub mod Examples

@@ -18,9 +18,9 @@ use Rattle.scalar.specs.Stores.{over}
 use Rattle.values.specs.declared.State.{State}
 use Rattle.values.specs.Doc.{Doc, document_s}
 use Rattle.agree.specs.Steps.{Agree}
-use Rattle.agree.specs.Rooms.{carried}
+use Rattle.agree.proofs.Rooms.{carried}
 use Rattle.agree.specs.Whole.{Doc-agrees}
-use Rattle.agree.specs.Theorem.{agreement}
+use Rattle.agree.proofs.Theorem.{agreement}
 use Rattle.tree.specs.declared.Found.{Found}
 use Rattle.tree.specs.declared.Found.TheVariants.{Nothing}
 use Rattle.tree.specs.declared.Found.TheVariants as founds

@@ -24,10 +24,11 @@ use Rattle.values.specs.Out.{cells}
 use Rattle.values.specs.Doc.{Doc, document_s}
 use Rattle.values.proofs.Carrying.{length_cells, length_over}
 use Rattle.agree.specs.Steps.{Agree}
-use Rattle.agree.specs.Reads.{place_root}
-use Rattle.agree.specs.Rooms.{Carried, carried}
+use Rattle.agree.proofs.Placing.{place_root}
+use Rattle.agree.specs.Rooms.{Carried}
+use Rattle.agree.proofs.Rooms.{carried}
 use Rattle.agree.specs.Whole.{Doc-agrees}
-use Rattle.agree.specs.Theorem.{bytes_fit, slots_fit}
+use Rattle.agree.proofs.Theorem.{bytes_fit, slots_fit}
 use Rattle.agree.specs.Doors as doors
 use Rattle.toml_lite.specs.Rooms as rooms
 use Rattle.toml_lite.specs.Rooms.{judged}
@@ -41,7 +42,7 @@ use Rattle.preset.specs.Settled as settled
 use Rattle.parse.specs.Filed.{file_named, file_inside}
 use Rattle.parse.specs.Answers.{Says, says_after, says_made, says_accepted, says_refused, earlier_clear}
 use Rattle.parse.specs.Whole.{preset_meant, lent_is}
-use Rattle.agree.specs.Presets.{preset_says}
+use Rattle.agree.proofs.Presets.{preset_says}
 use Rattle.validate.specs.Faults as faults
 use Rattle.validate.specs.Validated.{validating}
 use Rattle.validate.specs.Said.{rules_say}

@@ -17,7 +17,7 @@ use Rattle.laws.specs.Plans.{text_planned}
 use Rattle.values.specs.Doc.{Doc, document_s}
 use Rattle.values.proofs.Carrying.{length_cells}
 use Rattle.agree.specs.Whole.{Doc-agrees}
-use Rattle.agree.specs.Theorem.{agreement}
+use Rattle.agree.proofs.Theorem.{agreement}
 use Rattle.toml_lite.specs.Rooms.{cells_of, values_of}
 use Rattle.plan.specs.ChoiceSaid.{selection}
 use Rattle.host.specs.declared.documents.Outcome.{Outcome}

@@ -18,12 +18,17 @@ use Rattle.values.specs.Doc.{Doc as DocS, settle_s}
 use Rattle.agree.specs.Key.{Key, name}
 use Rattle.agree.specs.Finds.{find, put, set_at, at, way}
 use Rattle.agree.specs.Steps.{Agree, to, Calm, Sealed}
-use Rattle.agree.specs.Down.{onto, graft, Spelling, Stand, Came, Comes, down_comes}
-use Rattle.agree.specs.Block.{Laid, laid_move}
-use Rattle.agree.specs.Store.{shows_more, Lain, laid_all, some_all, free_all, to_all, agree_all, calm_all, sealed_all}
-use Rattle.agree.specs.Hang.{agree_hung, kept_hung, length_hung}
-use Rattle.agree.specs.Here.{init, last, to_last_is, Held, here_is, held_set}
-use Rattle.agree.specs.Lines.{Same, Line-agrees, Ungrafted, ungraft, unstuck, spelling_init, spelling_last, to_last_s_is}
+use Rattle.agree.specs.Down.{onto, graft, Spelling, Stand, Came, Comes}
+use Rattle.agree.proofs.Down.{down_comes}
+use Rattle.agree.specs.Block.{Laid}
+use Rattle.agree.proofs.Block.{laid_move}
+use Rattle.agree.specs.Store.{Lain}
+use Rattle.agree.proofs.Store.{shows_more, laid_all, some_all, free_all, to_all, agree_all, calm_all, sealed_all}
+use Rattle.agree.proofs.Hang.{agree_hung, kept_hung, length_hung}
+use Rattle.agree.specs.Here.{init, last, Held}
+use Rattle.agree.proofs.Here.{to_last_is, here_is, held_set}
+use Rattle.agree.specs.Lines.{Same, Line-agrees, Ungrafted}
+use Rattle.agree.proofs.Lines.{ungraft, unstuck, spelling_init, spelling_last, to_last_s_is}
 
 onto_long : (q : List Key) (ks : List (List ℕ)) → length q ≤ length (onto q ks)
 onto_long q [] = omega arith

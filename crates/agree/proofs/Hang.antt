@@ -16,11 +16,14 @@ use Rattle.agree.specs.Key.{Key, name}
 use Rattle.agree.specs.Paths.{shorter}
 use Rattle.agree.specs.Log.{kind_at, Hung, walk_else}
 use Rattle.agree.specs.Finds.{set_at}
-use Rattle.agree.specs.Meets.{shown_hung}
+use Rattle.agree.proofs.Meets.{shown_hung}
 use Rattle.agree.specs.Slots.{log_of, hung_up}
-use Rattle.agree.specs.Steps.{Agree, to, to_low, meets_some, table_at_lem, Calm, Sealed, sealed_off}
-use Rattle.agree.specs.Block.{Laid, laid_long, laid_move, Good, good_under}
-use Rattle.agree.specs.Down.{Stand, takes_name}
+use Rattle.agree.specs.Steps.{Agree, to, Calm, Sealed}
+use Rattle.agree.proofs.Steps.{to_low, meets_some, table_at_lem, sealed_off}
+use Rattle.agree.specs.Block.{Laid, Good}
+use Rattle.agree.proofs.Block.{laid_long, laid_move, good_under}
+use Rattle.agree.specs.Down.{Stand}
+use Rattle.agree.proofs.Down.{takes_name}
 
 module _ (bytes : List ℕ) (vs : List Slot) (x : Value) (g : List Key) (t : Table) (p : ℕ) (a : Stand bytes vs x g t p) (s : Seg) (k : List ℕ)
     (spelt : part s.at (s.at + s.len) bytes ≡ k) (lies : s.at + s.len ≤ length bytes) (n e : ℕ) (v : Value)

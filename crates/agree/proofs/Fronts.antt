@@ -17,16 +17,17 @@ use Rattle.schema.specs.declared.Text.TheVariants as texts
 use Rattle.schema.specs.Words.{chip_meant}
 use Rattle.schema.specs.Texts.{clip, spelled, optional}
 use Rattle.agree.specs.Reads.{Place}
-use Rattle.agree.specs.Doors.{Sees, Standing, Told, value_for, field_sees, no_field_sees}
+use Rattle.agree.specs.Doors.{Sees, Standing, Told, value_for}
+use Rattle.agree.proofs.Doors.{field_sees, no_field_sees}
 use Rattle.parse.specs.declared.front.TableRead.{TableRead}
 use Rattle.parse.specs.Refusals.{in_section}
 use Rattle.parse.specs.Fields.{text_at}
 use Rattle.parse.specs.Front as front
 use Rattle.parse.specs.Meant.{board_meant, image_meant}
 use Rattle.parse.specs.Reads.{Kept, text_kept, Gives, gives_ok}
-use Rattle.agree.specs.Fields.{text_got, chip_got}
+use Rattle.agree.proofs.Fields.{text_got, chip_got}
 use Rattle.parse.specs.Answers.{Says, says_after, says_made, says_told, says_by, earlier_two}
-use Rattle.agree.specs.Groups.{board_got, image_got}
+use Rattle.agree.proofs.Groups.{board_got, image_got}
 
 -- ---- a table
 

@@ -38,7 +38,7 @@ use Rattle.parse.specs.Component.{head_read, role_read, boot_read, load_read, co
 use Rattle.parse.specs.Application.{names, loading, application_read}
 use Rattle.parse.specs.Entries.{partition_read}
 use Rattle.parse.specs.Reads.{clip_none, Kept, text_kept, else_spelled, Gives, gives_via, gives_made, gives_by, first_two, first_three, first_four}
-use Rattle.agree.specs.Fields.{text_got, text_or_got, text_need_got, text_place_got, number_got, number_or_got, number_need_got, flag_got, kind_field_got, media_field_got, features_got}
+use Rattle.agree.proofs.Fields.{text_got, text_or_got, text_need_got, text_place_got, number_got, number_or_got, number_need_got, flag_got, kind_field_got, media_field_got, features_got}
 
 target_is : (chip : Chip) → word (target_word chip) ≡ meant.target_for (chip_meant chip)
 unfolding word meant.target_for

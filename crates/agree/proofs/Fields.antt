@@ -24,7 +24,8 @@ use Rattle.schema.specs.Texts.{clip, spelled, optional, or_text, start_of, lengt
 use Rattle.features.specs.Pieces.{piece_of, is_text, pieces_at, all_texts, bytes_of, pieces_from, few_words, few_items, features_read}
 use Rattle.features.specs.Ordered.{bytes_all, words_pieces, words_length}
 use Rattle.agree.specs.Reads.{Place}
-use Rattle.agree.specs.Doors.{Sees, Spelt, Standing, Told, All-see, value_for, items_see, items_long}
+use Rattle.agree.specs.Doors.{Sees, Spelt, Standing, Told, value_for}
+use Rattle.agree.proofs.Doors.{All-see, items_see, items_long}
 use Rattle.parse.specs.Fields.{first_fault, text_read, number_read, ranged, flag_read, missing, kind_of, media_of}
 use Rattle.parse.specs.Meant.{Got, feature_list}
 use Rattle.parse.specs.Reads.{Gives, gives_made, Kept, text_kept, else_spelled, clip_none}

@@ -28,7 +28,8 @@ use Rattle.tree.specs.Doors as doors
 use Rattle.schema.specs.declared.Text.{Text}
 use Rattle.schema.specs.Texts.{clip, spelled}
 use Rattle.agree.specs.Reads.{Place}
-use Rattle.agree.specs.Doors.{Sees, Standing, Told, All-see, Row-seen, Rows-see, value_for, field_sees, items_see, rows_see}
+use Rattle.agree.specs.Doors.{Sees, Standing, Told, Row-seen, value_for}
+use Rattle.agree.proofs.Doors.{All-see, Rows-see, field_sees, items_see, rows_see}
 use Rattle.parse.specs.declared.entry.List.{List}
 use Rattle.parse.specs.File.{piece_of, Inside, file_at}
 use Rattle.parse.specs.Entries as entries
@@ -36,10 +37,10 @@ use Rattle.parse.specs.Entries.{refusal_of}
 use Rattle.parse.specs.Front as front
 use Rattle.parse.specs.Refused.{partition_numbers, component_numbers, application_numbers, partitions_verdict, components_verdict, applications_verdict, verdict}
 use Rattle.parse.specs.Reads.{Gives, gives_ok, gives_via}
-use Rattle.agree.specs.Groups.{partition_got, component_got, application_got}
+use Rattle.agree.proofs.Groups.{partition_got, component_got, application_got}
 use Rattle.parse.specs.Answers.{Says, says_after, says_made, says_told}
 use Rattle.parse.specs.Whole.{Pairs, partition_of, component_of, application_of, preset_meant, listed_says}
-use Rattle.agree.specs.Fronts.{Fielded, Tabled, no_table_lem, one_table, front_says}
+use Rattle.agree.proofs.Fronts.{Fielded, Tabled, no_table_lem, one_table, front_says}
 
 -- ---- lists
 
