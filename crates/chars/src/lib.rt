@@ -12,7 +12,7 @@ ghost use Rattle.chars.specs.Under.{Under};
 ghost use Rattle.chars.specs.Trimmed.{Starting, Ending, Started, Ended, Trimmed, Dark, Snug};
 
 // A part of a byte string, by its first byte and the byte after its last.
-#[derive(Drop)]
+#[derive(Clone, Copy)]
 pub struct Span {
     pub from: usize,
     pub end: usize,

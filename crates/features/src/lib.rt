@@ -43,7 +43,7 @@ pub const WRONG_KIND: u32 = 20;
 pub const TOO_MANY: u32 = 25;
 
 // fault 0 where the list is right.
-#[derive(Drop)]
+#[derive(Clone, Copy)]
 pub struct FeaturesRead {
     pub fault: u32,
     pub features: Features,

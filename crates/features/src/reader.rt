@@ -13,14 +13,14 @@ pub enum Word {
 }
 
 // The functions over it are thin: they call those with plain parameters.
-#[derive(Drop)]
+#[derive(Clone, Copy)]
 pub struct Reader<'a> {
     pub words: &'a [u8],
     pub at: usize,
 }
 
 // The word that a reader stands before, and the reader after it.
-#[derive(Drop)]
+#[derive(Clone, Copy)]
 pub struct Step<'a> {
     pub word: Word,
     pub rest: Reader<'a>,

@@ -9,7 +9,7 @@ use tree::{Found, Item, Key};
 
 // number 0: accepted, and then made counts the values; else 01's number, section and place.
 #[repr(C)]
-#[derive(Drop)]
+#[derive(Clone, Copy)]
 pub struct Outcome {
     pub number: u32,
     pub section: u32,

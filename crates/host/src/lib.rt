@@ -42,7 +42,7 @@ use text::{Next, Reading};
 
 // A part of a byte string, by its first byte and the byte after its last.
 #[repr(C)]
-#[derive(Drop)]
+#[derive(Clone, Copy)]
 pub struct Span {
     pub from: usize,
     pub end: usize,
@@ -51,7 +51,7 @@ pub struct Span {
 // The string state after a text (0 outside a string, 1 inside, 2 after a backslash inside) and the brackets outside
 // strings.
 #[repr(C)]
-#[derive(Drop)]
+#[derive(Clone, Copy)]
 pub struct Scanned {
     pub state: u8,
     pub opens: usize,
@@ -60,7 +60,7 @@ pub struct Scanned {
 
 // number 0: accepted, with this many joined lines in this many bytes of scratch; else 01's number, section and place.
 #[repr(C)]
-#[derive(Drop)]
+#[derive(Clone, Copy)]
 pub struct Lines {
     pub number: u32,
     pub section: u32,
@@ -72,7 +72,7 @@ pub struct Lines {
 // kind 0: no line is left; 1: the joined line from..end of number line, and the place after it; 3 or 4: that refusal
 // at line.
 #[repr(C)]
-#[derive(Drop)]
+#[derive(Clone, Copy)]
 pub struct Line {
     pub kind: u32,
     pub line: usize,

@@ -4,7 +4,7 @@ ghost use Rattle.host.specs.Listings.{Reported};
 
 // number 0: accepted, and then written counts the bytes of the listing; else 01's number, section and place.
 #[repr(C)]
-#[derive(Drop)]
+#[derive(Clone, Copy)]
 pub struct Listed {
     pub number: u32,
     pub section: u32,

@@ -21,7 +21,7 @@ use schema::{Features, Text};
 
 // kind 0: none; 1: a package; 2: a file.
 #[repr(C)]
-#[derive(Drop)]
+#[derive(Clone, Copy)]
 pub struct SourceView {
     pub kind: u32,
     pub package: Bytes,
@@ -31,7 +31,7 @@ pub struct SourceView {
 }
 
 #[repr(C)]
-#[derive(Drop)]
+#[derive(Clone, Copy)]
 pub struct BuildView {
     pub found: u32,
     pub package: Bytes,
@@ -40,7 +40,7 @@ pub struct BuildView {
 }
 
 #[repr(C)]
-#[derive(Drop)]
+#[derive(Clone, Copy)]
 pub struct PlanCounts {
     pub components: usize,
     pub builds: usize,

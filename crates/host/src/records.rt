@@ -21,7 +21,7 @@ const WORDS: u32 = 17;
 // Where a text's bytes are. kind 0: absent; 1: in the store; 2: the lent name; 3: a fixed word; 4: in the store,
 // with `.aic` after them.
 #[repr(C)]
-#[derive(Drop)]
+#[derive(Clone, Copy)]
 pub struct Bytes {
     pub kind: u32,
     pub word: u32,
@@ -31,7 +31,7 @@ pub struct Bytes {
 
 // kind 0: absent; 1: a number.
 #[repr(C)]
-#[derive(Drop)]
+#[derive(Clone, Copy)]
 pub struct Amount {
     pub kind: u32,
     pub number: u32,
@@ -39,7 +39,7 @@ pub struct Amount {
 
 // kind 0: none; 1: the words of len bytes of the store; 2: the items of the array at place `from`.
 #[repr(C)]
-#[derive(Drop)]
+#[derive(Clone, Copy)]
 pub struct FeatureList {
     pub kind: u32,
     pub from: usize,
@@ -48,7 +48,7 @@ pub struct FeatureList {
 
 // chip 1: d13x; 2: d21x.
 #[repr(C)]
-#[derive(Drop)]
+#[derive(Clone, Copy)]
 pub struct BoardView {
     pub found: u32,
     pub chip: u32,
@@ -59,7 +59,7 @@ pub struct BoardView {
 
 // media 1: spi-nor; 2: spi-nand.
 #[repr(C)]
-#[derive(Drop)]
+#[derive(Clone, Copy)]
 pub struct ImageView {
     pub found: u32,
     pub media: u32,
@@ -73,7 +73,7 @@ pub struct ImageView {
 
 // Its name is len bytes of the store. locked 0: open; 1: locked.
 #[repr(C)]
-#[derive(Drop)]
+#[derive(Clone, Copy)]
 pub struct PartitionView {
     pub found: u32,
     pub offset: u32,
@@ -85,7 +85,7 @@ pub struct PartitionView {
 
 // kind 1: app; 2: pbp; 3: raw.
 #[repr(C)]
-#[derive(Drop)]
+#[derive(Clone, Copy)]
 pub struct HeadView {
     pub found: u32,
     pub kind: u32,
@@ -97,7 +97,7 @@ pub struct HeadView {
 }
 
 #[repr(C)]
-#[derive(Drop)]
+#[derive(Clone, Copy)]
 pub struct RoleView {
     pub found: u32,
     pub features: FeatureList,
@@ -109,7 +109,7 @@ pub struct RoleView {
 }
 
 #[repr(C)]
-#[derive(Drop)]
+#[derive(Clone, Copy)]
 pub struct BootView {
     pub found: u32,
     pub updater: u32,
@@ -120,7 +120,7 @@ pub struct BootView {
 }
 
 #[repr(C)]
-#[derive(Drop)]
+#[derive(Clone, Copy)]
 pub struct LoadView {
     pub found: u32,
     pub with_ext: u32,
@@ -132,7 +132,7 @@ pub struct LoadView {
 }
 
 #[repr(C)]
-#[derive(Drop)]
+#[derive(Clone, Copy)]
 pub struct ApplicationView {
     pub found: u32,
     pub package: Bytes,
@@ -147,7 +147,7 @@ pub struct ApplicationView {
 
 // How many entries the lists have; of applications no more than 65 are counted.
 #[repr(C)]
-#[derive(Drop)]
+#[derive(Clone, Copy)]
 pub struct Counts {
     pub partitions: usize,
     pub components: usize,
@@ -156,7 +156,7 @@ pub struct Counts {
 
 // found 1: an item of a feature list, len bytes of the store.
 #[repr(C)]
-#[derive(Drop)]
+#[derive(Clone, Copy)]
 pub struct FeatureView {
     pub found: u32,
     pub from: usize,

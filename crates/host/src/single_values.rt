@@ -21,7 +21,7 @@ pub struct Number {
 
 // number 0, with the bytes of text used and the bytes written; or 8 with the place of its backslash; or 9; or 17.
 #[repr(C)]
-#[derive(Drop)]
+#[derive(Clone, Copy)]
 pub struct Spelling {
     pub number: u32,
     pub used: usize,
@@ -31,7 +31,7 @@ pub struct Spelling {
 
 // A value of a tree room, as it stands there.
 #[repr(C)]
-#[derive(Drop)]
+#[derive(Clone, Copy)]
 pub struct Value {
     pub kind: u32,
     pub parent: u32,
@@ -122,7 +122,7 @@ pub fn preset_tree_slot(tree: &[u8], n: usize) -> Value
 
 // number 0 with how many segments a key has and how many bytes they take; or 7, 8, 9 or 15; or 17.
 #[repr(C)]
-#[derive(Drop)]
+#[derive(Clone, Copy)]
 pub struct Segments {
     pub number: u32,
     pub count: usize,
@@ -185,7 +185,7 @@ pub fn preset_value_key_end(s: &[u8], store: &mut [u8], i: usize) -> usize
 
 // number 0 with the bytes used of the store and the values made; or 8 to 12, 14 or 16; or 17, then 1.
 #[repr(C)]
-#[derive(Drop)]
+#[derive(Clone, Copy)]
 pub struct ValueRead {
     pub number: u32,
     pub used: usize,

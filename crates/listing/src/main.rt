@@ -23,7 +23,7 @@ const OUTPUT_BYTES: usize = preset::listing::LISTING_BYTES + 2 * 5;
 const REFUSAL_BYTES: usize = 96;
 
 // What was read: so many bytes at the head of the room, whole only where no read failed.
-#[derive(Drop)]
+#[derive(Clone, Copy)]
 struct Input {
     failed: bool,
     count: usize,

@@ -56,7 +56,7 @@ pub struct Scan {
 }
 
 // What a line is, joined so far: more `]` than `[`, still open, or whole.
-#[derive(Drop)]
+#[derive(Clone, Copy)]
 pub enum Fate {
     Over,
     Unended,
@@ -64,21 +64,21 @@ pub enum Fate {
 }
 
 // An integer by sign and magnitude.
-#[derive(Drop)]
+#[derive(Clone, Copy)]
 pub struct Signed {
     pub neg: bool,
     pub mag: u64,
 }
 
 // Where a byte of a string stands: for itself, or after a backslash.
-#[derive(Drop)]
+#[derive(Clone, Copy)]
 pub enum StringByte {
     Plain,
     AfterBackslash,
 }
 
 // What a byte of a string does: ends it, announces an escape, stands for a byte, or is no escape.
-#[derive(Drop)]
+#[derive(Clone, Copy)]
 pub enum Act {
     End,
     Hold,

@@ -8,7 +8,7 @@ use crate::field::{first_fault, number, text};
 use schema::{Application, Features, Number, Text, Word};
 use tree::Fields;
 
-#[derive(Drop)]
+#[derive(Clone, Copy)]
 pub struct Names {
     pub fault: u32,
     pub name: Text,
@@ -17,7 +17,7 @@ pub struct Names {
     pub attr: Text,
 }
 
-#[derive(Drop)]
+#[derive(Clone, Copy)]
 pub struct Loading {
     pub fault: u32,
     pub features: Features,
@@ -25,7 +25,7 @@ pub struct Loading {
     pub entry_offset: Number,
 }
 
-#[derive(Drop)]
+#[derive(Clone, Copy)]
 pub struct ApplicationRead {
     pub fault: u32,
     pub application: Application,

@@ -9,7 +9,7 @@ use crate::file::Piece;
 use schema::{Boot, Component, Features, Head, Load, Role, Text, Word};
 use tree::Fields;
 
-#[derive(Drop)]
+#[derive(Clone, Copy)]
 pub struct Sources {
     pub fault: u32,
     pub package: Text,
@@ -17,7 +17,7 @@ pub struct Sources {
     pub file: Text,
 }
 
-#[derive(Drop)]
+#[derive(Clone, Copy)]
 pub struct HeadRead {
     pub fault: u32,
     pub head: Head,
@@ -30,25 +30,25 @@ pub struct Lists {
     pub pbp_features: Features,
 }
 
-#[derive(Drop)]
+#[derive(Clone, Copy)]
 pub struct RoleRead {
     pub fault: u32,
     pub role: Role,
 }
 
-#[derive(Drop)]
+#[derive(Clone, Copy)]
 pub struct BootRead {
     pub fault: u32,
     pub boot: Boot,
 }
 
-#[derive(Drop)]
+#[derive(Clone, Copy)]
 pub struct LoadRead {
     pub fault: u32,
     pub load: Load,
 }
 
-#[derive(Drop)]
+#[derive(Clone, Copy)]
 pub struct ComponentRead {
     pub fault: u32,
     pub component: Component,

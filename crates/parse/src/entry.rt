@@ -28,20 +28,20 @@ pub struct List {
 }
 
 // The number of an entry's value, and its place in the list.
-#[derive(Drop)]
+#[derive(Clone, Copy)]
 struct Entry {
     value: usize,
     place: usize,
 }
 
-#[derive(Drop)]
+#[derive(Clone, Copy)]
 pub struct PartitionRead {
     pub fault: u32,
     pub partition: Partition,
 }
 
 // All partitions, or the refusal of the first wrong one.
-#[derive(Drop)]
+#[derive(Clone, Copy)]
 pub struct Partitions {
     pub fault: Refusal,
     pub count: usize,

@@ -18,7 +18,7 @@ const MISSING: u32 = 24;
 // The greatest number that a field takes.
 const MOST_NUMBER: u64 = 4294967295;
 
-#[derive(Drop)]
+#[derive(Clone, Copy)]
 pub struct TextRead {
     pub fault: u32,
     pub text: Text,
@@ -34,7 +34,7 @@ impl TextRead {
     }
 }
 
-#[derive(Drop)]
+#[derive(Clone, Copy)]
 pub struct NumberRead {
     pub fault: u32,
     pub number: Number,
@@ -50,7 +50,7 @@ impl NumberRead {
     }
 }
 
-#[derive(Drop)]
+#[derive(Clone, Copy)]
 pub struct FlagRead {
     pub fault: u32,
     pub flag: bool,

@@ -10,25 +10,25 @@ use schema::{Board, Chip, Image, Text, Word};
 use tree::{Fields, Value};
 
 // A table of the root; without fields where it is absent.
-#[derive(Drop)]
+#[derive(Clone, Copy)]
 pub struct TableRead {
     pub fault: u32,
     pub fields: Fields,
 }
 
-#[derive(Drop)]
+#[derive(Clone, Copy)]
 pub struct ChipFound {
     pub fault: Refusal,
     pub chip: Chip,
 }
 
-#[derive(Drop)]
+#[derive(Clone, Copy)]
 pub struct BoardRead {
     pub fault: u32,
     pub board: Board,
 }
 
-#[derive(Drop)]
+#[derive(Clone, Copy)]
 pub struct ImageNames {
     pub fault: u32,
     pub platform: Text,
@@ -36,7 +36,7 @@ pub struct ImageNames {
     pub version: Text,
 }
 
-#[derive(Drop)]
+#[derive(Clone, Copy)]
 pub struct ImageRest {
     pub fault: u32,
     pub media_dev_id: u32,
@@ -44,13 +44,13 @@ pub struct ImageRest {
     pub app: Text,
 }
 
-#[derive(Drop)]
+#[derive(Clone, Copy)]
 pub struct ImageRead {
     pub fault: u32,
     pub image: Image,
 }
 
-#[derive(Drop)]
+#[derive(Clone, Copy)]
 pub struct Front {
     pub fault: Refusal,
     pub board: Board,

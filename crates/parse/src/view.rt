@@ -8,19 +8,19 @@ use crate::entry::List;
 use schema::{Application, Chip, Component, Media, Partition};
 use tree::Found;
 
-#[derive(Drop)]
+#[derive(Clone, Copy)]
 pub enum PartitionFound {
     Nothing,
     At(Partition),
 }
 
-#[derive(Drop)]
+#[derive(Clone, Copy)]
 pub enum ComponentFound {
     Nothing,
     At(Component),
 }
 
-#[derive(Drop)]
+#[derive(Clone, Copy)]
 pub enum ApplicationFound {
     Nothing,
     At(Application),
@@ -169,7 +169,7 @@ pub fn lists_of(tree: &[u8], store: &[u8], made: usize) -> Lists
 }
 
 // How many entries the lists have; of applications no more than one past the limit are counted.
-#[derive(Drop)]
+#[derive(Clone, Copy)]
 pub struct Counts {
     pub partitions: usize,
     pub components: usize,
@@ -214,7 +214,7 @@ pub fn counts_at(tree: &[u8], store: &[u8], made: usize) -> Counts
 }
 
 // What a preset is for.
-#[derive(Drop)]
+#[derive(Clone, Copy)]
 pub struct Device {
     pub chip: Chip,
     pub media: Media,

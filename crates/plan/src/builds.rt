@@ -19,14 +19,14 @@ const COMPONENT_USES: usize = 2 * COMPONENTS;
 const MOST_USES: usize = COMPONENT_USES + 1;
 
 // Uses of packages, or builds; one whose package is absent is none.
-#[derive(Drop)]
+#[derive(Clone, Copy)]
 pub struct BuildList {
     pub count: usize,
     pub items: [Use; MOST_USES],
 }
 
 // A component's two packages.
-#[derive(Drop)]
+#[derive(Clone, Copy)]
 pub struct Wanted {
     pub own: Use,
     pub pbp: Use,
@@ -40,7 +40,7 @@ pub struct Use {
     pub features: Spot,
 }
 
-#[derive(Drop)]
+#[derive(Clone, Copy)]
 pub enum BuildFound {
     Nothing,
     At(Build),

@@ -12,7 +12,7 @@ use schema::{Application, Boot, Component, Features, Head, Kind, Load, Number, R
 use tree::Item;
 
 // A package to build, its binary, and the features of one use.
-#[derive(Drop)]
+#[derive(Clone, Copy)]
 pub struct Build {
     pub package: Text,
     pub bin: Text,
@@ -20,7 +20,7 @@ pub struct Build {
 }
 
 // A package or a file, as it is written.
-#[derive(Drop)]
+#[derive(Clone, Copy)]
 pub enum Source {
     Nothing,
     Package(Build),
@@ -28,14 +28,14 @@ pub enum Source {
 }
 
 // A component's record, but without `pbp`, and without `file` where that is the source.
-#[derive(Drop)]
+#[derive(Clone, Copy)]
 pub struct Planned {
     pub spec: Component,
     pub source: Source,
     pub pbp_source: Source,
 }
 
-#[derive(Drop)]
+#[derive(Clone, Copy)]
 pub enum PlannedFound {
     Nothing,
     At(Planned),

@@ -17,7 +17,7 @@ use parse::Refusal;
 use toml_lite::Read;
 
 // What a text comes to: number 0 and the count of values made; or 01's number, section and place.
-#[derive(Drop)]
+#[derive(Clone, Copy)]
 pub struct Outcome {
     pub number: u32,
     pub section: u32,
@@ -27,7 +27,7 @@ pub struct Outcome {
 
 // How far a preset is judged: its records; the rules too; and the selection, where 0 is the boot chain, any other
 // the application of the key.
-#[derive(Drop)]
+#[derive(Clone, Copy)]
 pub enum Way {
     Read,
     Validate,

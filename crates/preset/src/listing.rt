@@ -15,7 +15,7 @@ pub const LISTING_BYTES: usize = 142848;
 const NAME_TOO_LONG: usize = (4294967296 - LISTING_BYTES) / 2;
 
 // What a listing comes to: number 0 and how many bytes were written; or 01's number, section and place.
-#[derive(Drop)]
+#[derive(Clone, Copy)]
 pub struct Listed {
     pub number: u32,
     pub section: u32,

@@ -7,14 +7,14 @@ ghost use Rattle.report.specs.Shown as shown;
 
 use schema::{Kind, Text, Word};
 
-#[derive(Drop)]
+#[derive(Clone, Copy)]
 pub struct ComponentBrief {
     pub kind: Kind,
     pub name: Text,
     pub partition: Text,
 }
 
-#[derive(Drop)]
+#[derive(Clone, Copy)]
 pub struct ApplicationBrief {
     pub package: Text,
     pub name: Text,

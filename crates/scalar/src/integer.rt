@@ -8,14 +8,14 @@ ghost use Rattle.scalar.specs.Ints.{int_of, digits_of, more, Skipped, Passed};
 use meaning::Signed;
 
 // The integer, or refusal 12.
-#[derive(Drop)]
+#[derive(Clone, Copy)]
 pub enum Int {
     Value(Signed),
     Wrong,
 }
 
 // What digits count, or refusal 12.
-#[derive(Drop)]
+#[derive(Clone, Copy)]
 pub enum Digits {
     Count(u64),
     Stray,

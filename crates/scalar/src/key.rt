@@ -20,7 +20,7 @@ pub enum Verdict {
 }
 
 // What one segment comes to, and how many bytes it left in the store, refused or not.
-#[derive(Drop)]
+#[derive(Clone, Copy)]
 pub struct Segment {
     pub verdict: Verdict,
     pub written: usize,

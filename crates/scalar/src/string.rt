@@ -8,7 +8,7 @@ use meaning::{Act, StringByte};
 
 // The string, how many bytes of text it takes with its closing quote and how many it says; or 8 at its backslash, or
 // 9. All leave what is decoded until then.
-#[derive(Drop)]
+#[derive(Clone, Copy)]
 pub enum Decoded {
     Done { used: usize, written: usize },
     Escape { at: usize, written: usize },

@@ -37,7 +37,7 @@ pub enum Word {
 }
 
 // Where a word stands among all words.
-#[derive(Drop)]
+#[derive(Clone, Copy)]
 pub struct Span {
     pub from: usize,
     pub to: usize,
@@ -119,19 +119,19 @@ pub enum Kind {
 }
 
 // fault 22: no such word.
-#[derive(Drop)]
+#[derive(Clone, Copy)]
 pub struct ChipRead {
     pub fault: u32,
     pub chip: Chip,
 }
 
-#[derive(Drop)]
+#[derive(Clone, Copy)]
 pub struct MediaRead {
     pub fault: u32,
     pub media: Media,
 }
 
-#[derive(Drop)]
+#[derive(Clone, Copy)]
 pub struct KindRead {
     pub fault: u32,
     pub kind: Kind,
@@ -469,7 +469,7 @@ pub struct Component {
     pub load: Load,
 }
 
-#[derive(Drop)]
+#[derive(Clone, Copy)]
 pub struct Application {
     pub package: Text,
     pub name: Text,

@@ -16,7 +16,7 @@ ghost use Rattle.text.specs.Parts.{Countable, Counts};
 use meaning::{Fate, Limits, Scan, StringState};
 
 // A place between joined lines of a laid text: an offset, and the number of the line there.
-#[derive(Drop)]
+#[derive(Clone, Copy)]
 pub struct Place {
     pub at: usize,
     pub line: usize,
@@ -30,14 +30,14 @@ pub struct Piece {
 }
 
 // A line that is counted: where its LF stands, and brackets and string state there.
-#[derive(Drop)]
+#[derive(Clone, Copy)]
 pub struct Counted {
     pub end: usize,
     pub count: Scan,
 }
 
 // What the joined line at the head of a laid text comes to; nothing where it has no LF, and so no line.
-#[derive(Drop)]
+#[derive(Clone, Copy)]
 pub enum Joint {
     Nothing,
     Over,
@@ -46,7 +46,7 @@ pub enum Joint {
 }
 
 // The next joined line: none; refusal 3 or 4 at a line; or where it lies, its line and the place after it.
-#[derive(Drop)]
+#[derive(Clone, Copy)]
 pub enum Next {
     End,
     Over(usize),
@@ -60,7 +60,7 @@ pub enum Next {
 }
 
 // What the check of a laid text says: how many joined lines, or refusal 3 or 4 at a line.
-#[derive(Drop)]
+#[derive(Clone, Copy)]
 pub enum Checked {
     Fine(usize),
     Over(usize),
@@ -68,7 +68,7 @@ pub enum Checked {
 }
 
 // What a text comes to: how many joined lines in how many bytes, or refusal 1, 2, 3 or 4.
-#[derive(Drop)]
+#[derive(Clone, Copy)]
 pub enum Reading {
     Fine { lines: usize, used: usize },
     TooLong,

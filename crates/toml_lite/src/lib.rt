@@ -26,21 +26,21 @@ pub const SCRATCH_BYTES: usize = TEXT_BYTES + 1;
 const SHORT_SCRATCH_BYTES: usize = 4096;
 
 // How far a text is read: the state of the rooms, and the place where assignments go.
-#[derive(Drop)]
+#[derive(Clone, Copy)]
 pub struct Progress {
     pub st: State,
     pub here: u16,
 }
 
 // What a line comes to: the state after it and the place where assignments go; or the number of its fault.
-#[derive(Drop)]
+#[derive(Clone, Copy)]
 pub enum LineRead {
     Fine { st: State, here: u16 },
     Fault(u32),
 }
 
 // What a text comes to: the state after it; or the number of its fault and the line where it is told.
-#[derive(Drop)]
+#[derive(Clone, Copy)]
 pub enum Read {
     Fine(State),
     Fault { number: u32, line: usize },

@@ -83,7 +83,7 @@ pub struct Fields {
 }
 
 // Where a value's key stands in the text store.
-#[derive(Drop)]
+#[derive(Clone, Copy)]
 pub struct Span {
     pub from: usize,
     pub len: usize,
@@ -91,7 +91,7 @@ pub struct Span {
 
 // A walk over what hangs under a place, in the order of the text: an array's items, a list's entries.
 // It goes on at a number, among so many values made.
-#[derive(Drop)]
+#[derive(Clone, Copy)]
 pub struct Items {
     pub place: u16,
     pub at: usize,
@@ -99,7 +99,7 @@ pub struct Items {
 }
 
 // The next of them, and the walk over the rest.
-#[derive(Drop)]
+#[derive(Clone, Copy)]
 pub enum Item {
     End,
     At { value: usize, rest: Items },
@@ -107,7 +107,7 @@ pub enum Item {
 
 // A walk over a table's keys in byte order, each key once. It goes on after a value; below a low number nothing
 // hangs under the place.
-#[derive(Drop)]
+#[derive(Clone, Copy)]
 pub struct Keys {
     pub place: u16,
     pub low: usize,
@@ -116,7 +116,7 @@ pub struct Keys {
 }
 
 // The newest value of the next key, and the walk over the rest.
-#[derive(Drop)]
+#[derive(Clone, Copy)]
 pub enum Key {
     End,
     At { value: usize, rest: Keys },

@@ -17,7 +17,7 @@ use turns::Fault;
 
 // The components: the first fault of their records; how many there are, and whether one lies in the first partition;
 // what their own rules say, and the packages they use.
-#[derive(Drop)]
+#[derive(Clone, Copy)]
 pub struct Gathered {
     pub fault: Refusal,
     pub count: usize,
@@ -28,7 +28,7 @@ pub struct Gathered {
 
 // The applications: the first fault of their records; how many there are;
 // what their own rules say, and the first of all entries whose packages clash.
-#[derive(Drop)]
+#[derive(Clone, Copy)]
 pub struct Applied {
     pub fault: Refusal,
     pub count: usize,

@@ -26,7 +26,7 @@ use turns::{Fault, Mark};
 
 // An entry read once: its record's fault, 0 for none, and what the rules ask of it:
 // its mark, the packages it uses, and whether it lies in the first partition.
-#[derive(Drop)]
+#[derive(Clone, Copy)]
 pub struct Entry {
     pub fault: u32,
     pub mark: Mark,

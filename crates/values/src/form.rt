@@ -5,7 +5,7 @@ ghost use Rattle.meaning.specs.Document as meant;
 ghost use Rattle.values.specs.Forms.{Formed};
 
 // `[[..]]`, `[..]`, an assignment whose `=` stands at a place, or neither.
-#[derive(Drop)]
+#[derive(Clone, Copy)]
 pub enum Form {
     Pushes,
     Heads,

@@ -26,7 +26,7 @@ pub struct Segment {
 }
 
 // What a step comes to: how many values are made, and the place it comes to; or 16, or 13.
-#[derive(Drop)]
+#[derive(Clone, Copy)]
 pub enum Grown {
     At { made: usize, place: u16 },
     Full,

@@ -15,7 +15,7 @@ pub struct State {
 }
 
 // What a reader says: the state after what it read; or the number of its fault and the state there.
-#[derive(Drop)]
+#[derive(Clone, Copy)]
 pub enum Reply {
     Fine(State),
     Fault(u32, State),
