@@ -133,7 +133,7 @@ module _ (lim : Limits) (d : Doc) (r : DocS) (s : Same d r) where
   -- ---- `[[..]]`
 
   module _ (k : List ℕ) (ks : List (List ℕ)) (g : Seg) (gs : List Seg) (b : List ℕ) (spells : Spelling b (g ∷ gs) (k ∷ ks))
-      (grown-store : (a : Agree r.bytes r.slots x) → Agree b r.slots x) (is_IsStore : b ≡ r.bytes ++ concat (k ∷ ks)) where
+      (grown-store : (a : Agree r.bytes r.slots x) → Agree b r.slots x) (is_store : b ≡ r.bytes ++ concat (k ∷ ks)) where
     front : List (List ℕ)
     front = init k ks
 
@@ -163,7 +163,7 @@ module _ (lim : Limits) (d : Doc) (r : DocS) (s : Same d r) where
           let i : nth (longer h.items) (many h.items) ≡ some (table empty) =
           ap (λ (a : Items). nth a (many h.items)) (sym (snoc_set h.items (table empty))) ∙ nth_set h.items (many h.items) (table empty) (omega arith) in
           rw u.is (
-            is_IsStore,
+            is_store,
             refl,
             record {
               agree = subst (λ (y : Value). Agree b ws y) u.tree h.agree;

@@ -48,7 +48,7 @@ lain_more bytes more n ws v h =
 
 module _ (lim : Limits) (d : Doc) (r : DocS) (s : Same d r) (v : Value) (ws : List Slot) (b : List ℕ)
     (agree-b : Agree b r.slots (table d.root)) (to-b : (q : List Key) → to b r.slots q ≡ to r.bytes r.slots q) (lain : Lain b (length r.slots) ws v)
-    (k : List ℕ) (ks : List (List ℕ)) (g : Seg) (gs : List Seg) (spells : Spelling b (g ∷ gs) (k ∷ ks)) (bs : List ℕ) (is_IsStore : b ≡ r.bytes ++ (bs ++ concat (k ∷ ks))) where
+    (k : List ℕ) (ks : List (List ℕ)) (g : Seg) (gs : List Seg) (spells : Spelling b (g ∷ gs) (k ∷ ks)) (bs : List ℕ) (is_store : b ≡ r.bytes ++ (bs ++ concat (k ∷ ks))) where
   abbrev x : Value
   x = table d.root
 
@@ -164,7 +164,7 @@ module _ (lim : Limits) (d : Doc) (r : DocS) (s : Same d r) (v : Value) (ws : Li
         let w : Ungrafted x [] whole tree (length vs) = ungraft x [] whole tree (length vs) (here_goes ∙ final_goes) in
         let z : set_at x home (table u.it) ≡ table w.it = sym u.tree ∙ w.tree in
         rw w.is (
-          is_IsStore,
+          is_store,
           sym (length_hung b vs c.tree (onto home front) c.tab p c.stand (last g gs) key spelt.0 spelt.1 n e v laid long_all free calm shut),
           record {
             agree = subst (λ (y : Value). Agree b final y) w.tree final_agree;
