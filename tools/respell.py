@@ -201,7 +201,9 @@ def main():
     for ending, turn in turns:
         for path in list(files(ending)):
             write(path, turn, to)
-    for path in list(files(".md", "docs")) + ["README.md"]:
+    # what names files of another's suite, and what is history, stays
+    pages = [p for p in files(".md", "docs") if not p.startswith("docs/landings/") and p != "docs/TOML-TEST.md"]
+    for path in pages + ["README.md"]:
         write(path, quoted, to)
     for crate in sorted(os.listdir("crates")):
         if os.path.isdir(os.path.join("crates", crate, "src")):

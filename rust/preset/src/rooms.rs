@@ -37,7 +37,7 @@ impl Held {
 }
 
 /// What the views of accepted rooms show. They are proved to keep their rules, so nothing else is met with the library
-/// that `rt staticlib host` writes.
+/// that `scripts/archive --prove` writes.
 pub(crate) fn promised<T>(shown: Result<T, String>) -> T {
     shown.unwrap_or_else(|why| panic!("the linked library is not the proved one: {why}"))
 }

@@ -58,13 +58,15 @@ fn word(path: &Path) -> &str {
     path.to_str().expect("a plain path")
 }
 
-// An empty folder of the test.
+// An empty folder of the test. Copies of the repository have crates, which `rt ci` wants nowhere else in it; so they
+// stand outside, in a folder that is named after this checkout.
 fn empty(name: &str) -> PathBuf {
-    let folder = Path::new(env!("CARGO_TARGET_TMPDIR"))
-        .join("install")
+    let checkout = env!("CARGO_MANIFEST_DIR").replace('/', "-");
+    let folder = std::env::temp_dir()
+        .join(format!("ozhandil-install{checkout}"))
         .join(name);
     let _ = fs::remove_dir_all(&folder);
-    fs::create_dir_all(&folder).expect("target/ can be written");
+    fs::create_dir_all(&folder).expect("the folder for what is passing can be written");
     folder
 }
 
