@@ -714,6 +714,8 @@ fn maps_do_not_overwrite_presets() {
             assert_eq!(fs::read_to_string(&file).expect("it"), EXAMPLE);
         }
     }
+    // `rt ci` wants no link anywhere in the repository
+    fs::remove_file(&soft).expect("it is the test's own");
 }
 
 // The refusal beside the map, and the map wherever partitions can be read.
