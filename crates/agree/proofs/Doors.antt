@@ -1,5 +1,5 @@
 -- The reading doors show the tree of 01: what they say of a place that stands for a value, of a table's fields, an array's items and a walk by key.
-use Rattle.std.specs.Prelude.{ℕ, zero, suc, ◌+◌, ◌%◌, ◌/◌, ◌≤◌, ◌<◌, List, [], ◌∷◌, Bool, ◌≡◌, ℤ, length}
+use Rattle.std.specs.Prelude.{ℕ, zero, suc, ◌+◌, ◌%◌, ◌/◌, ◌≤◌, ◌<◌, List, [], ◌∷◌, Bool, ◌≡◌, ℤ, length, Option as Maybe, Some, None}
 use Rattle.std.proofs.Math.Bool.{true, false}
 use Rattle.std.proofs.Math.Option.{Option, none, some}
 use Rattle.std.proofs.Math.Path.{refl}
@@ -12,8 +12,6 @@ use Rattle.meaning.specs.Tree.{Value, Items, Table, str, int, boolean, array, ta
 use Rattle.meaning.specs.Order.{sorted}
 use Rattle.meaning.specs.Fields.{values, Row, rows}
 use Rattle.tree.specs.declared.Slot.{Slot}
-use Rattle.tree.specs.declared.Found.{Found}
-use Rattle.tree.specs.declared.Found.TheVariants.{At, Nothing}
 use Rattle.tree.specs.declared.Value.TheVariants as read
 use Rattle.tree.specs.Room.{slot_at, look, child}
 use Rattle.tree.specs.Order.{next}
@@ -50,9 +48,9 @@ module _ (room store bytes : List ℕ) (vs : List Slot) (x : Value) (made : ℕ)
 
 -- steps by key under the place p, from the value found before, meet these entries, and then nothing
 module _ (room store bytes : List ℕ) (vs : List Slot) (x : Value) (made p : ℕ) where
-  abbrev pub Rows-see : Found → List Row → Type 0
-  Rows-see after [] = next (slot_at room) store made p after ≡ Nothing
-  Rows-see after (r ∷ rest) = (n : ℕ) × (next (slot_at room) store made p after ≡ At n) × Row-seen room store bytes vs x made n r × Rows-see (At n) rest
+  abbrev pub Rows-see : Maybe ℕ → List Row → Type 0
+  Rows-see after [] = next (slot_at room) store made p after ≡ None
+  Rows-see after (r ∷ rest) = (n : ℕ) × (next (slot_at room) store made p after ≡ Some n) × Row-seen room store bytes vs x made n r × Rows-see (Some n) rest
 
 -- ---- a value
 
@@ -135,7 +133,7 @@ module _ (room store bytes : List ℕ) (vs : List Slot) (x : Value) (made : ℕ)
   sees_none = record { from = 0; place = 0; is = refl; spelt = tt; stands = tt; low = omega arith }
 
   module _ (p : ℕ) (t : Table) (g : Place bytes vs x p (table t)) (k : List ℕ) where
-    among_is : among room store (fields_of room made p) k ≡ look_s bytes 0 vs p k Nothing
+    among_is : among room store (fields_of room made p) k ≡ look_s bytes 0 vs p k None
     among_is =
         among_look room store made p k ∙ ap (λ (m : ℕ). look room store m p k) h.all
         ∙ room_look room store bytes vs h.carried h.agree.within p k
@@ -190,7 +188,7 @@ module _ (room store bytes : List ℕ) (vs : List Slot) (x : Value) (made : ℕ)
   -- ---- a walk by key
 
   module _ (p : ℕ) (t : Table) (g : Place bytes vs x p (table t)) where
-    next_is : (after : Found) → next (slot_at room) store made p after ≡ step_s bytes vs p after
+    next_is : (after : Maybe ℕ) → next (slot_at room) store made p after ≡ step_s bytes vs p after
     next_is after =
         ap (λ (m : ℕ). next (slot_at room) store m p after) h.all ∙ room_next_key room store bytes vs h.carried h.agree.within p after
 
@@ -204,10 +202,10 @@ module _ (room store bytes : List ℕ) (vs : List Slot) (x : Value) (made : ℕ)
           sees = place_sees n v e.place;
         }
 
-    walk_sees : (u : Table) (after : Found) → Walks bytes vs x h.agree p t g after u → Rows-see room store bytes vs x made p after (rows u)
+    walk_sees : (u : Table) (after : Maybe ℕ) → Walks bytes vs x h.agree p t g after u → Rows-see room store bytes vs x made p after (rows u)
     walk_sees empty after w = next_is after ∙ w
-    walk_sees (entry k v u) after w = (w.0, next_is after ∙ w.1, row_seen w.0 k v w.2, walk_sees u (At w.0) w.3)
+    walk_sees (entry k v u) after w = (w.0, next_is after ∙ w.1, row_seen w.0 k v w.2, walk_sees u (Some w.0) w.3)
 
     -- the walk from nothing meets the table's entries in byte order of key
-    pub rows_see : Rows-see room store bytes vs x made p Nothing (rows (sorted t))
-    rows_see = walk_sees (sorted t) Nothing (walk_sorted bytes vs x h.agree p t g)
+    pub rows_see : Rows-see room store bytes vs x made p None (rows (sorted t))
+    rows_see = walk_sees (sorted t) None (walk_sorted bytes vs x h.agree p t g)

@@ -1,5 +1,5 @@
 -- Along a path from a table on: the rooms and the tree of 01 walk or make the same tables.
-use Rattle.std.specs.Prelude.{ℕ, suc, ◌+◌, ◌≤◌, true, false, ◌≡◌, eqb, leb, get_or}
+use Rattle.std.specs.Prelude.{ℕ, suc, ◌+◌, ◌≤◌, true, false, ◌≡◌, eqb, leb, get_or, Option as Maybe, Some, None}
 use mathlib.Core.List.{List, [], ◌∷◌, ◌++◌, append-nil, append_assoc}
 use Rattle.std.proofs.Math.Option.{Option, none, some}
 use Rattle.std.proofs.Math.Path.{refl, sym, ap}
@@ -13,8 +13,6 @@ use Rattle.meaning.specs.Tree.{Value, Table, str, int, boolean, array, table, em
 use Rattle.laws.specs.Cases.{on}
 use Rattle.laws.specs.Never.{same_refl}
 use Rattle.tree.specs.declared.Slot.{Slot}
-use Rattle.tree.specs.declared.Found.{Found}
-use Rattle.tree.specs.declared.Found.TheVariants.{At, Nothing}
 use Rattle.tree.specs.Room.{keyed}
 use Rattle.values.specs.Grow.{Seg, void, look_s, keyed_slot, enter_s, enter_by, down_s, make_s, Grown as GrownS, grown as grownS, stuck as stuckS, onward}
 use Rattle.agree.specs.Key.{Key, name}
@@ -182,7 +180,7 @@ key_meets bytes vs x g t p a k =
     subst (λ (o : Option Value). Meets bytes (log_of vs) (to bytes vs (name k ∷ g)) o) (ap (read_as (λ v. get v (name k))) a.found) (a.agree.shown (name k ∷ g))
 
 pub search_is : (bytes : List ℕ) (vs : List Slot) (x : Value) (g : List Key) (t : Table) (p : ℕ) → Stand bytes vs x g t p → (key k : List ℕ) → key ≡ k
-    → place_of (look_s bytes 0 vs p key Nothing) ≡ to bytes vs (name k ∷ g)
+    → place_of (look_s bytes 0 vs p key None) ≡ to bytes vs (name k ∷ g)
 search_is bytes vs x g t p a key k e =
     let d : kind_at (log_of vs) p ≡ 5 = subst (λ (z : ℕ). kind_at (log_of vs) z ≡ 5) a.leads (table_at_lem bytes vs x a.agree g t a.found) in
     look_is bytes vs p key d ∙ ap (λ (z : ℕ). walk bytes (log_of vs) z (name key ∷ [])) (sym a.leads) ∙ ap (λ (z : List ℕ). to bytes vs (name z ∷ g)) e
@@ -200,14 +198,14 @@ module _ (limit : ℕ) (bytes : List ℕ) (vs : List Slot) (x : Value) (g : List
       old_comes limit bytes vs x g t p a s k spelt lies ks w d (next vs (n + 2))
       (go vs x (name k ∷ g) w (n + 2) (record { agree = a.agree; found = ap (read_as (λ v. get v (name k))) a.found ∙ d; leads = sym e }))
 
-  step_comes : (r : Found) → place_of r ≡ to bytes vs (name k ∷ g) → Comes limit bytes vs x g t (k ∷ ks) (onward (enter_by limit vs p s r) next)
-  step_comes (At n) e =
+  step_comes : (r : Maybe ℕ) → place_of r ≡ to bytes vs (name k ∷ g) → Comes limit bytes vs x g t (k ∷ ks) (onward (enter_by limit vs p s r) next)
+  step_comes (Some n) e =
       let f : Key-found bytes vs n (lookup t k) = key_found bytes vs (to bytes vs (name k ∷ g)) n (lookup t k) (key_meets bytes vs x g t p a k) e in
       on (eqb (get_or vs n void).kind 5)
       (λ c. let u = kind_table bytes (get_or vs n void) f.it f.shows (eqb-true (get_or vs n void).kind 5 c) in
       rw c (step_old n e u.0 (f.is ∙ ap some u.1)))
       (λ c. rw c (step_new (ap (read_as as_table) f.is ∙ kind_other bytes (get_or vs n void) f.it f.shows (eqb-false (get_or vs n void).kind 5 c))))
-  step_comes Nothing e =
+  step_comes None e =
       step_new (ap (read_as as_table) (key_missing bytes vs (to bytes vs (name k ∷ g)) (lookup t k) (key_meets bytes vs x g t p a k) e))
 
 -- the theorem of walks: along every path both come to the same table, or are refused by 16
@@ -231,5 +229,5 @@ down_comes limit bytes (s ∷ ss) [] sp vs x g t p a = absurd sp
 down_comes limit bytes (s ∷ ss) (k ∷ ks) sp vs x g t p a =
     step_comes limit bytes vs x g t p a s k sp.0 sp.1 ks (down_s limit bytes ss)
     (λ ws y h u q b. down_comes limit bytes ss ks sp.2 ws y h u q b)
-    (look_s bytes 0 vs p (part s.at (s.at + s.len) bytes) Nothing)
+    (look_s bytes 0 vs p (part s.at (s.at + s.len) bytes) None)
     (search_is bytes vs x g t p a (part s.at (s.at + s.len) bytes) k sp.0)

@@ -1,11 +1,10 @@
 -- Texts, computed on both levels.
-use Rattle.std.specs.Prelude.{true, [], ◌∷◌, ◌≡◌, refl, pos}
+use Rattle.std.specs.Prelude.{true, [], ◌∷◌, ◌≡◌, refl, pos, Some, None}
 use Rattle.meaning.specs.Base.{ascii}
 use Rattle.meaning.specs.Limits.{of01}
 use Rattle.meaning.specs.Refusal.{accepted}
 use Rattle.meaning.specs.Tree.{str, int, boolean, array, table, none', item, empty, entry}
 use Rattle.meaning.specs.Document as meant
-use Rattle.tree.specs.declared.Found.TheVariants.{At, Nothing}
 use Rattle.tree.specs.Order.{has_key, before, follows, better, next}
 use Rattle.values.specs.Doc as rooms
 use Rattle.agree.specs.Order.{step_s}
@@ -54,6 +53,6 @@ pub again_rooms : rooms.document_s of01 again ≡ accepted (record { bytes = asc
 unfolding rooms.computes
 again_rooms = refl
 
-pub again_walked : (step_s (ascii "bab") three 1 Nothing ≡ At 1) × (step_s (ascii "bab") three 1 (At 1) ≡ At 2) × (step_s (ascii "bab") three 1 (At 2) ≡ Nothing)
+pub again_walked : (step_s (ascii "bab") three 1 None ≡ Some 1) × (step_s (ascii "bab") three 1 (Some 1) ≡ Some 2) × (step_s (ascii "bab") three 1 (Some 2) ≡ None)
 unfolding has_key before follows better next
 again_walked = (refl, refl, refl)

@@ -1,10 +1,12 @@
 -- Fields read from the rooms are fields of 01's tree, of each kind.
-use Rattle.std.specs.Prelude.{ℕ, suc, ◌+◌, ◌≤◌, false, ◌≡◌, refl, leb, ltb, pos, negsuc, length}
+use Rattle.std.specs.Prelude.{ℕ, suc, ◌+◌, ◌≤◌, false, ◌≡◌, refl, leb, ltb, pos, negsuc, length, unwrap_or, Option as Maybe, Some, None}
 use mathlib.Core.List.{List, [], ◌∷◌}
 use Rattle.std.proofs.Math.Option.{Option, none, some}
 use Rattle.std.proofs.Math.Path.{ap}
 use Rattle.std.proofs.Common.{arith, le-leb}
+use Rattle.std.specs.Result.{result_unwrap_or}
 use Rattle.meaning.specs.Base.{pick, or_default, part, ascii, same}
+use Rattle.meaning.specs.Numbered.{told as refusal}
 use Rattle.meaning.specs.Refusal.{R, ok, bad, ok_then}
 use Rattle.meaning.specs.Tree.{Value, Items, str, int, boolean, array, table, none', item, count}
 use Rattle.meaning.specs.Fields.{a_text, a_number, a_flag, in_range, a_word, need, present, values}
@@ -16,23 +18,22 @@ use Rattle.tree.specs.declared.Value.{Value as Read}
 use Rattle.tree.specs.Doors.{value_at, items}
 use Rattle.schema.specs.declared.Text.{Text}
 use Rattle.schema.specs.declared.Text.TheVariants as texts
-use Rattle.schema.specs.declared.Number.{Number}
-use Rattle.schema.specs.declared.Number.TheVariants as numbers
+use Rattle.schema.specs.declared.Chip.TheVariants.{D13x}
 use Rattle.schema.specs.declared.Media.{Media}
 use Rattle.schema.specs.Words.{word, chip_read, media_read, kind_read, chip_meant, media_meant, kind_meant}
-use Rattle.schema.specs.Texts.{clip, spelled, optional, or_text, start_of, length_of, amount, or_number}
+use Rattle.schema.specs.Texts.{clip, spelled, optional, or_text, start_of, length_of, amount}
 use Rattle.features.specs.Pieces.{piece_of, is_text, pieces_at, all_texts, bytes_of, pieces_from, few_words, few_items, features_read}
 use Rattle.features.specs.Ordered.{bytes_all, words_pieces, words_length}
 use Rattle.agree.specs.Reads.{Place}
 use Rattle.agree.specs.Doors.{Sees, Spelt, Standing, Told, value_for}
 use Rattle.agree.proofs.Doors.{All-see, items_see, items_long}
-use Rattle.parse.specs.Fields.{first_fault, text_read, number_read, ranged, flag_read, missing, kind_of, media_of}
+use Rattle.parse.specs.Fields.{first_fault, text_read, number_read, ranged, flag_read, missing, kind_said, media_said, kind_of, media_of}
 use Rattle.parse.specs.Meant.{Got, feature_list}
 use Rattle.parse.specs.Reads.{Gives, gives_made, Kept, text_kept, else_spelled, clip_none}
 
-else_amount : (n : Number) (d : ℕ) → or_number n d ≡ or_default (amount n) d
-else_amount numbers.Absent d = refl
-else_amount (numbers.Of n) d = refl
+else_amount : (n : Maybe ℕ) (d : ℕ) → unwrap_or n d ≡ or_default (amount n) d
+else_amount None d = refl
+else_amount (Some n) d = refl
 
 -- a stored text's bytes
 clip_is : (store : List ℕ) (from : ℕ) (s : List ℕ) → from + length s ≤ length store → part from (from + length s) store ≡ s → clip from (length s) store ≡ s
@@ -41,20 +42,20 @@ clip_is store from s h e = rw (le-leb (from + length s) (length store) h, e)
 
 -- ---- words
 
-pub kind_got : (w : List ℕ) → Got (meant.kind_of w) (kind_read w).fault (kind_meant (kind_read w).kind)
+pub kind_got : (w : List ℕ) → Got (meant.kind_of w) (kind_said (kind_read w)).fault (kind_meant (kind_said (kind_read w)).kind)
 unfolding meant.kind_of meant.kind_word kind_read word
 kind_got w =
     on (same w (ascii "app")) (λ e. rw e (refl, refl))
     (λ e. on (same w (ascii "pbp")) (λ f. rw (e, f) (refl, refl))
     (λ f. on (same w (ascii "raw")) (λ g. rw (e, f, g) (refl, refl)) (λ g. rw (e, f, g) (refl, omega arith))))
 
-pub media_got : (w : List ℕ) → Got (meant.media_of w) (media_read w).fault (media_meant (media_read w).media)
+pub media_got : (w : List ℕ) → Got (meant.media_of w) (media_said (media_read w)).fault (media_meant (media_said (media_read w)).media)
 unfolding meant.media_of meant.media_word media_read word
 media_got w =
     on (same w (ascii "spi-nor")) (λ e. rw e (refl, refl))
     (λ e. on (same w (ascii "spi-nand")) (λ f. rw (e, f) (refl, refl)) (λ f. rw (e, f) (refl, omega arith)))
 
-pub chip_got : (w : List ℕ) → Got (meant.chip_of w) (chip_read w).fault (chip_meant (chip_read w).chip)
+pub chip_got : (w : List ℕ) → Got (meant.chip_of w) (refusal (chip_read w)) (chip_meant (result_unwrap_or (chip_read w) D13x))
 unfolding meant.chip_of meant.chip_word chip_read word
 chip_got w =
     on (same w (ascii "d13x")) (λ e. rw e (refl, refl))
@@ -111,7 +112,7 @@ number_by (some (array a)) v from place e = rw e (refl, wrong)
 number_by (some (table t)) v from place e = rw e (refl, wrong)
 
 number_need_by : (o : Option Value) (v : Read) (from place : ℕ) → v ≡ value_for from place o
-    → Got (ok_then (present a_number o) (need 24)) (first_fault (number_read v).fault (missing v)) (or_number (number_read v).number 0)
+    → Got (ok_then (present a_number o) (need 24)) (first_fault (number_read v).fault (missing v)) (unwrap_or (number_read v).number 0)
 unfolding a_number in_range ranged
 number_need_by none v from place e = rw e (refl, omega arith)
 number_need_by (some (str s)) v from place e = rw e (refl, wrong)
@@ -143,7 +144,7 @@ kind_by_lem : (store : List ℕ) (o : Option Value) (v : Read) (from place : ℕ
 unfolding a_text
 kind_by_lem store none v from place e d = rw e (refl, refl)
 kind_by_lem store (some (str s)) v from place e d =
-    rw (e, clip_is store from s d.0 d.1) (word_got (meant.kind_of s) (kind_read s).fault (kind_meant (kind_read s).kind) meant.kindRaw (kind_got s))
+    rw (e, clip_is store from s d.0 d.1) (word_got (meant.kind_of s) (kind_said (kind_read s)).fault (kind_meant (kind_said (kind_read s)).kind) meant.kindRaw (kind_got s))
 kind_by_lem store (some (int (pos n))) v from place e d = rw e (refl, wrong)
 kind_by_lem store (some (int (negsuc n))) v from place e d = rw e (refl, wrong)
 kind_by_lem store (some (boolean b)) v from place e d = rw e (refl, wrong)
@@ -156,7 +157,7 @@ media_by_lem : (store : List ℕ) (m : Media) (o : Option Value) (v : Read) (fro
 unfolding a_text
 media_by_lem store m none v from place e d = rw e (refl, refl)
 media_by_lem store m (some (str s)) v from place e d =
-    rw (e, clip_is store from s d.0 d.1) (word_got (meant.media_of s) (media_read s).fault (media_meant (media_read s).media) (media_meant m) (media_got s))
+    rw (e, clip_is store from s d.0 d.1) (word_got (meant.media_of s) (media_said (media_read s)).fault (media_meant (media_said (media_read s)).media) (media_meant m) (media_got s))
 media_by_lem store m (some (int (pos n))) v from place e d = rw e (refl, wrong)
 media_by_lem store m (some (int (negsuc n))) v from place e d = rw e (refl, wrong)
 media_by_lem store m (some (boolean b)) v from place e d = rw e (refl, wrong)
@@ -183,10 +184,10 @@ module _ (store bytes : List ℕ) (vs : List Slot) (x : Value) (name : List ℕ)
   pub number_got : Gives (present a_number o) (number_read v).fault (amount (number_read v).number)
   number_got = record { got = number_by o v s.from s.place s.is }
 
-  pub number_or_got : (d : ℕ) → Gives (ok_then (present a_number o) (λ p. ok (or_default p d))) (number_read v).fault (or_number (number_read v).number d)
+  pub number_or_got : (d : ℕ) → Gives (ok_then (present a_number o) (λ p. ok (or_default p d))) (number_read v).fault (unwrap_or (number_read v).number d)
   number_or_got d = rw (else_amount (number_read v).number d) (gives_made (λ p. or_default p d) number_got)
 
-  pub number_need_got : Gives (ok_then (present a_number o) (need 24)) (first_fault (number_read v).fault (missing v)) (or_number (number_read v).number 0)
+  pub number_need_got : Gives (ok_then (present a_number o) (need 24)) (first_fault (number_read v).fault (missing v)) (unwrap_or (number_read v).number 0)
   number_need_got = record { got = number_need_by o v s.from s.place s.is }
 
   pub flag_got : Gives (ok_then (present a_flag o) (λ p. ok (or_default p false))) (flag_read v).fault (flag_read v).flag

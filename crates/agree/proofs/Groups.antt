@@ -1,5 +1,6 @@
 -- Records read from the rooms are 01's records.
-use Rattle.std.specs.Prelude.{ℕ, ◌+◌, ◌-◌, ◌≤◌, false, List, [], ◌++◌, ◌≡◌, refl, leb, length, take, drop}
+use Rattle.std.specs.Prelude.{ℕ, ◌+◌, ◌-◌, ◌≤◌, false, List, [], ◌++◌, ◌≡◌, refl, leb, length, take, drop, unwrap_or, Option as Maybe, Some, None}
+use Rattle.features.specs.declared.Piece.{Piece}
 use Rattle.std.proofs.Math.Option.{Option, none, some}
 use Rattle.std.proofs.Common.{sym, ◌∙◌, arith, le-leb, leb-true, length-take, length-drop, take-append-drop, drop-drop}
 use Rattle.std.proofs.Math.Path.{ap}
@@ -24,12 +25,10 @@ use Rattle.schema.specs.declared.Chip.{Chip}
 use Rattle.schema.specs.declared.Chip.TheVariants.{D13x, D21x}
 use Rattle.schema.specs.declared.Word.TheVariants as words
 use Rattle.schema.specs.Words.{word, chip_meant, chip_word, target_word, media_choice, media_choice_lem}
-use Rattle.schema.specs.Texts.{clip, spelled, optional, or_text, aic_of, amount, or_number}
+use Rattle.schema.specs.Texts.{clip, spelled, optional, or_text, aic_of, amount}
 use Rattle.features.specs.Pieces.{pieces, features_read}
 use Rattle.features.specs.Ordered.{nil_pieces}
 use Rattle.agree.specs.Doors.{Sees, Told}
-use Rattle.parse.specs.declared.file.Piece.{Piece}
-use Rattle.parse.specs.declared.file.Piece.TheVariants as found
 use Rattle.parse.specs.File.{piece_of, Inside, file_at}
 use Rattle.parse.specs.Fields.{text_at, number_at, flag_at}
 use Rattle.parse.specs.Front.{board_read, image_read, image_names, image_rest}
@@ -79,9 +78,9 @@ clip_in store from n at len h =
     rw (e, a, l) (on (leb (from + 0 + 0) (length store)) (λ f. let z : from + 0 + 0 - (from + 0) ≡ 0 = omega arith in rw (f, z)) (λ f. rw f)))
 
 module _ (store name : List ℕ) (file_named : (s : List ℕ) → piece_of s (file_at s) ≡ file_name s) (file_inside : (s : List ℕ) → Inside s (file_at s)) where
-  piece_in_lem : (from n : ℕ) (p : Piece) → Inside (clip from n store) p → optional store name (piece_in from p) ≡ piece_of (clip from n store) p
-  piece_in_lem from n found.Nothing h = refl
-  piece_in_lem from n (found.At at len) h = ap some (clip_in store from n at len h)
+  piece_in_lem : (from n : ℕ) (p : Maybe Piece) → Inside (clip from n store) p → optional store name (piece_in from p) ≡ piece_of (clip from n store) p
+  piece_in_lem from n None h = refl
+  piece_in_lem from n (Some p) h = ap some (clip_in store from n p.from p.len h)
 
   name_in_lem : (t : Text) → Kept t → optional store name (name_in store t) ≡ records.name_in (optional store name t)
   name_in_lem texts.Absent h = refl
@@ -129,7 +128,7 @@ module _ (room store bytes : List ℕ) (vs : List Slot) (x : Value) (made : ℕ)
   optional_number : (k : List ℕ) → Gives (present a_number (lookup t k)) (number_at room store f k).fault (amount (number_at room store f k).number)
   optional_number k = number_got store bytes vs x name (lookup t k) (doors.field room store f k) (fs k)
 
-  or_number_lem : (k : List ℕ) (d : ℕ) → Gives (ok_then (present a_number (lookup t k)) (λ p. ok (or_default p d))) (number_at room store f k).fault (or_number (number_at room store f k).number d)
+  or_number_lem : (k : List ℕ) (d : ℕ) → Gives (ok_then (present a_number (lookup t k)) (λ p. ok (or_default p d))) (number_at room store f k).fault (unwrap_or (number_at room store f k).number d)
   or_number_lem k d = number_or_got store bytes vs x name (lookup t k) (doors.field room store f k) (fs k) d
 
   a_flag_lem : (k : List ℕ) → Gives (ok_then (present a_flag (lookup t k)) (λ p. ok (or_default p false))) (flag_at room store f k).fault (flag_at room store f k).flag

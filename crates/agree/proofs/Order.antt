@@ -1,5 +1,5 @@
 -- Walking a table's keys in the rooms, step by step: the entries of the table in byte order of key, and then nothing.
-use Rattle.std.specs.Prelude.{ℕ, zero, suc, ◌+◌, ◌<◌, true, false, ◌≡◌, refl, length}
+use Rattle.std.specs.Prelude.{ℕ, zero, suc, ◌+◌, ◌<◌, true, false, ◌≡◌, refl, length, Option as Found, Some, None}
 use mathlib.Core.List.{List, [], ◌∷◌}
 use Rattle.std.proofs.Math.Option.{Option, none, some}
 use Rattle.std.proofs.Math.Path.{sym, ap}
@@ -17,8 +17,6 @@ use Rattle.laws.specs.Never.{same_refl}
 use Rattle.laws.specs.Order.{same_eq, less_on, less_else, Rises, first_least, rest_lookup, sorted_rises, sorted_lookup, past_rises, past_lookup, Distinct, sorted_entries}
 use Rattle.laws.specs.Once.{Once, OnceAll, OnceIn, Maybe, Rooted, lookup_once, once_distinct, once}
 use Rattle.tree.specs.declared.Slot.{Slot}
-use Rattle.tree.specs.declared.Found.{Found}
-use Rattle.tree.specs.declared.Found.TheVariants.{At, Nothing}
 use Rattle.tree.specs.Room.{keyed}
 use Rattle.tree.specs.Order.{key_of, has_key, before, above, follows}
 use Rattle.tree.specs.Nearest.{before_less, Follows, follows_says, follows_where, Next, next_found, next_nothing}
@@ -32,16 +30,16 @@ use Rattle.agree.proofs.Steps.{meets_some, meets_none, table_at_lem}
 use Rattle.agree.specs.Reads.{Place}
 use Rattle.agree.specs.Order.{Entry, Left, Stepped, over, step_s}
 
-over_on : (bytes : List ℕ) (vs : List Slot) (f : Found) (k j : List ℕ) → over bytes vs f k ≡ true → less k j ≡ true → over bytes vs f j ≡ true
-over_on bytes vs (At m) k j c d = less_on (key_of bytes (get_or vs m void)) k j c d
-over_on bytes vs Nothing k j c d = refl
+over_on : (bytes : List ℕ) (vs : List Slot) (f : Found ℕ) (k j : List ℕ) → over bytes vs f k ≡ true → less k j ≡ true → over bytes vs f j ≡ true
+over_on bytes vs (Some m) k j c d = less_on (key_of bytes (get_or vs m void)) k j c d
+over_on bytes vs None k j c d = refl
 
 -- at first all are left, in byte order, and after a key those above it
-pub left_first : (bytes : List ℕ) (vs : List Slot) (t : Table) → Left bytes vs t Nothing (sorted t)
+pub left_first : (bytes : List ℕ) (vs : List Slot) (t : Table) → Left bytes vs t None (sorted t)
 left_first bytes vs t = record { made = refl; rises = sorted_rises t; is = sorted_lookup t }
 
 pub left_past : (bytes : List ℕ) (vs : List Slot) (t : Table) (n : ℕ) (k : List ℕ) → n < length vs → key_of bytes (get_or vs n void) ≡ k
-    → Left bytes vs t (At n) (past k (sorted t))
+    → Left bytes vs t (Some n) (past k (sorted t))
 left_past bytes vs t n k l e =
     record {
       made = lt-ltb n (length vs) l;
@@ -68,10 +66,10 @@ module _ (bytes : List ℕ) (vs : List Slot) (x : Value) (a : Agree bytes vs x) 
   unfolding key_at
   before_is m n = before_less bytes (get_or vs m void) (get_or vs n void) (has m) (has n)
 
-  above_is : (f : Found) (n : ℕ) → above (λ i. get_or vs i void) bytes f (get_or vs n void) ≡ over bytes vs f (key_at n)
+  above_is : (f : Found ℕ) (n : ℕ) → above (λ i. get_or vs i void) bytes f (get_or vs n void) ≡ over bytes vs f (key_at n)
   unfolding key_at
-  above_is (At m) n = before_is m n
-  above_is Nothing n = has n
+  above_is (Some m) n = before_is m n
+  above_is None n = has n
 
   keyed_is : (n : ℕ) (k : List ℕ) → keyed bytes (get_or vs n void) k ≡ same (key_at n) k
   unfolding keyed key_at
@@ -127,7 +125,7 @@ module _ (bytes : List ℕ) (vs : List Slot) (x : Value) (a : Agree bytes vs x) 
               };
         }
 
-    module _ (after : Found) (u : Table) (left : Left bytes vs t after u) where
+    module _ (after : Found ℕ) (u : Table) (left : Left bytes vs t after u) where
       -- what follows has a key that is left
       left_key : (n : ℕ) → n < length vs → follows (λ i. get_or vs i void) bytes p after n ≡ true → (v : Value) × (lookup u (key_at n) ≡ some v)
       left_key n l e =
@@ -136,7 +134,7 @@ module _ (bytes : List ℕ) (vs : List Slot) (x : Value) (a : Agree bytes vs x) 
           (v.0, left.is (key_at n) ∙ rw (sym (above_is after n) ∙ f.over) v.1)
 
       -- nothing is left, and nothing is found
-      pub step_end : u ≡ empty → step_s bytes vs p after ≡ Nothing
+      pub step_end : u ≡ empty → step_s bytes vs p after ≡ None
       step_end e =
           next_nothing (λ i. get_or vs i void) bytes p after (length vs)
           (λ m l. on (follows (λ i. get_or vs i void) bytes p after m)
@@ -179,7 +177,7 @@ module _ (bytes : List ℕ) (vs : List Slot) (x : Value) (a : Agree bytes vs x) 
                   ∙ less_else (key_at m) k (not_below m l f) (it.last m c l (follows_says (λ i. get_or vs i void) bytes p after m f).under);
             }
 
-        rest_left : Left bytes vs t (At it.number) w
+        rest_left : Left bytes vs t (Some it.number) w
         unfolding key_at
         rest_left =
             record {
@@ -193,14 +191,14 @@ module _ (bytes : List ℕ) (vs : List Slot) (x : Value) (a : Agree bytes vs x) 
             over_again j = on (less k j) (λ b. rw (b, over_on bytes vs after k j over_first.0 b)) (λ b. rw b)
 
         -- the first that is left is found, and then the others are left
-        pub step_entry : (n : ℕ) × (step_s bytes vs p after ≡ At n) × Entry bytes vs x h.path n k v × Left bytes vs t (At n) w
+        pub step_entry : (n : ℕ) × (step_s bytes vs p after ≡ Some n) × Entry bytes vs x h.path n k v × Left bytes vs t (Some n) w
         step_entry = (it.number, next_found (λ i. get_or vs i void) bytes p after (length vs) it.number left.made next_is, it.entry, rest_left)
 
     -- ---- the other way round, for who has what a step found
 
     -- what is found is the first that is left
-    pub step_at : (after : Found) (u : Table) (left : Left bytes vs t after u) (n : ℕ)
-        → step_s bytes vs p after ≡ At n → Stepped bytes vs x h.path t u n
+    pub step_at : (after : Found ℕ) (u : Table) (left : Left bytes vs t after u) (n : ℕ)
+        → step_s bytes vs p after ≡ Some n → Stepped bytes vs x h.path t u n
     step_at after empty left n e = let z : ◌≡◌ {A = ℕ} 0 1 = cc (step_end after empty left refl) in absurd (omega arith)
     step_at after (entry k v w) left n e =
         let s = step_entry after (entry k v w) left k v w refl in
@@ -211,11 +209,11 @@ module _ (bytes : List ℕ) (vs : List Slot) (x : Value) (a : Agree bytes vs x) 
           rest = w;
           is = refl;
           stands = subst (λ (i : ℕ). Entry bytes vs x h.path i k v) m s.2;
-          left = subst (λ (i : ℕ). Left bytes vs t (At i) w) m s.3;
+          left = subst (λ (i : ℕ). Left bytes vs t (Some i) w) m s.3;
         }
 
     -- where nothing is found nothing is left
-    pub step_over : (after : Found) (u : Table) (left : Left bytes vs t after u) → step_s bytes vs p after ≡ Nothing → u ≡ empty
+    pub step_over : (after : Found ℕ) (u : Table) (left : Left bytes vs t after u) → step_s bytes vs p after ≡ None → u ≡ empty
     step_over after empty left e = refl
     step_over after (entry k v w) left e =
         let s = step_entry after (entry k v w) left k v w refl in
@@ -225,37 +223,37 @@ module _ (bytes : List ℕ) (vs : List Slot) (x : Value) (a : Agree bytes vs x) 
     -- ---- from the first key to the last
 
     -- the first step finds the least key
-    pub first_entry : (k : List ℕ) (v : Value) (u : Table) → sorted t ≡ entry k v u → (n : ℕ) × (step_s bytes vs p Nothing ≡ At n) × Entry bytes vs x h.path n k v
-    first_entry k v u e = let s = step_entry Nothing (sorted t) (left_first bytes vs t) k v u e in (s.0, s.1, s.2)
+    pub first_entry : (k : List ℕ) (v : Value) (u : Table) → sorted t ≡ entry k v u → (n : ℕ) × (step_s bytes vs p None ≡ Some n) × Entry bytes vs x h.path n k v
+    first_entry k v u e = let s = step_entry None (sorted t) (left_first bytes vs t) k v u e in (s.0, s.1, s.2)
 
-    pub first_none : sorted t ≡ empty → step_s bytes vs p Nothing ≡ Nothing
-    first_none e = step_end Nothing (sorted t) (left_first bytes vs t) e
+    pub first_none : sorted t ≡ empty → step_s bytes vs p None ≡ None
+    first_none e = step_end None (sorted t) (left_first bytes vs t) e
 
     -- from the entry of a key the next step finds the least key above it
     module _ (n : ℕ) (k : List ℕ) (v : Value) (s : Entry bytes vs x h.path n k v) where
       pub next_entry : (j : List ℕ) (w : Value) (u : Table) → past k (sorted t) ≡ entry j w u
-          → (m : ℕ) × (step_s bytes vs p (At n) ≡ At m) × Entry bytes vs x h.path m j w
+          → (m : ℕ) × (step_s bytes vs p (Some n) ≡ Some m) × Entry bytes vs x h.path m j w
       next_entry j w u e =
-          let r = step_entry (At n) (past k (sorted t)) (left_past bytes vs t n k s.below s.key) j w u e in
+          let r = step_entry (Some n) (past k (sorted t)) (left_past bytes vs t n k s.below s.key) j w u e in
           (r.0, r.1, r.2)
 
-      pub next_none : past k (sorted t) ≡ empty → step_s bytes vs p (At n) ≡ Nothing
-      next_none e = step_end (At n) (past k (sorted t)) (left_past bytes vs t n k s.below s.key) e
+      pub next_none : past k (sorted t) ≡ empty → step_s bytes vs p (Some n) ≡ None
+      next_none e = step_end (Some n) (past k (sorted t)) (left_past bytes vs t n k s.below s.key) e
 
     -- steps from a value find these entries, one after the other, and then nothing
-    abbrev pub Walks : Found → Table → Type 0
-    Walks after empty = step_s bytes vs p after ≡ Nothing
-    Walks after (entry k v u) = (n : ℕ) × (step_s bytes vs p after ≡ At n) × Entry bytes vs x h.path n k v × Walks (At n) u
+    abbrev pub Walks : Found ℕ → Table → Type 0
+    Walks after empty = step_s bytes vs p after ≡ None
+    Walks after (entry k v u) = (n : ℕ) × (step_s bytes vs p after ≡ Some n) × Entry bytes vs x h.path n k v × Walks (Some n) u
 
-    walks : (u : Table) (after : Found) → Left bytes vs t after u → Walks after u
+    walks : (u : Table) (after : Found ℕ) → Left bytes vs t after u → Walks after u
     walks empty after left = step_end after empty left refl
     walks (entry k v u) after left =
         let s = step_entry after (entry k v u) left k v u refl in
-        (s.0, s.1, s.2, walks u (At s.0) s.3)
+        (s.0, s.1, s.2, walks u (Some s.0) s.3)
 
     -- the walk from nothing meets the table's entries in byte order of key
-    pub walk_sorted : Walks Nothing (sorted t)
-    walk_sorted = walks (sorted t) Nothing (left_first bytes vs t)
+    pub walk_sorted : Walks None (sorted t)
+    walk_sorted = walks (sorted t) None (left_first bytes vs t)
 
 -- ---- a document's tables have each key once, so the walk meets as many entries as the table has
 

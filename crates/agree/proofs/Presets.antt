@@ -1,7 +1,7 @@
 -- What is read from the rooms is what 01 says of the tree: the lists entry by entry, and everything.
 use Prim.Native.Nat.{ℕ, zero, suc, ◌+◌, ◌≤◌}
 use Rattle.std.proofs.Math.Bool.{true}
-use Rattle.std.specs.Prelude.{List as Seq, [], ◌∷◌, map, ◌≡◌, pos, negsuc}
+use Rattle.std.specs.Prelude.{List as Seq, [], ◌∷◌, map, ◌≡◌, pos, negsuc, Option as Maybe, Some, None}
 use Rattle.std.proofs.Math.Option.{Option, none, some}
 use Rattle.std.proofs.Math.Path.{refl}
 use Rattle.std.proofs.Common.{ap, arith}
@@ -18,8 +18,6 @@ use Rattle.meaning.specs.Records as records
 use Rattle.meaning.specs.Files.{file_name}
 use Rattle.laws.specs.Cases.{on}
 use Rattle.tree.specs.declared.Slot.{Slot}
-use Rattle.tree.specs.declared.Found.{Found}
-use Rattle.tree.specs.declared.Found.TheVariants.{At, Nothing}
 use Rattle.tree.specs.declared.Fields.{Fields}
 use Rattle.tree.specs.declared.Value.{Value as Read}
 use Rattle.tree.specs.Room.{slot_at}
@@ -52,15 +50,15 @@ module _ (room store bytes : Seq ℕ) (vs : Seq Slot) (x : Value) (made : ℕ) w
     pub sees : All-see room store bytes vs x made all (doors.items room l.end l.place 0)
 
   -- steps by key meet these entries, and then nothing
-  abbrev pub Walked : ℕ → ℕ → Found → Seq Row → Type 0
-  Walked end p after [] = next (slot_at room) store end p after ≡ Nothing
-  Walked end p after (r ∷ rest) = (n : ℕ) × (next (slot_at room) store end p after ≡ At n) × Row-seen room store bytes vs x made n r × Walked end p (At n) rest
+  abbrev pub Walked : ℕ → ℕ → Maybe ℕ → Seq Row → Type 0
+  Walked end p after [] = next (slot_at room) store end p after ≡ None
+  Walked end p after (r ∷ rest) = (n : ℕ) × (next (slot_at room) store end p after ≡ Some n) × Row-seen room store bytes vs x made n r × Walked end p (Some n) rest
 
   -- a reader of a table gives one, and the walk meets its entries in byte order of key
   pub record Keys (m : R Table) (l : List) : Type 0 where
     pub it : Table
     pub gives : Gives m l.fault it
-    pub walked : Walked l.end l.place Nothing (rows (sorted it))
+    pub walked : Walked l.end l.place None (rows (sorted it))
 
 module _ (room store bytes : Seq ℕ) (vs : Seq Slot) (x : Value) (made : ℕ) (h : Told room store bytes vs x made) where
   no_list_lem : (m : R (Seq Value)) (n : ℕ) → Gives m n [] → Listed room store bytes vs x made m (entries.no_list n)
@@ -184,23 +182,23 @@ module _ (room store bytes : Seq ℕ) (vs : Seq Slot) (x : Value) (made : ℕ) (
 
   -- ---- a walk by key
 
-  rows_walked : (p : ℕ) (after : Found) (rs : Seq Row) → Rows-see room store bytes vs x made p after rs → Walked room store bytes vs x made made p after rs
+  rows_walked : (p : ℕ) (after : Maybe ℕ) (rs : Seq Row) → Rows-see room store bytes vs x made p after rs → Walked room store bytes vs x made made p after rs
   rows_walked p after [] w = w
-  rows_walked p after (r ∷ rest) w = (w.0, w.1, w.2, rows_walked p (At w.0) rest w.3)
+  rows_walked p after (r ∷ rest) w = (w.0, w.1, w.2, rows_walked p (Some w.0) rest w.3)
 
   walk_pairs : {X : Type 0} (way : Row → R X) (fault : ℕ → ℕ) (value : ℕ → X) → ((r : Row) (n : ℕ) → Row-seen room store bytes vs x made n r → Gives (way r) (fault n) (value n))
-      → (end p : ℕ) (rs : Seq Row) (after : Found) (k : ℕ) → Walked room store bytes vs x made end p after rs → length rs ≤ k → Pairs way fault value rs (entries.walk room store end p k after)
+      → (end p : ℕ) (rs : Seq Row) (after : Maybe ℕ) (k : ℕ) → Walked room store bytes vs x made end p after rs → length rs ≤ k → Pairs way fault value rs (entries.walk room store end p k after)
   walk_pairs way fault value g end p [] after zero w l = tt
   walk_pairs way fault value g end p [] after (suc k) w l = rw w tt
   walk_pairs way fault value g end p (r ∷ rest) after zero w l = absurd (omega arith)
   walk_pairs way fault value g end p (r ∷ rest) after (suc k) w l =
-      rw w.1 (g r w.0 w.2, walk_pairs way fault value g end p rest (At w.0) k w.3 (omega arith))
+      rw w.1 (g r w.0 w.2, walk_pairs way fault value g end p rest (Some w.0) k w.3 (omega arith))
 
-  pub walk_long : (end p : ℕ) (rs : Seq Row) (after : Found) (k : ℕ) → Walked room store bytes vs x made end p after rs → k ≤ length rs → length (entries.walk room store end p k after) ≡ k
+  pub walk_long : (end p : ℕ) (rs : Seq Row) (after : Maybe ℕ) (k : ℕ) → Walked room store bytes vs x made end p after rs → k ≤ length rs → length (entries.walk room store end p k after) ≡ k
   walk_long end p [] after zero w l = refl
   walk_long end p [] after (suc k) w l = absurd (omega arith)
   walk_long end p (r ∷ rest) after zero w l = refl
-  walk_long end p (r ∷ rest) after (suc k) w l = rw w.1 (ap suc (walk_long end p rest (At w.0) k w.3 (omega arith)))
+  walk_long end p (r ∷ rest) after (suc k) w l = rw w.1 (ap suc (walk_long end p rest (Some w.0) k w.3 (omega arith)))
 
   no_keys : (m : R Table) (n : ℕ) → Gives m n empty → Keys room store bytes vs x made m (entries.no_list n)
   unfolding next
@@ -220,7 +218,7 @@ module _ (room store bytes : Seq ℕ) (vs : Seq Slot) (x : Value) (made : ℕ) (
       (record {
         it = t;
         gives = gives_ok;
-        walked = rows_walked place Nothing (rows (sorted t)) (rows_see room store bytes vs x made h place t g);
+        walked = rows_walked place None (rows (sorted t)) (rows_see room store bytes vs x made h place t g);
       })
 
   pub keys_got : (root : Table) (f : Fields) → Fielded room store bytes vs x root f → Keys room store bytes vs x made (table_at root (ascii "apps")) (entries.keys_at room store made f)
@@ -230,22 +228,22 @@ module _ (room store bytes : Seq ℕ) (vs : Seq Slot) (x : Value) (made : ℕ) (
       keys_by (lookup root (ascii "apps")) (doors.field room store f (ascii "apps")) s.from s.place s.is s.stands
 
   module _ (name : Seq ℕ) where
-    walk_says : (limit most end p : ℕ) (rs : Seq Row) → Walked room store bytes vs x made end p Nothing rs
+    walk_says : (limit most end p : ℕ) (rs : Seq Row) → Walked room store bytes vs x made end p None rs
         → Says (listed (records.application_at limit) in_application most rs)
-        (refusal_of (listed (entries.application_r room store made limit) in_application most (entries.walk room store end p (most + 1) Nothing)))
-        (map (application_of room store made name limit) (entries.walk room store end p (most + 1) Nothing))
+        (refusal_of (listed (entries.application_r room store made limit) in_application most (entries.walk room store end p (most + 1) None)))
+        (map (application_of room store made name limit) (entries.walk room store end p (most + 1) None))
     unfolding listed
     walk_says limit most end p rs w =
         on (ltb most (length rs))
         (λ e.
         let l : most + 1 ≤ length rs = omega (arith, ltb-true most (length rs) e) in
         let d : ltb most (most + 1) ≡ true = lt-ltb most (most + 1) (omega arith) in
-        rw (e, walk_long end p rs Nothing (most + 1) w l, d) (record { told_by = (refl, omega arith) }))
+        rw (e, walk_long end p rs None (most + 1) w l, d) (record { told_by = (refl, omega arith) }))
         (λ e.
         listed_says (records.application_at limit) (λ n. (entries.application_at room store made n limit).fault) (application_of room store made name limit)
-        (λ n. (entries.application_at room store made n limit).application) 5 rs (entries.walk room store end p (most + 1) Nothing) most
+        (λ n. (entries.application_at room store made n limit).application) 5 rs (entries.walk room store end p (most + 1) None) most
         (walk_pairs (records.application_at limit) (λ n. (entries.application_at room store made n limit).fault) (application_of room store made name limit) (application_at_got name limit) end p
-        rs Nothing (most + 1) w (omega (arith, ltb-false most (length rs) e))))
+        rs None (most + 1) w (omega (arith, ltb-false most (length rs) e))))
 
     pub applications_says : (root : Table) (f : Fields) → Fielded room store bytes vs x root f → (lim : Limits)
         → Says (records.applications_of lim root) (applications_verdict room store made f lim)

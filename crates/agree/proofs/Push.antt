@@ -1,5 +1,5 @@
 -- A table added to an array: the rooms and the tree of 01 add the same, or are refused by the same number.
-use Rattle.std.specs.Prelude.{ℕ, ◌+◌, ◌≤◌, true, false, ◌≡◌, eqb, leb, length, get_or}
+use Rattle.std.specs.Prelude.{ℕ, ◌+◌, ◌≤◌, true, false, ◌≡◌, eqb, leb, length, get_or, Option as Maybe, Some, None}
 use mathlib.Core.List.{List, [], ◌∷◌, ◌++◌}
 use Rattle.std.proofs.Math.Option.{Option, none, some}
 use Rattle.std.proofs.Math.Path.{refl, sym, ap, subst}
@@ -11,8 +11,6 @@ use Rattle.meaning.specs.Reading.{grown, stuck, grow_map, make}
 use Rattle.meaning.specs.Tree.{Value, Items, Table, str, int, boolean, array, table, none', empty, read_as, as_array, lookup, insert, count as many, push_one, push_to}
 use Rattle.laws.specs.Cases.{on}
 use Rattle.tree.specs.declared.Slot.{Slot}
-use Rattle.tree.specs.declared.Found.{Found}
-use Rattle.tree.specs.declared.Found.TheVariants.{At, Nothing}
 use Rattle.values.specs.Grow.{Seg, void, look_s, keyed_slot, item_s, push_by, push_s, make_s, Grown as GrownS, grown as grownS, stuck as stuckS, onward}
 use Rattle.agree.specs.Key.{Key, name, index}
 use Rattle.agree.specs.Finds.{get, find, put, set_at, Takes, at, set_set, snoc_set}
@@ -162,8 +160,8 @@ module _ (limit : ℕ) (bytes : List ℕ) (vs : List Slot) (x : Value) (g : List
   unfolding push_to
   no_array v e d = rw (e, d)
 
-  by_search : (r : Found) → place_of r ≡ to bytes vs (name k ∷ g) → Pushes limit bytes vs x g t k (push_by limit vs p s r)
-  by_search (At n) e =
+  by_search : (r : Maybe ℕ) → place_of r ≡ to bytes vs (name k ∷ g) → Pushes limit bytes vs x g t k (push_by limit vs p s r)
+  by_search (Some n) e =
       let f : Key-found bytes vs n (lookup t k) = key_found bytes vs (to bytes vs (name k ∷ g)) n (lookup t k) (key_meets bytes vs x g t p a k) e in
       on (eqb (get_or vs n void).kind 4)
       (λ c. let u = kind_array bytes (get_or vs n void) f.it f.shows (eqb-true (get_or vs n void).kind 4 c) in
@@ -171,10 +169,10 @@ module _ (limit : ℕ) (bytes : List ℕ) (vs : List Slot) (x : Value) (g : List
       rw c (there_pushes u.0 d (item_s limit vs (n + 2))
       (items_come limit bytes vs x (name k ∷ g) u.0 a.agree (ap (read_as (λ v. get v (name k))) a.found ∙ d) (n + 2) (sym e))))
       (λ c. rw c (no_array f.it f.is (kind_no_array bytes (get_or vs n void) f.it f.shows (eqb-false (get_or vs n void).kind 4 c))))
-  by_search Nothing e = none_pushes (key_missing bytes vs (to bytes vs (name k ∷ g)) (lookup t k) (key_meets bytes vs x g t p a k) e)
+  by_search None e = none_pushes (key_missing bytes vs (to bytes vs (name k ∷ g)) (lookup t k) (key_meets bytes vs x g t p a k) e)
 
   pub push_comes : Pushes limit bytes vs x g t k (push_s limit bytes vs p s)
   unfolding push_s
   push_comes =
-      by_search (look_s bytes 0 vs p (part s.at (s.at + s.len) bytes) Nothing)
+      by_search (look_s bytes 0 vs p (part s.at (s.at + s.len) bytes) None)
       (search_is bytes vs x g t p a (part s.at (s.at + s.len) bytes) k spelt)

@@ -1,5 +1,5 @@
 -- The searches in the tree room are those in its list of values, and a string's data tells where its bytes lie.
-use Rattle.std.specs.Prelude.{ℕ, zero, suc, ◌+◌, ◌-◌, ◌*◌, ◌/◌, ◌%◌, ◌≤◌, ◌<◌, false, ◌≡◌, refl, drop}
+use Rattle.std.specs.Prelude.{ℕ, zero, suc, ◌+◌, ◌-◌, ◌*◌, ◌/◌, ◌%◌, ◌≤◌, ◌<◌, false, ◌≡◌, refl, drop, Option, Some, None}
 use mathlib.Core.List.{List}
 use Rattle.std.proofs.Common.{sym, ◌∙◌, arith, mod-eq_of_lt}
 use Rattle.std.proofs.Math.Path.{ap}
@@ -11,8 +11,6 @@ use Rattle.meaning.specs.Base.{pick, part}
 use Rattle.meaning.specs.Tree.{Value, Table, table, empty}
 use Rattle.laws.specs.Cases.{on}
 use Rattle.tree.specs.declared.Slot.{Slot}
-use Rattle.tree.specs.declared.Found.{Found}
-use Rattle.tree.specs.declared.Found.TheVariants.{At, Nothing}
 use Rattle.tree.specs.Room.{Finds, slot_at, keyed, under, mine, look, first, child, count}
 use Rattle.tree.specs.Order.{key_of, has_key, next}
 use Rattle.tree.specs.Nearest.{next_same}
@@ -40,11 +38,11 @@ pub carried_over : (room had store lent bytes : List ℕ) (vs : List Slot) → A
     → Carried room store bytes vs
 carried_over room had store lent bytes vs s f d e = carried room store lent bytes vs (over_carries had room vs s f d) e
 
-place_one : (r s : Found) → place_of r ≡ place_of s → r ≡ s
-place_one (At n) (At m) e = ap At (omega arith)
-place_one (At n) Nothing e = absurd (omega arith)
-place_one Nothing (At m) e = absurd (omega arith)
-place_one Nothing Nothing e = refl
+place_one : (r s : Option ℕ) → place_of r ≡ place_of s → r ≡ s
+place_one (Some n) (Some m) e = ap Some (omega arith)
+place_one (Some n) None e = absurd (omega arith)
+place_one None (Some m) e = absurd (omega arith)
+place_one None None e = refl
 
 module _ (room store bytes : List ℕ) (vs : List Slot) (c : Carried room store bytes vs) where
   under_is : (i p : ℕ) → i < length vs → under room i p ≡ eqb (get_or vs i void).parent p
@@ -84,13 +82,13 @@ module _ (room store bytes : List ℕ) (vs : List Slot) (c : Carried room store 
         (on (mine_s bytes (get_or vs n void) p key) (λ t. rw t) (λ t. rw t (look_to n (omega arith))))
 
     -- the newest value with a key under a place
-    pub room_look : look room store (length vs) p key ≡ look_s bytes 0 vs p key Nothing
+    pub room_look : look room store (length vs) p key ≡ look_s bytes 0 vs p key None
     room_look =
         let z : 0 + length vs ≡ length vs = omega arith in
-        place_one (look room store (length vs) p key) (look_s bytes 0 vs p key Nothing)
+        place_one (look room store (length vs) p key) (look_s bytes 0 vs p key None)
         (look_to (length vs) (omega arith)
         ∙ ap (top (λ i. mine_s bytes (get_or vs i void) p key)) (sym z)
-        ∙ sym (look_top bytes p key vs 0 (λ i. mine_s bytes (get_or vs i void) p key) Nothing (λ i l. let b : 0 + i ≡ i = omega arith in rw b) refl))
+        ∙ sym (look_top bytes p key vs 0 (λ i. mine_s bytes (get_or vs i void) p key) None (λ i l. let b : 0 + i ≡ i = omega arith in rw b) refl))
 
   module _ (within : (n : ℕ) → (get_or vs n void).key + (get_or vs n void).len ≤ length bytes) where
     has_same : (n : ℕ) → has_key store (get_or vs n void) ≡ has_key bytes (get_or vs n void)
@@ -111,22 +109,22 @@ module _ (room store bytes : List ℕ) (vs : List Slot) (c : Carried room store 
     room_key n l = ap (key_of store) (c.each n l) ∙ key_same n
 
     -- the next key under a place, in byte order
-    pub room_next_key : (p : ℕ) (after : Found) → next (slot_at room) store (length vs) p after ≡ step_s bytes vs p after
+    pub room_next_key : (p : ℕ) (after : Option ℕ) → next (slot_at room) store (length vs) p after ≡ step_s bytes vs p after
     room_next_key p after =
         next_same (length vs) (slot_at room) (λ n. get_or vs n void) store bytes
         (record { each = c.each; has = λ n _. has_same n; key = λ n _. key_same n }) p after
 
 -- a step of the walk in byte order, by what the function says: the first that is left, or nothing is left
 module _ (room store bytes : List ℕ) (vs : List Slot) (c : Carried room store bytes vs) (x : Value) (a : Agree bytes vs x) (p : ℕ) (t : Table) (h : Place bytes vs x p (table t))
-    (made : ℕ) (all : made ≡ length vs) (after : Found) (u : Table) (left : Left bytes vs t after u) (r : Found) (f : Finds 0 made (next (slot_at room) store made p after) r) where
+    (made : ℕ) (all : made ≡ length vs) (after : Option ℕ) (u : Table) (left : Left bytes vs t after u) (r : Option ℕ) (f : Finds 0 made (next (slot_at room) store made p after) r) where
   step_is : step_s bytes vs p after ≡ r
   step_is =
       sym (room_next_key room store bytes vs c a.within p after) ∙ ap (λ (m : ℕ). next (slot_at room) store m p after) (sym all) ∙ sym f.is
 
-  pub room_step_at : (n : ℕ) → r ≡ At n → Stepped bytes vs x h.path t u n
+  pub room_step_at : (n : ℕ) → r ≡ Some n → Stepped bytes vs x h.path t u n
   room_step_at n e = step_at bytes vs x a p t h after u left n (step_is ∙ e)
 
-  pub room_step_over : r ≡ Nothing → u ≡ empty
+  pub room_step_over : r ≡ None → u ≡ empty
   room_step_over e = step_over bytes vs x a p t h after u left (step_is ∙ e)
 
 -- ---- a string's bytes, of a store that two bytes tell

@@ -1,5 +1,5 @@
 -- The log of a list of slots: one more slot, a slot hung up, and the search for a key.
-use Rattle.std.specs.Prelude.{ℕ, zero, suc, ◌+◌, ◌≤◌, ◌<◌, List, [], ◌∷◌, ◌++◌, Bool, true, ◌≡◌, eqb, ltb, length, get_or, set}
+use Rattle.std.specs.Prelude.{ℕ, zero, suc, ◌+◌, ◌≤◌, ◌<◌, List, [], ◌∷◌, ◌++◌, Bool, true, ◌≡◌, eqb, ltb, length, get_or, set, Option, Some, None}
 use Rattle.std.proofs.Math.Path.{refl}
 use Rattle.std.proofs.Common.{sym, ap, ◌∙◌, arith, add-zero, length-append, length-set, get_or-set_same, get_or-set_other}
 use Rattle.std.proofs.Math.ListN.{get_or-append}
@@ -9,8 +9,6 @@ use Rattle.meaning.specs.Base.{pick, part}
 use Rattle.laws.specs.Cases.{on}
 use Rattle.laws.specs.Never.{same_refl}
 use Rattle.tree.specs.declared.Slot.{Slot}
-use Rattle.tree.specs.declared.Found.{Found}
-use Rattle.tree.specs.declared.Found.TheVariants.{At, Nothing}
 use Rattle.tree.specs.Room.{keyed, hung}
 use Rattle.values.specs.Grow.{Seg, void, mine_s, look_s}
 use Rattle.agree.specs.Key.{Key, name, index}
@@ -117,27 +115,27 @@ module _ (bytes : List ℕ) (vs : List Slot) (n p : ℕ) (k : Seg) (key : List �
 
 -- ---- the search for a key
 
-abbrev pub place_of : Found → ℕ
-place_of (At n) = n + 2
-place_of Nothing = 0
+abbrev pub place_of : Option ℕ → ℕ
+place_of (Some n) = n + 2
+place_of None = 0
 
-pub look_top : (bytes : List ℕ) (p : ℕ) (key : List ℕ) (vs : List Slot) (n : ℕ) (f : ℕ → Bool) (best : Found)
+pub look_top : (bytes : List ℕ) (p : ℕ) (key : List ℕ) (vs : List Slot) (n : ℕ) (f : ℕ → Bool) (best : Option ℕ)
     → ((i : ℕ) → i < length vs → f (n + i) ≡ mine_s bytes (get_or vs i void) p key) → place_of best ≡ top f n
     → place_of (look_s bytes n vs p key best) ≡ top f (n + length vs)
 look_top bytes p key [] n f best h e = rw (add-zero n) e
 look_top bytes p key (v ∷ vs) n f best h e =
     let a : n + suc (length vs) ≡ n + 1 + length vs = omega arith in
     rw a
-    (look_top bytes p key vs (n + 1) f (pick (mine_s bytes v p key) (At n) best)
+    (look_top bytes p key vs (n + 1) f (pick (mine_s bytes v p key) (Some n) best)
     (λ i l. let b : n + 1 + i ≡ n + suc i = omega arith in rw b (h (suc i) (omega arith)))
     (let c : n + 1 ≡ suc n = omega arith in
     let d : f n ≡ mine_s bytes v p key = ap f (sym (add-zero n)) ∙ h 0 (omega arith) in
     rw (c, d) (on (mine_s bytes v p key) (λ t. rw t) (λ t. rw t e))))
 
 pub look_is : (bytes : List ℕ) (vs : List Slot) (p : ℕ) (key : List ℕ) → kind_at (log_of vs) p ≡ 5
-    → place_of (look_s bytes 0 vs p key Nothing) ≡ child bytes (log_of vs) p (name key)
+    → place_of (look_s bytes 0 vs p key None) ≡ child bytes (log_of vs) p (name key)
 look_is bytes vs p key e =
-    look_top bytes p key vs 0 (λ n. mine_s bytes (get_or vs n void) p key) Nothing (λ i l. let b : 0 + i ≡ i = omega arith in rw b) refl
+    look_top bytes p key vs 0 (λ n. mine_s bytes (get_or vs n void) p key) None (λ i l. let b : 0 + i ≡ i = omega arith in rw b) refl
     ∙ (let b : 0 + length vs ≡ length vs = omega arith in ap (top (λ n. mine_s bytes (get_or vs n void) p key)) b)
     ∙ top_same (λ n. mine_s bytes (get_or vs n void) p key) (test bytes (log_of vs) p (name key)) (length vs) (λ n. rw e)
 

@@ -1,7 +1,7 @@
 -- Many bytes at once: where their bitwise or is below 128, so is each of them.
 use Prim.Native.Nat.{ℕ, zero, suc, ◌+◌, ◌-◌, ◌≤◌, ◌<◌}
 use mathlib.Core.Bool.{Bool, true}
-use mathlib.Core.List.{List}
+use mathlib.Core.List.{List, [], ◌∷◌}
 use mathlib.Core.Path.{◌≡◌, refl}
 use native.Mathlib.Omega.{arith}
 use native.Mathlib.Nat.{add-zero}
@@ -9,6 +9,7 @@ use borrow.Author.Tests.{ltb-true, ltb-false}
 use lib.Bits.{bit_or}
 use lib.Dec.{ltb}
 use lib.ListN.{length, get_or}
+use Rattle.std.specs.List.{fold}
 use Rattle.laws.specs.Cases.{on}
 use Rattle.chars.specs.Under.{Under, or_left, or_right}
 use Rattle.meaning.specs.Utf8.{valid}
@@ -64,24 +65,21 @@ pub check_eight : (s : List ℕ) (i : ℕ) (r : Bool) → Checking s i → (r �
 check_eight s i r k u t = ascii_run s i 8 k (u t)
 
 -- ---- all bytes
-module _ (s : List ℕ) where
-  pub under_none : Under s 0 0 0
-  under_none = record { fits = omega arith; all = λ k l. absurd (omega arith) }
-
-  module _ (i m : ℕ) (u : Under s 0 i m) where
-    pub under_on : i < length s → Under s 0 (i + 1) (bit_or m (get_or s i 0))
-    under_on h = record { fits = omega arith; all = go }
+or_most : (s : List ℕ) (m : ℕ) → (m ≤ fold bit_or m s) × ((k : ℕ) → get_or s k 0 ≤ fold bit_or m s)
+or_most [] m = (omega arith, λ k. omega arith)
+or_most (x ∷ s) m = go (or_most s (bit_or m x))
+  where
+    go : (bit_or m x ≤ fold bit_or (bit_or m x) s) × ((k : ℕ) → get_or s k 0 ≤ fold bit_or (bit_or m x) s)
+        → (m ≤ fold bit_or (bit_or m x) s) × ((k : ℕ) → get_or (x ∷ s) k 0 ≤ fold bit_or (bit_or m x) s)
+    go r = (omega (arith, or_left m x), at)
       where
-        go : (k : ℕ) → k < i + 1 → get_or s (0 + k) 0 ≤ bit_or m (get_or s i 0)
-        go k l =
-            on (ltb k i)
-            (λ t. omega (arith, u.all k (ltb-true k i t), or_left m (get_or s i 0)))
-            (λ t.
-            let e : 0 + k ≡ i = omega (arith, ltb-false k i t) in
-            rw e (or_right m (get_or s i 0)))
+        at : (k : ℕ) → get_or (x ∷ s) k 0 ≤ fold bit_or (bit_or m x) s
+        at zero = omega (arith, or_right m x, r.0)
+        at (suc k) = r.1 k
 
-    pub under_all : length s ≤ i → ltb m 128 ≡ true → Under s 0 (length s) 127
-    under_all h e = record { fits = omega arith; all = λ k l. omega (arith, u.all k (omega arith), ltb-true m 128 e) }
+module _ (s : List ℕ) where
+  pub under_all : (m : ℕ) → m ≡ fold bit_or 0 s → ltb m 128 ≡ true → Under s 0 (length s) 127
+  under_all m e t = record { fits = omega arith; all = λ k l. omega (arith, (or_most s 0).1 (0 + k), ltb-true m 128 t, e) }
 
   pub all_ascii : (r : Bool) → (r ≡ true → Under s 0 (length s) 127) → r ≡ true → true ≡ valid s
   all_ascii r u t =

@@ -1,18 +1,17 @@
 -- Trimming where nothing but spaces stand at either end, and what is blank: one law for each way on and out.
-use Prim.Native.Nat.{ℕ, ◌+◌, ◌-◌, ◌≤◌, ◌<◌}
+use Prim.Native.Nat.{ℕ, zero, suc, ◌+◌, ◌-◌, ◌≤◌, ◌<◌}
 use mathlib.Core.Bool.{Bool, true, false}
-use mathlib.Core.List.{List, [], ◌∷◌}
+use mathlib.Core.List.{List}
 use mathlib.Core.Path.{◌≡◌, refl, sym, ap, ◌∙◌}
 use native.Mathlib.Omega.{arith}
 use native.Mathlib.Nat.{add-zero}
+use native.Mathlib.Numerals.{add-one}
 use borrow.Author.Tests.{ltb-true, eq-eqb, ne_eqb}
-use lib.Dec.{eqb, ltb}
+use lib.Dec.{ltb}
 use lib.ListN.{length, get_or, take, drop, length-take, length-drop}
 use lib.Seq.{length-take-le, get_or-take, get_or-drop}
-use Rattle.meaning.specs.Base.{nil?}
-use Rattle.meaning.specs.Space.{trim_start, trim, blank}
+use Rattle.meaning.specs.Space.{trim, blank}
 use Rattle.laws.specs.Parts.{rest_of}
-use Rattle.laws.specs.Trim.{blank_is}
 use Rattle.chars.specs.Ascii.{space_white, high_plain}
 use Rattle.chars.specs.Trimmed.{Starting, Ending, Trimmed, Dark, Snug}
 use Rattle.chars.specs.declared.Span.{Span}
@@ -30,6 +29,10 @@ module _ (s : List ℕ) where
   pub lead_on : (i : ℕ) → Starting s i → i < length s → get_or s i 0 ≡ 32 → Starting s (i + 1)
   lead_on i k h e = start_ascii s i k h (omega arith) true (space_white (get_or s i 0) e) refl
 
+  pub leads : (r : ℕ) → r ≤ length s → ((k : ℕ) → k < r → get_or s k 0 ≡ 32) → Starting s r
+  leads zero h e = lead_none
+  leads (suc r) h e = rw (← add-one) (lead_on r (leads r (omega arith) (λ k l. e k (omega arith))) (omega arith) (e r (omega arith)))
+
   pub tail_on : (n : ℕ) → Ending s n → 0 < n → get_or s (n - 1) 0 ≡ 32 → Ending s (n - 1)
   tail_on n k h e = end_ascii s n k h (omega arith) true (space_white (get_or s (n - 1) 0) e) refl
 
@@ -38,20 +41,10 @@ module _ (s : List ℕ) where
 
   module _ (z : length s ≡ 0 → ⊥) where
     module _ (r : Bool) (d : r ≡ true → Dark (get_or s 0 0)) (t : r ≡ true) where
-      pub snug_so : (q : Bool) → (q ≡ true → Dark (get_or s (length s - 1) 0)) → q ≡ true → Snug s
-      snug_so q f u = record { some = omega arith; first = d t; final = f u }
-
       pub blank_dark : false ≡ blank s
       blank_dark =
           sym (ne_eqb 0 (length s) (λ q. z (sym q)))
           ∙ all_white s 0 (start_plain s 0 lead_none (omega arith) (d t).narrow false (d t).plain refl)
-
-    pub blank_told : (t : Span) → Trimmed s t → eqb t.from (length s) ≡ blank s
-    blank_told t k = go (trim_start s) k.at ∙ sym (blank_is s)
-      where
-        go : (d : List ℕ) → t.from ≡ length s - length d → eqb t.from (length s) ≡ nil? d
-        go [] e = eq-eqb t.from (length s) (omega arith)
-        go (b ∷ d) e = ne_eqb t.from (length s) (λ q. z (omega arith))
 
 -- the part from a on, without the bytes after its first e, begins and ends with no white space
 pub snug_both : (s : List ℕ) (a e : ℕ) (r : Bool) → Starting s a → Ending (take (length s - a) (drop a s)) e

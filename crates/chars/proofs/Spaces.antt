@@ -1,7 +1,7 @@
 -- White space, trimming and UTF-8: what each loop keeps, and one law for each way on and out.
-use Prim.Native.Nat.{ℕ, suc, ◌+◌, ◌-◌, ◌^◌, ◌≤◌, ◌<◌}
+use Prim.Native.Nat.{ℕ, zero, suc, ◌+◌, ◌-◌, ◌^◌, ◌≤◌, ◌<◌}
 use mathlib.Core.Bool.{Bool, true, false}
-use mathlib.Core.List.{List, [], ◌∷◌, ◌++◌}
+use mathlib.Core.List.{List, [], ◌∷◌, ◌++◌, map}
 use mathlib.Core.Path.{◌≡◌, refl, sym, ap, ◌∙◌}
 use native.Mathlib.Omega.{arith}
 use borrow.Author.Tests.{eq-eqb, ne_eqb, le-leb, lt-leb}
@@ -10,10 +10,12 @@ use mir.Syntax.{w64}
 use mir.Val.{Fits}
 use lib.Dec.{eqb}
 use lib.ListN.{length, get_or, take, drop, length-drop, drop_of_length-le}
-use lib.Seq.{take_all, take-take, take-suc, length-take-le, drop-drop, drop-cons}
+use lib.Seq.{take-take, take-suc, length-take-le, drop-drop, drop-cons}
 use Rattle.meaning.specs.Base.{pick, nil?, between}
-use Rattle.meaning.specs.Utf8.{Range, char, point, chars, well_formed, valid}
-use Rattle.meaning.specs.Space.{spaces, inside, white, trim_head, trim_tail, trim_start, trim_end, blank}
+use Rattle.std.specs.List.{list_any}
+use Rattle.chars.specs.declared.TheConstants.{SPACES}
+use Rattle.meaning.specs.Utf8.{reach, char, point, chars, well_formed, valid}
+use Rattle.meaning.specs.Space.{inside, white, trim_head, trim_tail, trim_start, trim_end, blank}
 use Rattle.laws.specs.Cases.{on}
 use Rattle.laws.specs.Parts.{rest_of}
 use Rattle.laws.specs.Chars.{char_fits, char_most, spelled_chars, valid_more, valid_stop}
@@ -21,27 +23,14 @@ use Rattle.laws.specs.Trim.{white_at, ends_in, white_end, white_fits, end_fits, 
 use Rattle.chars.specs.Ascii.{ascii_char, ascii_at, ascii_end}
 use Rattle.chars.specs.Trimmed.{Starting, Ending, Started, Ended, Trimmed}
 
--- ---- White_Space in three groups
-inside_append : (rs qs : List Range) (p : ℕ) → inside (rs ++ qs) p ≡ pick (inside rs p) true (inside qs p)
-inside_append [] qs p = refl
-inside_append (r ∷ rs) qs p = on (between r.low r.high p) (λ t. rw t) (λ t. rw t (inside_append rs qs p))
+-- ---- White_Space by the table
+any_inside : (rs : List (ℕ × ℕ)) (p : ℕ) → list_any (λ r. between r.0 r.1 p) rs ≡ inside (map (λ r. reach r.0 r.1) rs) p
+any_inside [] p = refl
+any_inside (r ∷ rs) p = rw (any_inside rs p) (on (between r.0 r.1 p) (λ t. rw t) (λ t. rw t))
 
-white_is : (p : ℕ) → white p ≡ pick (inside (take 4 spaces) p) true (pick (inside (take 4 (drop 4 spaces)) p) true (inside (drop 8 spaces) p))
+pub any_white : (p : ℕ) → list_any (λ r. between r.0 r.1 p) SPACES ≡ white p
 unfolding white
-white_is p =
-    inside_append (take 4 spaces) (drop 4 spaces) p
-    ∙ ap (λ (b : Bool). pick (inside (take 4 spaces) p) true b) (inside_append (take 4 (drop 4 spaces)) (drop 8 spaces) p)
-
-module _ (p : ℕ) (r : Bool) (e : r ≡ inside (take 4 spaces) p) where
-  pub narrow : r ≡ true → true ≡ white p
-  narrow t = rw (white_is p, ← e, t)
-
-  module _ (q : Bool) (n : r ≡ false) (f : q ≡ inside (take 4 (drop 4 spaces)) p) where
-    pub middle : q ≡ true → true ≡ white p
-    middle t = rw (white_is p, ← e, n, ← f, t)
-
-    pub wide : (w : Bool) → q ≡ false → w ≡ inside (drop 8 spaces) p → w ≡ white p
-    wide w t g = rw (white_is p, ← e, n, ← f, t, g)
+any_white p = any_inside SPACES p
 
 -- ---- the white space at the head
 module _ (s : List ℕ) (n : ℕ) (e : n ≡ char s) where
@@ -62,6 +51,21 @@ module _ (s : List ℕ) (n : ℕ) (e : n ≡ char s) where
     at_plain t = rw (← e, ne_eqb n 0 h, ← f, ← g, t)
 
 -- ---- the white space at the end
+-- none of the widths below k
+module _ (s : List ℕ) where
+  pub end_first : (k : ℕ) → 0 < k → k ≤ 4 → ((j : ℕ) → 0 < j → j < k → ends_in j s ≡ false) → ends_in k s ≡ true → k ≡ white_end s
+  unfolding white_end
+  end_first zero h m n e = absurd (omega arith)
+  end_first (suc zero) h m n e = rw e
+  end_first (suc (suc zero)) h m n e = rw (n 1 (omega arith) (omega arith), e)
+  end_first (suc (suc (suc zero))) h m n e = rw (n 1 (omega arith) (omega arith), n 2 (omega arith) (omega arith), e)
+  end_first (suc (suc (suc (suc zero)))) h m n e = rw (n 1 (omega arith) (omega arith), n 2 (omega arith) (omega arith), n 3 (omega arith) (omega arith), e)
+  end_first (suc (suc (suc (suc (suc k))))) h m n e = absurd (omega arith)
+
+  pub end_never : ((j : ℕ) → 0 < j → j < 5 → ends_in j s ≡ false) → 0 ≡ white_end s
+  unfolding white_end
+  end_never n = rw (n 1 (omega arith) (omega arith), n 2 (omega arith) (omega arith), n 3 (omega arith) (omega arith), n 4 (omega arith) (omega arith))
+
 pub ends_told : (s : List ℕ) (k r : ℕ) → k ≤ length s → r ≡ white_at (take (length s - (length s - k)) (drop (length s - k) s)) → eqb r k ≡ ends_in k s
 unfolding ends_in
 ends_told s k r h e = rw (e, rest_of s (length s - k), le-leb k (length s) h)
@@ -110,12 +114,6 @@ module _ (s : List ℕ) (i : ℕ) where
   start_end k h = starting_done k (rw (drop_of_length-le s h))
 
 -- ---- the loop backwards from the end
-pub prefix_count : (s : List ℕ) (e : ℕ) → e ≤ length s → e ≡ length (take e s)
-prefix_count s e h = sym (length-take-le e s h)
-
-pub ending_start : (s : List ℕ) → Ending s (length s)
-ending_start s = record { high = omega arith; left = ap (λ (t : List ℕ). trim_tail (chars 0 t)) (take_all (length s) s (omega arith)) }
-
 module _ (s : List ℕ) (e : ℕ) where
   ending_done : Ending s e → trim_tail (chars 0 (take e s)) ≡ chars 0 (take e s) → Ended s e
   unfolding trim_end

@@ -1,12 +1,12 @@
--- The character at the head of a string, by its first four bytes: one law for each way out of `width` and `code_point`.
-use Prim.Native.Nat.{ℕ, ◌+◌, ◌*◌, ◌%◌, ◌≤◌, ◌<◌}
+-- The character at the head of a string, by its first four bytes: one law for each way out of `width`.
+use Prim.Native.Nat.{ℕ, ◌<◌}
 use mathlib.Core.Bool.{Bool, true, false}
 use mathlib.Core.List.{List, [], ◌∷◌}
 use mathlib.Core.Path.{◌≡◌, refl}
 use native.Mathlib.Omega.{arith}
-use lib.ListN.{length, get_or, take}
+use lib.ListN.{length, get_or}
 use Rattle.meaning.specs.Base.{pick, between}
-use Rattle.meaning.specs.Utf8.{reach, tail, begins, one_of, utf8_1, utf8_2, utf8_3, utf8_4, char, point}
+use Rattle.meaning.specs.Utf8.{reach, tail, begins, one_of, utf8_1, utf8_2, utf8_3, utf8_4, char}
 use Rattle.laws.specs.Cases.{on, between_no}
 use Rattle.chars.specs.Rows.{row2, row3, row4, three, four}
 
@@ -108,46 +108,3 @@ module _ (s : List ℕ) (b : ℕ) (r : Bool) (h : length s ≡ 0 → ⊥) (e : b
 
         pub no_bytes : r₄ ≡ false → 0 ≡ char s
         no_bytes t = rw (char_is s h, ← e, ← p, f, ← e₂, ← p₂, f₂, ← e₃, ← p₃, f₃, ← e₄, ← p₄, t)
-
--- ---- the ways out of `code_point`
-module _ (s : List ℕ) (n b : ℕ) (h : n ≤ length s) (e : b ≡ get_or s 0 0) where
-  pub point_1 : n ≡ 1 → b ≡ point (take n s)
-  point_1 k = rw (k, e) (go s (omega arith))
-    where
-      go : (s : List ℕ) → 1 ≤ length s → get_or s 0 0 ≡ point (take 1 s)
-      go [] h = absurd (omega arith)
-      go (b ∷ s) h = refl
-
-  module _ (c : ℕ) (e₂ : c ≡ get_or s 1 0) where
-    pub point_2 : n ≡ 2 → b % 32 * 64 + c % 64 ≡ point (take n s)
-    point_2 k = rw (k, e, e₂) (go s (omega arith))
-      where
-        go : (s : List ℕ) → 2 ≤ length s → get_or s 0 0 % 32 * 64 + get_or s 1 0 % 64 ≡ point (take 2 s)
-        go [] h = absurd (omega arith)
-        go (b ∷ []) h = absurd (omega arith)
-        go (b ∷ c ∷ s) h = refl
-
-    module _ (d : ℕ) (e₃ : d ≡ get_or s 2 0) where
-      pub point_3 : n ≡ 3 → b % 16 * 4096 + c % 64 * 64 + d % 64 ≡ point (take n s)
-      point_3 k = rw (k, e, e₂, e₃) (go s (omega arith))
-        where
-          go : (s : List ℕ) → 3 ≤ length s → get_or s 0 0 % 16 * 4096 + get_or s 1 0 % 64 * 64 + get_or s 2 0 % 64 ≡ point (take 3 s)
-          go [] h = absurd (omega arith)
-          go (b ∷ []) h = absurd (omega arith)
-          go (b ∷ c ∷ []) h = absurd (omega arith)
-          go (b ∷ c ∷ d ∷ s) h = refl
-
-      module _ (x : ℕ) (e₄ : x ≡ get_or s 3 0) where
-        pub point_4 : 0 < n → n ≤ 4 → (n ≡ 1 → ⊥) → (n ≡ 2 → ⊥) → (n ≡ 3 → ⊥)
-            → b % 8 * 262144 + c % 64 * 4096 + d % 64 * 64 + x % 64 ≡ point (take n s)
-        point_4 p q n₁ n₂ n₃ =
-            let k : n ≡ 4 = omega arith in
-            rw (k, e, e₂, e₃, e₄) (go s (omega arith))
-          where
-            go : (s : List ℕ) → 4 ≤ length s
-                → get_or s 0 0 % 8 * 262144 + get_or s 1 0 % 64 * 4096 + get_or s 2 0 % 64 * 64 + get_or s 3 0 % 64 ≡ point (take 4 s)
-            go [] h = absurd (omega arith)
-            go (b ∷ []) h = absurd (omega arith)
-            go (b ∷ c ∷ []) h = absurd (omega arith)
-            go (b ∷ c ∷ d ∷ []) h = absurd (omega arith)
-            go (b ∷ c ∷ d ∷ x ∷ s) h = refl

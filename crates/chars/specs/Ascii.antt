@@ -45,6 +45,15 @@ module _ (b : ℕ) where
         (λ p. rw (p, between_yes 9 13 b (leb-true 9 b p) h))
         (λ p. let l : b < 9 = leb-false 9 b p in rw p (sym (inside_no spaces b (omega arith))))
 
+  pub rest_white : b < 128 → (b ≡ 32 → ⊥) → between 9 13 b ≡ white b
+  unfolding white
+  rest_white l n =
+      on (leb 9 b)
+      (λ p. on (leb b 13)
+      (λ q. rw (between_yes 9 13 b (leb-true 9 b p) (leb-true b 13 q)))
+      (λ q. let h : 13 < b = leb-false b 13 q in between_no 9 13 b (λ x y. omega arith) ∙ high_plain n l h))
+      (λ p. let h : b < 9 = leb-false 9 b p in between_no 9 13 b (λ x y. omega arith) ∙ sym (inside_no spaces b (omega arith)))
+
 -- ---- at the head
 pub ascii_at : (b : ℕ) (s : List ℕ) → b < 128 → white_at (b ∷ s) ≡ pick (white b) 1 0
 unfolding white_at

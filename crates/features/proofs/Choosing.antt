@@ -18,8 +18,7 @@ use Rattle.tree.specs.declared.Value.TheVariants as values
 use Rattle.schema.specs.declared.Features.TheVariants.{Absent, Words, Items}
 use Rattle.features.specs.declared.Piece.{Piece}
 use Rattle.features.specs.declared.FeaturesRead.{FeaturesRead}
-use Rattle.features.specs.declared.Feature.{Feature}
-use Rattle.features.specs.declared.Feature.TheVariants as features
+use Rattle.std.specs.Prelude.{Option, Some}
 use Rattle.features.specs.Ordered.{words_length}
 use Rattle.features.specs.Pieces.{piece_of, is_text, words_from, all_texts, few_words, items_fault, few_items, features_read, bytes_of, comes_after, ahead, better}
 
@@ -84,20 +83,13 @@ module _ (tree store : List ℕ) (made limit : ℕ) (v : Value) (r : FeaturesRea
 pub before_is : (store a b : List ℕ) (p q : Piece) (r : Bool) → a ≡ bytes_of store p → b ≡ bytes_of store q → r ≡ less a b → r ≡ less (bytes_of store p) (bytes_of store q)
 before_is store a b p q r e f h = rw (← e, ← f) h
 
-module _ (store : List ℕ) (f : Feature) (p : Piece) (r : Bool) (q : Piece) (e : f ≡ features.At q) where
-  pub comes_after_at : r ≡ less (bytes_of store q) (bytes_of store p) → r ≡ comes_after store f p
-  comes_after_at h = rw e h
-
-  pub ahead_at : r ≡ less (bytes_of store p) (bytes_of store q) → r ≡ ahead store f p
-  ahead_at h = rw e h
-
-module _ (store : List ℕ) (after best : Feature) (p : Piece) (r : Bool) (e : r ≡ comes_after store after p) where
+module _ (store : List ℕ) (after best : Option Piece) (p : Piece) (r : Bool) (e : r ≡ comes_after store after p) where
   pub better_not : r ≡ false → best ≡ better store after best p
   unfolding better
   better_not f = rw (← e, f)
 
   module _ (q : Bool) (f : r ≡ true) (g : q ≡ ahead store best p) where
-    pub better_it : q ≡ true → features.At p ≡ better store after best p
+    pub better_it : q ≡ true → Some p ≡ better store after best p
     unfolding better
     better_it t = rw (← e, f, ← g, t)
 

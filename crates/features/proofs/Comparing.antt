@@ -1,6 +1,6 @@
 -- Two lists side by side, in byte order and in the order of the text: one law for each way on and out.
 use Prim.Native.Nat.{ℕ, zero, suc, ◌≤◌, ◌<◌}
-use mathlib.Core.Bool.{Bool, true, false}
+use mathlib.Core.Bool.{Bool, true, false, not}
 use mathlib.Core.List.{List, [], ◌∷◌}
 use mathlib.Core.Path.{◌≡◌, refl, sym, ap, ◌∙◌}
 use native.Mathlib.Omega.{arith}
@@ -13,73 +13,76 @@ use Rattle.laws.specs.Never.{same_refl}
 use Rattle.laws.specs.Order.{same_eq}
 use Rattle.schema.specs.declared.Features.{Features}
 use Rattle.features.specs.declared.Piece.{Piece}
-use Rattle.features.specs.declared.Feature.{Feature}
-use Rattle.features.specs.declared.Feature.TheVariants.{Nothing, At}
 use Rattle.features.specs.declared.Raw.{Raw}
-use Rattle.features.specs.declared.Raw.TheVariants as raws
+use Rattle.std.specs.Prelude.{Option, Some, None, is_some}
 use Rattle.features.specs.Pieces.{Steps, pieces_from, pieces, bound, bytes_of, next_of, same_feature}
 use Rattle.features.specs.Ordered.{bytes_all, Walks, walk_ordered}
-use Rattle.features.proofs.Stepping.{step_end, step_at}
+use Rattle.features.proofs.Stepping.{step_at}
 
 -- ---- same_piece and same_feature
 
 pub piece_same : (store s t : List ℕ) (p q : Piece) (r : Bool) → s ≡ bytes_of store p → t ≡ bytes_of store q → r ≡ same s t → r ≡ same (bytes_of store p) (bytes_of store q)
 piece_same store s t p q r i j h = rw (← i, ← j) h
 
-pub same_at : (store : List ℕ) (x y : Feature) (p q : Piece) (r : Bool) → x ≡ At p → y ≡ At q
-    → r ≡ same (bytes_of store p) (bytes_of store q) → r ≡ same_feature store x y
-same_at store x y p q r e f h = rw (e, f) h
-
 -- ---- how many steps a walk has left
 
 -- one more than after it, where there is one
-abbrev more : Feature → ℕ → ℕ
-more Nothing n = 0
-more (At p) n = suc n
+abbrev more : Option Piece → ℕ → ℕ
+more None n = 0
+more (Some p) n = suc n
 
 -- counted up to a bound, for it recurs on nothing else
-abbrev steps_to : List ℕ → List Piece → ℕ → Feature → ℕ
+abbrev steps_to : List ℕ → List Piece → ℕ → Option Piece → ℕ
 steps_to store ps zero after = 0
-steps_to store ps (suc n) after = more (next_of store after Nothing ps) (steps_to store ps n (next_of store after Nothing ps))
+steps_to store ps (suc n) after = more (next_of store after None ps) (steps_to store ps n (next_of store after None ps))
 
 -- the bound: a walk gives the items in byte order and no more
-abbrev pub steps : List ℕ → List Piece → Feature → ℕ
+abbrev pub steps : List ℕ → List Piece → Option Piece → ℕ
 steps store ps after = steps_to store ps (length (ordered (bytes_all store ps))) after
 
-steps_are : (store : List ℕ) (ps : List Piece) (n : ℕ) (after : Feature) (us : List (List ℕ)) → Walks store ps after us → length us ≤ n → steps_to store ps n after ≡ length us
+steps_are : (store : List ℕ) (ps : List Piece) (n : ℕ) (after : Option Piece) (us : List (List ℕ)) → Walks store ps after us → length us ≤ n → steps_to store ps n after ≡ length us
 steps_are store ps zero after us w h = omega arith
 steps_are store ps (suc n) after [] w h = rw w
-steps_are store ps (suc n) after (u ∷ us) w h = rw w.1 (ap suc (steps_are store ps n (At w.0) us w.3 (omega arith)))
+steps_are store ps (suc n) after (u ∷ us) w h = rw w.1 (ap suc (steps_are store ps n (Some w.0) us w.3 (omega arith)))
 
 -- ---- equal_slow
 
-nothing_at : {G : Type 0} (p : Piece) → Nothing ≡ At p → G
+-- what a test for nothing says
+pub none_is : {A : Type 0} (o : Option A) (q : Bool) → is_some o ≡ not q → q ≡ true → o ≡ None
+none_is None q e h = refl
+none_is (Some x) q e h = never {b = not q} (sym e) (rw h)
+
+pub some_is : {A : Type 0} (o : Option A) (q : Bool) → is_some o ≡ not q → q ≡ false → (x : A) × (o ≡ Some x)
+some_is None q e h = never {b = not q} (rw h) (sym e)
+some_is (Some x) q e h = (x, refl)
+
+nothing_at : {G : Type 0} (p : Piece) → None ≡ Some p → G
 nothing_at p e = let z : ◌≡◌ {A = ℕ} 0 1 = cc in absurd (omega arith)
 
 -- true at the end of a walk, otherwise what the others say
-abbrev onward : Feature → Bool → Bool
-onward Nothing t = true
-onward (At p) t = t
+abbrev onward : Option Piece → Bool → Bool
+onward None t = true
+onward (Some p) t = t
 
 module _ (store : List ℕ) (ps qs : List Piece) where
-  module _ (a b : Feature) where
+  module _ (a b : Option Piece) where
     -- the first items decide, or the others
     firsts : (us vs : List (List ℕ)) → Walks store ps a us → Walks store qs b vs
-        → same_all us vs ≡ pick (same_feature store (next_of store a Nothing ps) (next_of store b Nothing qs)) (onward (next_of store a Nothing ps) (same_all (drop 1 us) (drop 1 vs))) false
+        → same_all us vs ≡ pick (same_feature store (next_of store a None ps) (next_of store b None qs)) (onward (next_of store a None ps) (same_all (drop 1 us) (drop 1 vs))) false
     firsts [] [] w v = rw (w, v)
     firsts [] (y ∷ ys) w v = rw (w, v.1)
     firsts (x ∷ xs) [] w v = rw (w.1, v)
     firsts (x ∷ xs) (y ∷ ys) w v = rw (w.1, v.1, w.2, v.2)
 
     -- both walks go on
-    others : (us vs : List (List ℕ)) (p : Piece) → Walks store ps a us → Walks store qs b vs → next_of store a Nothing ps ≡ At p
-        → same_feature store (next_of store a Nothing ps) (next_of store b Nothing qs) ≡ true
-        → (0 < length us) × Walks store ps (next_of store a Nothing ps) (drop 1 us) × Walks store qs (next_of store b Nothing qs) (drop 1 vs)
+    others : (us vs : List (List ℕ)) (p : Piece) → Walks store ps a us → Walks store qs b vs → next_of store a None ps ≡ Some p
+        → same_feature store (next_of store a None ps) (next_of store b None qs) ≡ true
+        → (0 < length us) × Walks store ps (next_of store a None ps) (drop 1 us) × Walks store qs (next_of store b None qs) (drop 1 vs)
     others [] vs p w v e h = nothing_at p (sym w ∙ e)
     others (x ∷ xs) [] p w v e h = never {b = false} (rw (w.1, v) at h) refl
     others (x ∷ xs) (y ∷ ys) p w v e h = (omega arith, rw w.1 w.3, rw v.1 v.3)
 
-  pub record Comparing (a b : Feature) : Type 0 where
+  pub record Comparing (a b : Option Piece) : Type 0 where
     pub us : List (List ℕ)
     pub vs : List (List ℕ)
     pub one : Walks store ps a us
@@ -87,7 +90,7 @@ module _ (store : List ℕ) (ps qs : List Piece) where
     pub few : length us ≤ length (ordered (bytes_all store ps))
     pub left : same_all (ordered (bytes_all store ps)) (ordered (bytes_all store qs)) ≡ same_all us vs
 
-  pub compare_start : Comparing Nothing Nothing
+  pub compare_start : Comparing None None
   compare_start =
       record {
         us = ordered (bytes_all store ps);
@@ -98,7 +101,7 @@ module _ (store : List ℕ) (ps qs : List Piece) where
         left = refl;
       }
 
-  module _ (a b : Feature) (k : Comparing a b) (x y : Feature) (e : x ≡ next_of store a Nothing ps) (f : y ≡ next_of store b Nothing qs)
+  module _ (a b : Option Piece) (k : Comparing a b) (x y : Option Piece) (e : x ≡ next_of store a None ps) (f : y ≡ next_of store b None qs)
       (r : Bool) (h : r ≡ same_feature store x y) where
     decided : same_all (ordered (bytes_all store ps)) (ordered (bytes_all store qs)) ≡ pick r (onward x (same_all (drop 1 k.us) (drop 1 k.vs))) false
     decided = k.left ∙ firsts a b k.us k.vs k.one k.two ∙ rw (← e, ← f, ← h)
@@ -107,10 +110,10 @@ module _ (store : List ℕ) (ps qs : List Piece) where
     compare_differ g = rw (decided, g)
 
     module _ (g : r ≡ true) where
-      pub compare_end : x ≡ Nothing → true ≡ same_all (ordered (bytes_all store ps)) (ordered (bytes_all store qs))
+      pub compare_end : x ≡ None → true ≡ same_all (ordered (bytes_all store ps)) (ordered (bytes_all store qs))
       compare_end n = rw (decided, g, n)
 
-      module _ (p : Piece) (i : x ≡ At p) where
+      module _ (p : Piece) (i : x ≡ Some p) where
         few_others : length (drop 1 k.us) ≤ length (ordered (bytes_all store ps))
         few_others = omega (arith, k.few, length-drop 1 k.us)
 
@@ -148,24 +151,18 @@ pub record Pairing (tree store : List ℕ) (made : ℕ) (f g : Features) (at bt 
   pub left : bytes_all store (pieces_from tree store made f at) ≡ bytes_all store (pieces_from tree store made g bt)
       → bytes_all store (pieces tree store made f) ≡ bytes_all store (pieces tree store made g)
 
-pub pair_no : {A : Type 0} → false ≡ true → A
-pair_no e = never {b = false} e refl
-
 module _ (tree store : List ℕ) (made : ℕ) (f g : Features) where
   pub pair_start : Pairing tree store made f g 0 0
   pair_start = record { high = omega arith; top = omega arith; left = λ e. e }
 
-  module _ (at bt : ℕ) (k : Pairing tree store made f g at bt) (r s : Raw)
+  module _ (at bt : ℕ) (k : Pairing tree store made f g at bt) (r s : Option Raw)
       (h : Steps (pieces_from tree store made f) (bound tree store made f) at r) (i : Steps (pieces_from tree store made g) (bound tree store made g) bt s) where
-    pub pair_end : r ≡ raws.End → s ≡ raws.End → true ≡ true → bytes_all store (pieces tree store made f) ≡ bytes_all store (pieces tree store made g)
-    pair_end d e t = k.left (rw (step_end tree store made at f r h d, step_end tree store made bt g s i e))
-
-    pub pair_on : (p q : Piece) (n m : ℕ) (b : Bool) → r ≡ raws.At p n → s ≡ raws.At q m → b ≡ same (bytes_of store p) (bytes_of store q) → b ≡ true
-        → Pairing tree store made f g n m
-    pair_on p q n m b d e c t =
-        let x = step_at tree store made at f r h p n d in
-        let y = step_at tree store made bt g s i q m e in
-        let z : bytes_of store p ≡ bytes_of store q = same_eq (bytes_of store p) (bytes_of store q) (sym c ∙ t) in
+    pub pair_on : (p q : Raw) (b : Bool) → r ≡ Some p → s ≡ Some q → b ≡ same (bytes_of store p.piece) (bytes_of store q.piece) → b ≡ true
+        → Pairing tree store made f g p.next q.next
+    pair_on p q b d e c t =
+        let x = step_at tree store made at f r h p d in
+        let y = step_at tree store made bt g s i q e in
+        let z : bytes_of store p.piece ≡ bytes_of store q.piece = same_eq (bytes_of store p.piece) (bytes_of store q.piece) (sym c ∙ t) in
         record { high = x.2; top = y.2; left = λ w. k.left (rw (x.0, y.0, z, w)) }
 
 -- ---- equal

@@ -17,8 +17,7 @@ use Rattle.schema.specs.declared.Features.{Features}
 use Rattle.schema.specs.declared.Features.TheVariants as lists
 use Rattle.schema.specs.Texts.{clip}
 use Rattle.features.specs.declared.Piece.{Piece}
-use Rattle.features.specs.declared.Feature.{Feature}
-use Rattle.features.specs.declared.Feature.TheVariants.{Nothing, At}
+use Rattle.std.specs.Prelude.{Option, Some, None}
 use Rattle.features.specs.Pieces.{close, words_at, pieces_at, pieces_from, pieces, bound, span, next_of}
 use Rattle.features.specs.Ordered.{bytes_all, bytes_length, Walks, walk_ordered}
 
@@ -62,34 +61,34 @@ ordered_most [] = omega arith
 ordered_most (x ∷ xs) = omega (arith, placed_most x (ordered xs), ordered_most xs)
 
 -- so many items have been met
-pub record Tallied (store : List ℕ) (ps : List Piece) (a : Feature) (n : ℕ) : Type 0 where
+pub record Tallied (store : List ℕ) (ps : List Piece) (a : Option Piece) (n : ℕ) : Type 0 where
   pub us : List (List ℕ)
   pub walks : Walks store ps a us
   pub left : n + length us ≡ length (ordered (bytes_all store ps))
 
 module _ (store : List ℕ) (ps : List Piece) where
-  pub tally_start : Tallied store ps Nothing 0
+  pub tally_start : Tallied store ps None 0
   tally_start = record { us = ordered (bytes_all store ps); walks = walk_ordered store ps; left = omega arith }
 
-  ended : (a : Feature) (us : List (List ℕ)) → Walks store ps a us → next_of store a Nothing ps ≡ Nothing → length us ≡ 0
+  ended : (a : Option Piece) (us : List (List ℕ)) → Walks store ps a us → next_of store a None ps ≡ None → length us ≡ 0
   ended a [] w e = refl
   ended a (u ∷ us) w e = let z : ◌≡◌ {A = ℕ} 0 1 = cc in absurd (omega arith)
 
-  goes : (a : Feature) (us : List (List ℕ)) (p : Piece) → Walks store ps a us → next_of store a Nothing ps ≡ At p
-      → (vs : List (List ℕ)) × Walks store ps (At p) vs × (length us ≡ suc (length vs))
+  goes : (a : Option Piece) (us : List (List ℕ)) (p : Piece) → Walks store ps a us → next_of store a None ps ≡ Some p
+      → (vs : List (List ℕ)) × Walks store ps (Some p) vs × (length us ≡ suc (length vs))
   goes a [] p w e = let z : ◌≡◌ {A = ℕ} 0 1 = cc in absurd (omega arith)
   goes a (u ∷ us) p w e = let d : w.0 ≡ p = cc in (us, rw (← d) w.3, refl)
 
-  module _ (a : Feature) (n : ℕ) (k : Tallied store ps a n) (x : Feature) (e : x ≡ next_of store a Nothing ps) where
-    pub tally_end : x ≡ Nothing → n ≡ length (ordered (bytes_all store ps))
+  module _ (a : Option Piece) (n : ℕ) (k : Tallied store ps a n) (x : Option Piece) (e : x ≡ next_of store a None ps) where
+    pub tally_end : x ≡ None → n ≡ length (ordered (bytes_all store ps))
     tally_end h = omega (arith, k.left, ended a k.us k.walks (sym e ∙ h))
 
-    module _ (p : Piece) (h : x ≡ At p) where
-      gone : (vs : List (List ℕ)) × Walks store ps (At p) vs × (length k.us ≡ suc (length vs))
+    module _ (p : Piece) (h : x ≡ Some p) where
+      gone : (vs : List (List ℕ)) × Walks store ps (Some p) vs × (length k.us ≡ suc (length vs))
       gone = goes a k.us p k.walks (sym e ∙ h)
 
       there : Walks store ps x gone.0
-      there = subst (λ (y : Feature). Walks store ps y gone.0) (sym h) gone.1
+      there = subst (λ (y : Option Piece). Walks store ps y gone.0) (sym h) gone.1
 
       pub tally_on : Tallied store ps x (n + 1)
       tally_on = record { us = gone.0; walks = there; left = omega (arith, k.left, gone.2) }
@@ -105,7 +104,7 @@ bound_any room other store made lists.Absent = refl
 bound_any room other store made (lists.Words from len) = refl
 bound_any room other store made (lists.Items place) = refl
 
-pub tally_last : (room store : List ℕ) (made : ℕ) (f : Features) (from : ℕ) (a : Feature) (n end : ℕ)
+pub tally_last : (room store : List ℕ) (made : ℕ) (f : Features) (from : ℕ) (a : Option Piece) (n end : ℕ)
     → Tallied store (pieces_from room store made f from) a n → end ≡ bound store store made f → end ≤ n → n ≤ end
     → end ≡ length (ordered (bytes_all store (pieces_from room store made f from)))
 tally_last room store made f from a n end k e h l =

@@ -11,13 +11,13 @@ use lib.Seq.{drop-drop}
 use Rattle.meaning.specs.Features.{gap, words as all}
 use Rattle.laws.specs.Cases.{on, never}
 use Rattle.features.specs.declared.Piece.{Piece}
+use Rattle.std.specs.Prelude.{Option, Some, None, is_some}
 use Rattle.features.specs.declared.reader.Word.{Word}
-use Rattle.features.specs.declared.reader.Word.TheVariants as words
 use Rattle.features.specs.Gaps.{gaps, run}
 use Rattle.meaning.specs.Base.{pick}
 use Rattle.features.specs.declared.reader.Reader.{Reader}
 use Rattle.features.specs.declared.reader.Step.{Step}
-use Rattle.features.specs.Reading.{word_at, after_word, found, stepped}
+use Rattle.features.specs.Reading.{word_at, after_word, stepped}
 use Rattle.features.specs.Pieces.{close, words_at}
 use Rattle.features.specs.Ordered.{words_count}
 
@@ -60,11 +60,11 @@ close_some i (suc n) ps h = refl
 -- ---- word_at, and what it says of the words from a place on
 
 module _ (s : List ℕ) (at a b : ℕ) (f : a ≡ at + gaps (drop at s)) (g : b ≡ a + run (drop a s)) where
-  pub word_some : a < b → words.At a b ≡ word_at s at
+  pub word_some : a < b → Some (record { from = a; to = b }) ≡ word_at s at
   unfolding word_at
   word_some h = rw (← f, ← g, lt-ltb a b h)
 
-  pub word_none : b ≤ a → words.End ≡ word_at s at
+  pub word_none : b ≤ a → None ≡ word_at s at
   unfolding word_at
   word_none h = rw (← f, ← g, le-ltb a b h)
 
@@ -76,18 +76,19 @@ only_gaps i t z =
     (λ e. words_gaps i t ∙ rw (drop_of_length-le t (ltb-false (gaps t) (length t) e)))
 
 -- where the word that is met stands
-pub met : (s : List ℕ) (at a b : ℕ) → word_at s at ≡ words.At a b → (a ≡ at + gaps (drop at s)) × (b ≡ a + run (drop a s)) × (a < b)
+pub met : (s : List ℕ) (at a b : ℕ) → word_at s at ≡ Some (record { from = a; to = b }) → (a ≡ at + gaps (drop at s)) × (b ≡ a + run (drop a s)) × (a < b)
 unfolding word_at
 met s at a b e =
     let c = at + gaps (drop at s) in
     let d = c + run (drop c s) in
     on (ltb c d)
-    (λ t. let f : c ≡ a = cc in let g : d ≡ b = cc in (sym f, rw (← f) (sym g), rw (← f, ← g) (ltb-true c d t)))
+    (λ t. let h : ◌≡◌ {A = Word} (record { from = c; to = d }) (record { from = a; to = b }) = cc in
+    let f : c ≡ a = ap (λ (w : Word). w.from) h in let g : d ≡ b = ap (λ (w : Word). w.to) h in (sym f, rw (← f) (sym g), rw (← f, ← g) (ltb-true c d t)))
     (λ t. let z : ◌≡◌ {A = ℕ} 0 1 = cc in absurd (omega arith))
 
 -- a string that stands at a position, read from a place on
 module _ (from : ℕ) (s : List ℕ) (at : ℕ) where
-  pub words_none : word_at s at ≡ words.End → words_at (from + at) 0 (drop at s) ≡ []
+  pub words_none : word_at s at ≡ None → words_at (from + at) 0 (drop at s) ≡ []
   unfolding word_at
   words_none e =
       let a = at + gaps (drop at s) in
@@ -97,7 +98,7 @@ module _ (from : ℕ) (s : List ℕ) (at : ℕ) where
       (λ t. let z : ◌≡◌ {A = ℕ} 0 1 = cc in absurd (omega arith))
       (λ t. only_gaps (from + at) (drop at s) (rw d (omega (arith, ltb-false a b t))))
 
-  pub words_some : (a b : ℕ) → word_at s at ≡ words.At a b → (words_at (from + at) 0 (drop at s) ≡ record { from = from + a; len = b - a } ∷ words_at (from + b) 0 (drop b s)) × (at < b) × (b ≤ length s)
+  pub words_some : (a b : ℕ) → word_at s at ≡ Some (record { from = a; to = b }) → (words_at (from + at) 0 (drop at s) ≡ record { from = from + a; len = b - a } ∷ words_at (from + b) 0 (drop b s)) × (at < b) × (b ≤ length s)
   words_some a b e =
       let f = (met s at a b e).0 in
       let g = (met s at a b e).1 in
@@ -128,41 +129,41 @@ pub count_start : (s : List ℕ) → Counting s 0 0
 count_start s = record { most = omega arith; left = omega (arith, words_count s) }
 
 module _ (s : List ℕ) (n at : ℕ) (k : Counting s n at) where
-  ended : (w : Word) → word_at s at ≡ w → found w ≡ false → n ≡ length (all s)
-  ended words.End e h =
+  ended : (w : Option Word) → word_at s at ≡ w → is_some w ≡ false → n ≡ length (all s)
+  ended None e h =
       let z : 0 + at ≡ at = omega arith in
       omega (arith, k.left, ap length (rw z at (words_none 0 s at e)))
-  ended (words.At a b) e h = never {b = true} refl h
+  ended (Some w) e h = never {b = true} refl h
 
-  counted : (w : Word) → word_at s at ≡ w → found w ≡ true → Counted s n at (after_word w at)
-  counted words.End e h = never {b = false} h refl
-  counted (words.At a b) e h =
+  counted : (w : Option Word) → word_at s at ≡ w → is_some w ≡ true → Counted s n at (after_word w at)
+  counted None e h = never {b = false} h refl
+  counted (Some w) e h =
       let z : 0 + at ≡ at = omega arith in
-      let y : 0 + b ≡ b = omega arith in
-      let w = words_some 0 s at a b e in
+      let y : 0 + w.to ≡ w.to = omega arith in
+      let m = words_some 0 s at w.from w.to e in
       record {
-        on = record { most = omega (arith, k.most, w.1); left = omega (arith, k.left, ap length (rw (z, y) at w.0)) };
-        rises = w.1;
-        high = w.2;
+        on = record { most = omega (arith, k.most, m.1); left = omega (arith, k.left, ap length (rw (z, y) at m.0)) };
+        rises = m.1;
+        high = m.2;
       }
 
-  pub count_end : found (word_at s at) ≡ false → n ≡ length (all s)
+  pub count_end : is_some (word_at s at) ≡ false → n ≡ length (all s)
   count_end = ended (word_at s at) refl
 
-  pub count_on : found (word_at s at) ≡ true → Counted s n at (after_word (word_at s at) at)
+  pub count_on : is_some (word_at s at) ≡ true → Counted s n at (after_word (word_at s at) at)
   count_on = counted (word_at s at) refl
 
 -- ---- the same by a reader: the word that it met last, where n words were met before it
 
 pub record Meeting (s : List ℕ) (n : ℕ) (d : Step) : Type 0 where
   pub words : d.rest.words.now ≡ s
-  pub on : found d.word ≡ true → Counting s (n + 1) d.rest.at
-  pub high : found d.word ≡ true → d.rest.at ≤ length s
-  pub end : found d.word ≡ false → n ≡ length (all s)
+  pub on : is_some d.word ≡ true → Counting s (n + 1) d.rest.at
+  pub high : is_some d.word ≡ true → d.rest.at ≤ length s
+  pub end : is_some d.word ≡ false → n ≡ length (all s)
 
 -- what is left of the string behind it; nothing where no word was met
 abbrev pub left_of : List ℕ → Step → ℕ
-left_of s d = pick (found d.word) (length s + 1 - d.rest.at) 0
+left_of s d = pick (is_some d.word) (length s + 1 - d.rest.at) 0
 
 module _ (s : List ℕ) (n : ℕ) (r : Reader) (k : Counting s n r.at) (w : r.words.now ≡ s) (d : Step) (e : d ≡ stepped r) where
   pub meeting : Meeting s n d
@@ -173,16 +174,13 @@ module _ (s : List ℕ) (n : ℕ) (r : Reader) (k : Counting s n r.at) (w : r.wo
     end = rw w (count_end s n r.at k);
   })
 
-  pub left_falls : (m : ℕ) → r.at < m → m ≤ length s + 1 → left_of s d < length s + 1 - r.at
-  left_falls m h l = rw (e, w) (on (found (word_at s r.at)) (λ p. rw p (omega (arith, (count_on s n r.at k p).rises, (count_on s n r.at k p).high))) (λ p. rw p (omega arith)))
+  pub left_falls : r.at ≤ length s → left_of s d < length s + 1 - r.at
+  left_falls h = rw (e, w) (on (is_some (word_at s r.at)) (λ p. rw p (omega (arith, (count_on s n r.at k p).rises, (count_on s n r.at k p).high))) (λ p. rw p (omega arith)))
 
 module _ (s : List ℕ) (n : ℕ) (d : Step) (k : Meeting s n d) where
-  pub meet_end : found d.word ≡ false → n ≡ length (all s)
-  meet_end = k.end
-
-  module _ (f : found d.word ≡ true) (t : Step) (e : t ≡ stepped d.rest) where
+  module _ (f : is_some d.word ≡ true) (t : Step) (e : t ≡ stepped d.rest) where
     pub meet_on : Meeting s (n + 1) t
     meet_on = meeting s (n + 1) d.rest (k.on f) k.words t e
 
     pub meet_less : left_of s t < left_of s d
-    meet_less = let h : d.rest.at ≤ length s = k.high f in rw f (left_falls s (n + 1) d.rest (k.on f) k.words t e (d.rest.at + 1) (omega arith) (omega arith))
+    meet_less = let h : d.rest.at ≤ length s = k.high f in rw f (left_falls s (n + 1) d.rest (k.on f) k.words t e h)

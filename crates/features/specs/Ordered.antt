@@ -1,5 +1,5 @@
 -- Pieces of the store against byte strings: the words of a stored text are its words, and the walk in byte order meets each item once.
-use Rattle.std.specs.Prelude.{ℕ, suc, ◌+◌, ◌-◌, ◌≤◌, ◌<◌, Bool, true, false, List, [], ◌∷◌, ◌++◌, ◌≡◌, refl, leb, take, drop}
+use Rattle.std.specs.Prelude.{ℕ, suc, ◌+◌, ◌-◌, ◌≤◌, ◌<◌, Bool, true, false, List, [], ◌∷◌, ◌++◌, ◌≡◌, refl, leb, take, drop, Option as Maybe, Some, None}
 use Rattle.std.proofs.Common.{append_assoc, append-nil, ◌∙◌, le-leb, length-drop, take-append-drop, drop-drop}
 use Rattle.std.proofs.Math.Option.{Option, none, some}
 use Rattle.std.proofs.Math.Path.{sym, ap}
@@ -18,8 +18,6 @@ use Rattle.schema.specs.Texts.{clip}
 use Rattle.schema.specs.declared.Features.{Features}
 use Rattle.schema.specs.declared.Features.TheVariants.{Words}
 use Rattle.features.specs.declared.Piece.{Piece}
-use Rattle.features.specs.declared.Feature.{Feature}
-use Rattle.features.specs.declared.Feature.TheVariants.{Nothing, At}
 use Rattle.features.specs.Pieces.{close, words_at, words_from, pieces_from, pieces, bytes_of, comes_after, ahead, better, next_of}
 
 -- the bytes of each piece
@@ -177,82 +175,82 @@ nil_pieces store (p ∷ ps) = sym (placed_some (bytes_of store p) (ordered (byte
 
 module _ (store : List ℕ) where
   -- k lies above the last one given
-  abbrev over : Feature → List ℕ → Bool
-  over Nothing k = true
-  over (At q) k = less (bytes_of store q) k
+  abbrev over : Maybe Piece → List ℕ → Bool
+  over None k = true
+  over (Some q) k = less (bytes_of store q) k
 
-  over_on : (after : Feature) (k j : List ℕ) → over after k ≡ true → less k j ≡ true → over after j ≡ true
-  over_on Nothing k j e f = refl
-  over_on (At q) k j e f = less_on (bytes_of store q) k j e f
+  over_on : (after : Maybe Piece) (k j : List ℕ) → over after k ≡ true → less k j ≡ true → over after j ≡ true
+  over_on None k j e f = refl
+  over_on (Some q) k j e f = less_on (bytes_of store q) k j e f
 
-  comes_after_over : (after : Feature) (p : Piece) → comes_after store after p ≡ over after (bytes_of store p)
-  comes_after_over Nothing p = refl
-  comes_after_over (At q) p = refl
+  comes_after_over : (after : Maybe Piece) (p : Piece) → comes_after store after p ≡ over after (bytes_of store p)
+  comes_after_over None p = refl
+  comes_after_over (Some q) p = refl
 
-  better_not : (after best : Feature) (p : Piece) → over after (bytes_of store p) ≡ false → better store after best p ≡ best
+  better_not : (after best : Maybe Piece) (p : Piece) → over after (bytes_of store p) ≡ false → better store after best p ≡ best
   unfolding better
   better_not after best p e = rw (comes_after_over after p, e)
 
-  better_over : (after best : Feature) (p : Piece) → over after (bytes_of store p) ≡ true → better store after best p ≡ pick (ahead store best p) (At p) best
+  better_over : (after best : Maybe Piece) (p : Piece) → over after (bytes_of store p) ≡ true → better store after best p ≡ pick (ahead store best p) (Some p) best
   unfolding better
   better_over after best p e = rw (comes_after_over after p, e)
 
   -- nothing lies above, and nothing is found
-  next_nothing : (after : Feature) (ps : List Piece) → ((k : List ℕ) → has k (bytes_all store ps) ≡ true → over after k ≡ false) → next_of store after Nothing ps ≡ Nothing
+  next_nothing : (after : Maybe Piece) (ps : List Piece) → ((k : List ℕ) → has k (bytes_all store ps) ≡ true → over after k ≡ false) → next_of store after None ps ≡ None
   next_nothing after [] h = refl
   next_nothing after (p ∷ ps) h =
-      rw (better_not after Nothing p (h (bytes_of store p) (rw (same_refl (bytes_of store p)))))
+      rw (better_not after None p (h (bytes_of store p) (rw (same_refl (bytes_of store p)))))
       (next_nothing after ps (λ k e. h k (rw e (on (same (bytes_of store p) k) (λ f. rw f) (λ f. rw f)))))
 
-  module _ (after : Feature) (y : List ℕ) (o : over after y ≡ true) where
+  module _ (after : Maybe Piece) (y : List ℕ) (o : over after y ≡ true) where
     -- y is at most what is left of the pieces, and at most the best so far
     abbrev Low : List Piece → Type 0
     Low [] = Unit {0}
     Low (p ∷ ps) = (over after (bytes_of store p) ≡ true → less (bytes_of store p) y ≡ false) × Low ps
 
-    abbrev Above : Feature → Type 0
-    Above Nothing = Unit {0}
-    Above (At q) = less (bytes_of store q) y ≡ false
+    abbrev Above : Maybe Piece → Type 0
+    Above None = Unit {0}
+    Above (Some q) = less (bytes_of store q) y ≡ false
 
     -- who has y is not replaced
-    next_stays : (ps : List Piece) (q : Piece) → bytes_of store q ≡ y → Low ps → next_of store after (At q) ps ≡ At q
+    next_stays : (ps : List Piece) (q : Piece) → bytes_of store q ≡ y → Low ps → next_of store after (Some q) ps ≡ Some q
     next_stays [] q e l = refl
     next_stays (p ∷ ps) q e l = rw kept (next_stays ps q e l.1)
       where
-        kept : better store after (At q) p ≡ At q
+        kept : better store after (Some q) p ≡ Some q
         kept =
             on (over after (bytes_of store p))
-            (λ f. better_over after (At q) p f ∙ rw (e, l.0 f))
-            (λ f. better_not after (At q) p f)
+            (λ f. better_over after (Some q) p f ∙ rw (e, l.0 f))
+            (λ f. better_not after (Some q) p f)
 
-    better_above : (best : Feature) (p : Piece) → Above best → (over after (bytes_of store p) ≡ true → less (bytes_of store p) y ≡ false) → Above (better store after best p)
+    better_above : (best : Maybe Piece) (p : Piece) → Above best → (over after (bytes_of store p) ≡ true → less (bytes_of store p) y ≡ false) → Above (better store after best p)
     better_above best p h l =
         on (over after (bytes_of store p))
         (λ f. rw (better_over after best p f) (on (ahead store best p) (λ g. rw g (l f)) (λ g. rw g h)))
         (λ f. rw (better_not after best p f) h)
 
-    record Met (ps : List Piece) (best : Feature) : Type 0 where
+    record Met (ps : List Piece) (best : Maybe Piece) : Type 0 where
       piece : Piece
-      found : next_of store after best ps ≡ At piece
+      found : next_of store after best ps ≡ Some piece
       is : bytes_of store piece ≡ y
 
     -- the first that has y is taken, or an earlier one that has it stays
-    meets : (ps : List Piece) (best : Feature) (p : Piece) → bytes_of store p ≡ y → Above best → Low ps → Met (p ∷ ps) best
-    meets ps Nothing p e h l =
-        let b : better store after Nothing p ≡ At p = better_over after Nothing p (rw e o) in
+    meets : (ps : List Piece) (best : Maybe Piece) (p : Piece) → bytes_of store p ≡ y → Above best → Low ps → Met (p ∷ ps) best
+    meets ps None p e h l =
+        let b : better store after None p ≡ Some p = better_over after None p (rw e o) in
         record { piece = p; found = rw b (next_stays ps p e l); is = e }
-    meets ps (At q) p e h l =
+    meets ps (Some q) p e h l =
         on (less y (bytes_of store q))
         (λ f.
-        let b : better store after (At q) p ≡ At p = better_over after (At q) p (rw e o) ∙ rw (e, f) in
+        let b : better store after (Some q) p ≡ Some p = better_over after (Some q) p (rw e o) ∙ rw (e, f) in
         record { piece = p; found = rw b (next_stays ps p e l); is = e })
         (λ f.
         let g : bytes_of store q ≡ y = less_one (bytes_of store q) y h f in
-        let b : better store after (At q) p ≡ At q = better_over after (At q) p (rw e o) ∙ rw (e, f) in
+        let b : better store after (Some q) p ≡ Some q = better_over after (Some q) p (rw e o) ∙ rw (e, f) in
         record { piece = q; found = rw b (next_stays ps q g l); is = g })
 
     -- the least that lies above is found
-    next_least : (ps : List Piece) (best : Feature) → has y (bytes_all store ps) ≡ true → Above best → Low ps → Met ps best
+    next_least : (ps : List Piece) (best : Maybe Piece) → has y (bytes_all store ps) ≡ true → Above best → Low ps → Met ps best
     next_least [] best e h l = never {b = false} e refl
     next_least (p ∷ ps) best e h l =
         on (same (bytes_of store p) y)
@@ -269,29 +267,29 @@ module _ (store : List ℕ) where
     )
 
 -- steps over pieces from the last one given meet these byte strings, one after the other, and then nothing
-abbrev pub Walks : List ℕ → List Piece → Feature → List (List ℕ) → Type 0
-Walks store ps after [] = next_of store after Nothing ps ≡ Nothing
-Walks store ps after (y ∷ ys) = (p : Piece) × (next_of store after Nothing ps ≡ At p) × (bytes_of store p ≡ y) × Walks store ps (At p) ys
+abbrev pub Walks : List ℕ → List Piece → Maybe Piece → List (List ℕ) → Type 0
+Walks store ps after [] = next_of store after None ps ≡ None
+Walks store ps after (y ∷ ys) = (p : Piece) × (next_of store after None ps ≡ Some p) × (bytes_of store p ≡ y) × Walks store ps (Some p) ys
 
 none_some : {G : Type 0} (v : Value) → none ≡ some v → G
 none_some v e = let z : ◌≡◌ {A = ℕ} 0 1 = cc in absurd (omega arith)
 
 module _ (store : List ℕ) (ps : List Piece) where
   -- the byte strings us are left above the last one given
-  record Left (after : Feature) (us : List (List ℕ)) : Type 0 where
+  record Left (after : Maybe Piece) (us : List (List ℕ)) : Type 0 where
     rises : Rises (keyed us)
     is : (k : List ℕ) → lookup (keyed us) k ≡ pick (over store after k) (lookup (keyed (bytes_all store ps)) k) none
 
-  left_has : (after : Feature) (us : List (List ℕ)) → Left after us → (k : List ℕ) → has k (bytes_all store ps) ≡ true → over store after k ≡ true
+  left_has : (after : Maybe Piece) (us : List (List ℕ)) → Left after us → (k : List ℕ) → has k (bytes_all store ps) ≡ true → over store after k ≡ true
       → lookup (keyed us) k ≡ some (boolean true)
   left_has after us l k e f = l.is k ∙ rw (f, lookup_has (bytes_all store ps) k, e)
 
-  step_end : (after : Feature) → Left after [] → next_of store after Nothing ps ≡ Nothing
+  step_end : (after : Maybe Piece) → Left after [] → next_of store after None ps ≡ None
   step_end after l =
       next_nothing store after ps
       (λ k e. on (over store after k) (λ f. none_some (boolean true) (left_has after [] l k e f)) (λ f. f))
 
-  module _ (after : Feature) (y : List ℕ) (ys : List (List ℕ)) (l : Left after (y ∷ ys)) where
+  module _ (after : Maybe Piece) (y : List ℕ) (ys : List (List ℕ)) (l : Left after (y ∷ ys)) where
     -- the first that is left lies above, and is one of the pieces
     first_there : pick (over store after y) (lookup (keyed (bytes_all store ps)) y) none ≡ some (boolean true)
     first_there = sym (l.is y) ∙ rw (same_refl y)
@@ -305,13 +303,13 @@ module _ (store : List ℕ) (ps : List Piece) where
         (λ f. none_some (boolean true) (rw (first_over, lookup_has (bytes_all store ps) y, f) at first_there))
 
     -- and the least of them
-    it : Met store after y first_over ps Nothing
+    it : Met store after y first_over ps None
     it =
-        next_least store after y first_over ps Nothing first_has tt
+        next_least store after y first_over ps None first_has tt
         (low_all store after y first_over ps
         (λ k e f. first_least (keyed ys) y k (boolean true) (boolean true) l.rises (left_has after (y ∷ ys) l k e f)))
 
-    rest_left : Left (At it.piece) ys
+    rest_left : Left (Some it.piece) ys
     rest_left =
         record {
           rises = l.rises.1;
@@ -323,24 +321,24 @@ module _ (store : List ℕ) (ps : List Piece) where
             ≡ pick (less y k) (lookup (keyed (bytes_all store ps)) k) none
         again k = on (less y k) (λ f. rw (f, over_on store after y k first_over f)) (λ f. rw f)
 
-  walks : (us : List (List ℕ)) (after : Feature) → Left after us → Walks store ps after us
+  walks : (us : List (List ℕ)) (after : Maybe Piece) → Left after us → Walks store ps after us
   walks [] after l = step_end after l
   walks (y ∷ ys) after l =
       let m = it after y ys l in
-      (m.piece, m.found, m.is, walks ys (At m.piece) (rest_left after y ys l))
+      (m.piece, m.found, m.is, walks ys (Some m.piece) (rest_left after y ys l))
 
   -- the walk from the start meets the items in byte order, each once
-  pub walk_ordered : Walks store ps Nothing (ordered (bytes_all store ps))
-  walk_ordered = walks (ordered (bytes_all store ps)) Nothing (record { rises = keyed_rises (bytes_all store ps); is = keyed_lookup (bytes_all store ps) })
+  pub walk_ordered : Walks store ps None (ordered (bytes_all store ps))
+  walk_ordered = walks (ordered (bytes_all store ps)) None (record { rises = keyed_rises (bytes_all store ps); is = keyed_lookup (bytes_all store ps) })
 
 -- ---- what the walks over a list answer
 module _ (room store : List ℕ) (made : ℕ) where
   -- the next item after the last one given, from a position on and of all
-  abbrev pub next_from : Features → ℕ → Feature → Feature
-  next_from f from after = next_of store after Nothing (pieces_from room store made f from)
+  abbrev pub next_from : Features → ℕ → Maybe Piece → Maybe Piece
+  next_from f from after = next_of store after None (pieces_from room store made f from)
 
-  abbrev pub next_in : Features → Feature → Feature
-  next_in f after = next_of store after Nothing (pieces room store made f)
+  abbrev pub next_in : Features → Maybe Piece → Maybe Piece
+  next_in f after = next_of store after None (pieces room store made f)
 
   -- its items in byte order, each once
   abbrev pub in_order : Features → List (List ℕ)

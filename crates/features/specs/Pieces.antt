@@ -1,5 +1,5 @@
 -- A feature list in the rooms: the pieces of the store that are its items, in the order of the text, and the walk through them in byte order.
-use Rattle.std.specs.Prelude.{ℕ, zero, suc, ◌+◌, ◌-◌, ◌≤◌, ◌<◌, Bool, true, false, List, [], ◌∷◌, ◌≡◌, ltb, length, drop}
+use Rattle.std.specs.Prelude.{ℕ, zero, suc, ◌+◌, ◌-◌, ◌≤◌, ◌<◌, Bool, true, false, List, [], ◌∷◌, ◌≡◌, ltb, length, drop, Option, Some, None}
 use Rattle.meaning.specs.Base.{pick, same, less}
 use Rattle.meaning.specs.Features.{gap}
 use Rattle.tree.specs.declared.Value.{Value}
@@ -10,10 +10,7 @@ use Rattle.schema.specs.declared.Features.{Features}
 use Rattle.schema.specs.declared.Features.TheVariants.{Absent, Words, Items}
 use Rattle.schema.specs.Texts.{clip}
 use Rattle.features.specs.declared.Piece.{Piece}
-use Rattle.features.specs.declared.Feature.{Feature}
-use Rattle.features.specs.declared.Feature.TheVariants as features
 use Rattle.features.specs.declared.Raw.{Raw}
-use Rattle.features.specs.declared.Raw.TheVariants as raws
 use Rattle.features.specs.declared.FeaturesRead.{FeaturesRead}
 
 -- ---- the words of a text
@@ -38,9 +35,9 @@ few_words store limit from len =
     pick (ltb limit (length (words_from store from len 0))) (record { fault = 25; features = Absent }) (record { fault = 0; features = Words from len })
 
 -- what a step over pieces says: the first from a position on, and where the others begin
-abbrev pub Steps : (ℕ → List Piece) → ℕ → ℕ → Raw → Type 0
-Steps rest bound at raws.End = rest at ≡ []
-Steps rest bound at (raws.At p next) = (rest at ≡ p ∷ rest next) × (at < next) × (next ≤ bound)
+abbrev pub Steps : (ℕ → List Piece) → ℕ → ℕ → Option Raw → Type 0
+Steps rest bound at None = rest at ≡ []
+Steps rest bound at (Some r) = (rest at ≡ r.piece ∷ rest r.next) × (at < r.next) × (r.next ≤ bound)
 
 -- ---- the items of an array
 
@@ -92,7 +89,7 @@ module _ (room store : List ℕ) where
     bound (Items place) = made
 
     -- a step from a position on
-    abbrev pub StepsIn : Features → ℕ → Raw → Type 0
+    abbrev pub StepsIn : Features → ℕ → Option Raw → Type 0
     StepsIn f at r = Steps (pieces_from f) (bound f) at r
 
     -- 25: "list too long", told before a "feature item, of the wrong kind": 20
@@ -125,27 +122,27 @@ abbrev pub bytes_of : List ℕ → Piece → List ℕ
 bytes_of store p = clip p.from p.len store
 
 -- p comes after the last one given; nothing was given at the start
-abbrev pub comes_after : List ℕ → Feature → Piece → Bool
-comes_after store features.Nothing p = true
-comes_after store (features.At q) p = less (bytes_of store q) (bytes_of store p)
+abbrev pub comes_after : List ℕ → Option Piece → Piece → Bool
+comes_after store None p = true
+comes_after store (Some q) p = less (bytes_of store q) (bytes_of store p)
 
 -- p comes before the best so far
-abbrev pub ahead : List ℕ → Feature → Piece → Bool
-ahead store features.Nothing p = true
-ahead store (features.At q) p = less (bytes_of store p) (bytes_of store q)
+abbrev pub ahead : List ℕ → Option Piece → Piece → Bool
+ahead store None p = true
+ahead store (Some q) p = less (bytes_of store p) (bytes_of store q)
 
 -- the better of the best so far and p
-unfoldable pub better : List ℕ → Feature → Feature → Piece → Feature
-better store after best p = pick (comes_after store after p) (pick (ahead store best p) (features.At p) best) best
+unfoldable pub better : List ℕ → Option Piece → Option Piece → Piece → Option Piece
+better store after best p = pick (comes_after store after p) (pick (ahead store best p) (Some p) best) best
 
 -- the least of the pieces after the last one given
-abbrev pub next_of : List ℕ → Feature → Feature → List Piece → Feature
+abbrev pub next_of : List ℕ → Option Piece → Option Piece → List Piece → Option Piece
 next_of store after best [] = best
 next_of store after best (p ∷ ps) = next_of store after (better store after best p) ps
 
 -- both are there and have the same bytes, or neither is
-abbrev pub same_feature : List ℕ → Feature → Feature → Bool
-same_feature store features.Nothing features.Nothing = true
-same_feature store features.Nothing (features.At q) = false
-same_feature store (features.At p) features.Nothing = false
-same_feature store (features.At p) (features.At q) = same (bytes_of store p) (bytes_of store q)
+abbrev pub same_feature : List ℕ → Option Piece → Option Piece → Bool
+same_feature store None None = true
+same_feature store None (Some q) = false
+same_feature store (Some p) None = false
+same_feature store (Some p) (Some q) = same (bytes_of store p) (bytes_of store q)

@@ -8,12 +8,11 @@ ghost use Rattle.std.specs.Prelude.{◌≡◌, ◌≤◌, length};
 ghost use Rattle.meaning.specs.Base.{pick, nil?, same, less};
 ghost use Rattle.schema.specs.Texts.{clip};
 ghost use Rattle.features.specs.Pieces as piece;
-ghost use Rattle.tree.specs.Doors.{Rooms};
 ghost use Rattle.features.specs.Ordered as ordered;
+ghost use Rattle.tree.specs.Both.{on};
 
-use reader::Word;
 use schema::Features;
-use tree::{Fields, Item, Value};
+use tree::{Fields, Rooms, Value};
 
 // A part of the text store.
 #[derive(Clone, Copy)]
@@ -22,18 +21,11 @@ pub struct Piece {
     pub len: usize,
 }
 
-// Where a walk in byte order stands: at its start, or after an item.
-#[derive(Clone, Copy)]
-pub enum Feature {
-    Nothing,
-    At(Piece),
-}
-
 // An item in the order of the text, and the position after it.
 #[derive(Clone, Copy)]
-pub enum Raw {
-    End,
-    At(Piece, usize),
+pub struct Raw {
+    pub piece: Piece,
+    pub next: usize,
 }
 
 // The refusal of a value of another kind than is asked for.
@@ -50,22 +42,19 @@ pub struct FeaturesRead {
 }
 
 // The first word of a stored text from a position on.
-fn raw_word(store: &[u8], from: usize, len: usize, at: usize) -> Raw
+fn raw_word(store: &[u8], from: usize, len: usize, at: usize) -> Option<Raw>
     ensures { piece.Steps (piece.words_from store.now from len)
         (length (clip from len store.now)) at result }
 {
     let s = schema::stored(store, from, len);
-    let word = reader::first(s, at);
-    match word {
-        Word::End => Raw::End,
-        Word::At { from: a, to: b } => Raw::At(
-            Piece {
-                from: from + a,
-                len: b - a,
-            },
-            b,
-        ),
-    }
+    let word = reader::first(s, at)?;
+    Some(Raw {
+        piece: Piece {
+            from: from + word.from,
+            len: word.to - word.from,
+        },
+        next: word.to,
+    })
 }
 
 // Where a text stands in the store.
@@ -79,39 +68,34 @@ fn piece_of(v: Value) -> Piece
 }
 
 // The first item of an array from a value's number on.
-fn raw_item(tree: &[u8], store: &[u8], made: usize, place: u16, at: usize) -> Raw
-    requires { Rooms tree.now made × (at ≤ made) }
-    ensures { piece.Steps (piece.items_from tree.now store.now made place) made at result }
+fn raw_item(rooms: Rooms<'_>, place: u16, at: usize) -> Option<Raw>
+    requires { at ≤ rooms.made }
+    ensures { piece.Steps (on piece.items_from rooms.entry place) rooms.entry.made at result }
 {
-    let step = tree::next_item(tree, tree::items_from(place, at, made));
-    match step {
-        Item::At { value, rest } => Raw::At(piece_of(tree::value_at(tree, store, value)), rest.at),
-        Item::End => Raw::End,
-    }
+    let step = tree::next_item(rooms.tree, tree::items_from(place, at, rooms.made))?;
+    Some(Raw {
+        piece: piece_of(rooms.value_at(step.value)),
+        next: step.rest.at,
+    })
 }
 
 // The first piece of a feature list from a position on.
-fn raw_next(tree: &[u8], store: &[u8], made: usize, f: Features, at: usize) -> Raw
-    requires { Rooms tree.now made × (at ≤ piece.bound tree.now store.now made f) }
-    ensures { piece.StepsIn tree.now store.now made f at result }
+fn raw_next(rooms: Rooms<'_>, f: Features, at: usize) -> Option<Raw>
+    requires { at ≤ on piece.bound rooms f }
+    ensures { on piece.StepsIn rooms.entry f at result }
 {
     match f {
-        Features::Absent => Raw::End,
-        Features::Words { from, len } => raw_word(store, from, len, at),
-        Features::Items(place) => raw_item(tree, store, made, place, at),
+        Features::Absent => None,
+        Features::Words { from, len } => raw_word(rooms.store, from, len, at),
+        Features::Items(place) => raw_item(rooms, place, at),
     }
 }
 
 // Whether a feature list has no item.
-pub fn is_empty(tree: &[u8], store: &[u8], made: usize, f: Features) -> bool
-    requires { Rooms tree.now made }
-    ensures { result ≡ nil? (piece.pieces tree.now store.now made f) }
+pub fn is_empty(rooms: Rooms<'_>, f: Features) -> bool
+    ensures { result ≡ nil? (on piece.pieces rooms.entry f) }
 {
-    let r = raw_next(tree, store, made, f, 0);
-    match r {
-        Raw::End => true,
-        Raw::At(_, _) => false,
-    }
+    raw_next(rooms, f, 0).is_none()
 }
 
 fn is_text(v: Value) -> bool
@@ -134,27 +118,21 @@ fn kind_fault(fault: u32, v: Value) -> u32
 }
 
 // Too many items come before those that are no text; one walk tells both, for a walk looks at every value made.
-fn items_fault(tree: &[u8], store: &[u8], made: usize, place: u16, limit: usize) -> u32
-    requires { Rooms tree.now made }
-    ensures { result ≡ piece.items_fault tree.now store.now made limit place }
+fn items_fault(rooms: Rooms<'_>, place: u16, limit: usize) -> u32
+    ensures { result ≡ on piece.items_fault rooms.entry limit place }
 {
     let mut fault: u32 = 0;
     let mut n: usize = 0;
-    let mut w = tree::items_of(place, made);
-    loop {
-        let step = tree::next_item(tree, w);
-        match step {
-            Item::End => return fault,
-            Item::At { value, rest } => {
-                if n == limit {
-                    return TOO_MANY;
-                }
-                fault = kind_fault(fault, tree::value_at(tree, store, value));
-                n += 1;
-                w = rest;
-            }
+    let mut w = tree::items_of(place, rooms.made);
+    while let Some(step) = tree::next_item(rooms.tree, w) {
+        if n == limit {
+            return TOO_MANY;
         }
+        fault = kind_fault(fault, rooms.value_at(step.value));
+        n += 1;
+        w = step.rest;
     }
+    fault
 }
 
 fn refused_list(fault: u32) -> FeaturesRead
@@ -179,11 +157,10 @@ fn few_words(store: &[u8], from: usize, len: usize, limit: usize) -> FeaturesRea
     }
 }
 
-fn few_items(tree: &[u8], store: &[u8], made: usize, place: u16, limit: usize) -> FeaturesRead
-    requires { Rooms tree.now made }
-    ensures { result ≡ piece.few_items tree.now store.now made limit place }
+fn few_items(rooms: Rooms<'_>, place: u16, limit: usize) -> FeaturesRead
+    ensures { result ≡ on piece.few_items rooms.entry limit place }
 {
-    let fault = items_fault(tree, store, made, place, limit);
+    let fault = items_fault(rooms, place, limit);
     if fault != 0 {
         return refused_list(fault);
     }
@@ -194,14 +171,13 @@ fn few_items(tree: &[u8], store: &[u8], made: usize, place: u16, limit: usize) -
 }
 
 // The feature list that a value is, where limit items are allowed.
-pub fn read(tree: &[u8], store: &[u8], made: usize, v: Value, limit: usize) -> FeaturesRead
-    requires { Rooms tree.now made }
-    ensures { result ≡ piece.features_read tree.now store.now made limit v }
+pub fn read(rooms: Rooms<'_>, v: Value, limit: usize) -> FeaturesRead
+    ensures { result ≡ on piece.features_read rooms.entry limit v }
 {
     match v {
         Value::Absent => refused_list(0),
-        Value::Text { from, len } => few_words(store, from, len, limit),
-        Value::Array(place) => few_items(tree, store, made, place, limit),
+        Value::Text { from, len } => few_words(rooms.store, from, len, limit),
+        Value::Array(place) => few_items(rooms, place, limit),
         _ => refused_list(WRONG_KIND),
     }
 }
@@ -215,31 +191,25 @@ fn before(store: &[u8], p: Piece, q: Piece) -> bool
     slices::less(a, b)
 }
 
-fn comes_after(store: &[u8], after: Feature, p: Piece) -> bool
+fn comes_after(store: &[u8], after: Option<Piece>, p: Piece) -> bool
     ensures { result ≡ piece.comes_after store.now after p }
 {
-    match after {
-        Feature::Nothing => true,
-        Feature::At(q) => before(store, q, p),
-    }
+    after.is_none_or(|q| before(store, q, p))
 }
 
-fn comes_before(store: &[u8], best: Feature, p: Piece) -> bool
+fn comes_before(store: &[u8], best: Option<Piece>, p: Piece) -> bool
     ensures { result ≡ piece.ahead store.now best p }
 {
-    match best {
-        Feature::Nothing => true,
-        Feature::At(q) => before(store, p, q),
-    }
+    best.is_none_or(|q| before(store, p, q))
 }
 
 // The better of the best so far and p.
-fn better(store: &[u8], after: Feature, best: Feature, p: Piece) -> Feature
+fn better(store: &[u8], after: Option<Piece>, best: Option<Piece>, p: Piece) -> Option<Piece>
     ensures { result ≡ piece.better store.now after best p }
 {
     if comes_after(store, after, p) {
         if comes_before(store, best, p) {
-            return Feature::At(p);
+            return Some(p);
         }
         return best;
     }
@@ -247,37 +217,24 @@ fn better(store: &[u8], after: Feature, best: Feature, p: Piece) -> Feature
 }
 
 // Of a list's items from a position on, the least after the last one given.
-fn nearest(
-    tree: &[u8],
-    store: &[u8],
-    made: usize,
-    f: Features,
-    from: usize,
-    after: Feature,
-) -> Feature
-    requires { Rooms tree.now made × (from ≤ piece.bound tree.now store.now made f) }
-    ensures { result ≡ ordered.next_from tree.now store.now made f from after }
+fn nearest(rooms: Rooms<'_>, f: Features, from: usize, after: Option<Piece>) -> Option<Piece>
+    requires { from ≤ on piece.bound rooms f }
+    ensures { result ≡ on ordered.next_from rooms.entry f from after }
 {
-    let mut best = Feature::Nothing;
+    let mut best = None;
     let mut at = from;
-    loop {
-        let r = raw_next(tree, store, made, f, at);
-        match r {
-            Raw::End => return best,
-            Raw::At(p, n) => {
-                best = better(store, after, best, p);
-                at = n;
-            }
-        }
+    while let Some(raw) = raw_next(rooms, f, at) {
+        best = better(rooms.store, after, best, raw.piece);
+        at = raw.next;
     }
+    best
 }
 
 // The next item in byte order after the last one given, each once.
-pub fn next_feature(tree: &[u8], store: &[u8], made: usize, f: Features, after: Feature) -> Feature
-    requires { Rooms tree.now made }
-    ensures { result ≡ ordered.next_in tree.now store.now made f after }
+pub fn next_feature(rooms: Rooms<'_>, f: Features, after: Option<Piece>) -> Option<Piece>
+    ensures { result ≡ on ordered.next_in rooms.entry f after }
 {
-    nearest(tree, store, made, f, 0, after)
+    nearest(rooms, f, 0, after)
 }
 
 // Whether two pieces have the same bytes.
@@ -290,79 +247,61 @@ fn same_piece(store: &[u8], p: Piece, q: Piece) -> bool
 }
 
 // Whether both are there and have the same bytes, or neither is.
-fn same_feature(store: &[u8], x: Feature, y: Feature) -> bool
+fn same_feature(store: &[u8], x: Option<Piece>, y: Option<Piece>) -> bool
     ensures { result ≡ piece.same_feature store.now x y }
 {
-    match x {
-        Feature::Nothing => match y {
-            Feature::Nothing => true,
-            Feature::At(_) => false,
-        },
-        Feature::At(p) => match y {
-            Feature::Nothing => false,
-            Feature::At(q) => same_piece(store, p, q),
-        },
+    match (x, y) {
+        (Some(p), Some(q)) => same_piece(store, p, q),
+        _ => x.is_none() && y.is_none(),
     }
 }
 
 // Two lists with the same items in the order of the text are told by one scan of each.
-fn same_as_written(tree: &[u8], store: &[u8], made: usize, f: Features, g: Features) -> bool
-    requires { Rooms tree.now made }
-    ensures { ordered.AlikeIn tree.now store.now made f g result }
+fn same_as_written(rooms: Rooms<'_>, f: Features, g: Features) -> bool
+    ensures { on ordered.AlikeIn rooms.entry f g result }
 {
     let mut at = 0;
     let mut bt = 0;
     loop {
-        let r = raw_next(tree, store, made, f, at);
-        let s = raw_next(tree, store, made, g, bt);
-        match r {
-            Raw::End => match s {
-                Raw::End => return true,
-                Raw::At(_, _) => return false,
-            },
-            Raw::At(p, n) => match s {
-                Raw::End => return false,
-                Raw::At(q, m) => {
-                    if !same_piece(store, p, q) {
-                        return false;
-                    }
-                    at = n;
-                    bt = m;
-                }
-            },
+        let a = raw_next(rooms, f, at);
+        let b = raw_next(rooms, g, bt);
+        let (Some(r), Some(s)) = (a, b) else {
+            return a.is_none() && b.is_none();
+        };
+        if !same_piece(rooms.store, r.piece, s.piece) {
+            return false;
         }
+        at = r.next;
+        bt = s.next;
     }
 }
 
 // Side by side in byte order: each step scans both lists.
-fn equal_slow(tree: &[u8], store: &[u8], made: usize, f: Features, g: Features) -> bool
-    requires { Rooms tree.now made }
-    ensures { result ≡ ordered.equal_in tree.now store.now made f g }
+fn equal_slow(rooms: Rooms<'_>, f: Features, g: Features) -> bool
+    ensures { result ≡ on ordered.equal_in rooms.entry f g }
 {
-    let mut a = Feature::Nothing;
-    let mut b = Feature::Nothing;
+    let mut a = None;
+    let mut b = None;
     loop {
-        a = next_feature(tree, store, made, f, a);
-        b = next_feature(tree, store, made, g, b);
-        if !same_feature(store, a, b) {
+        a = next_feature(rooms, f, a);
+        b = next_feature(rooms, g, b);
+        if !same_feature(rooms.store, a, b) {
             return false;
         }
-        match a {
-            Feature::Nothing => return true,
-            Feature::At(_) => {}
+        if a.is_none() {
+            return true;
         }
     }
 }
 
 // Whether two lists have the same items, in byte order and each once.
-pub fn equal(tree: &[u8], store: &[u8], made: usize, f: Features, g: Features) -> bool
-    requires { Rooms tree.now made }
-    ensures { result ≡ ordered.equal_in tree.now store.now made f g }
+pub fn equal(rooms: Rooms<'_>, f: Features, g: Features) -> bool
+    ensures { result ≡ on ordered.equal_in rooms.entry f g }
 {
-    if same_as_written(tree, store, made, f, g) {
+    if same_as_written(rooms, f, g) {
         return true;
     }
-    equal_slow(tree, store, made, f, g)
+    equal_slow(rooms, f, g)
 }
 
 // No list has more items.
@@ -378,42 +317,44 @@ fn most_items(store: &[u8], made: usize, f: Features) -> usize
 
 // Among which values all items of a list stand: an array's between its first item and its newest, so that a walk
 // looks at no others.
-fn span(tree: &[u8], made: usize, f: Features) -> Fields
-    requires { Rooms tree.now made }
-    ensures { result ≡ piece.span tree.now made f }
+fn span(rooms: Rooms<'_>, f: Features) -> Fields
+    ensures { result ≡ piece.span rooms.entry.tree.now rooms.entry.made f }
 {
     match f {
-        Features::Items(place) => tree::fields_at(tree, made, place),
+        Features::Items(place) => rooms.fields_at(place),
         _ => Fields {
             place: 0,
             from: 0,
-            to: made,
+            to: rooms.made,
         },
     }
 }
 
 // How many items a list has from a position on, each once.
-fn tally(tree: &[u8], store: &[u8], made: usize, f: Features, from: usize) -> usize
-    requires { Rooms tree.now made × (from ≤ piece.bound tree.now store.now made f) }
-    ensures { result ≡ ordered.count_from tree.now store.now made f from }
+fn tally(rooms: Rooms<'_>, f: Features, from: usize) -> usize
+    requires { from ≤ on piece.bound rooms f }
+    ensures { result ≡ on ordered.count_from rooms.entry f from }
 {
-    let end = most_items(store, made, f);
-    let mut after = Feature::Nothing;
+    let end = most_items(rooms.store, rooms.made, f);
+    let mut after = None;
     for n in 0..end {
-        after = nearest(tree, store, made, f, from, after);
-        match after {
-            Feature::Nothing => return n,
-            Feature::At(_) => {}
+        after = nearest(rooms, f, from, after);
+        if after.is_none() {
+            return n;
         }
     }
     end
 }
 
 // How many items a list has, each once.
-pub fn count_features(tree: &[u8], store: &[u8], made: usize, f: Features) -> usize
-    requires { Rooms tree.now made }
-    ensures { result ≡ length (ordered.in_order tree.now store.now made f) }
+pub fn count_features(rooms: Rooms<'_>, f: Features) -> usize
+    ensures { result ≡ length (on ordered.in_order rooms.entry f) }
 {
-    let s = span(tree, made, f);
-    tally(tree, store, s.to, f, s.from)
+    let s = span(rooms, f);
+    let within = Rooms {
+        tree: rooms.tree,
+        store: rooms.store,
+        made: s.to,
+    };
+    tally(within, f, s.from)
 }

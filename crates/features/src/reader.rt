@@ -7,9 +7,9 @@ ghost use Rattle.features.specs.Reading as reading;
 
 // A word of a string, from its first byte to the place after its last.
 #[derive(Clone, Copy)]
-pub enum Word {
-    End,
-    At { from: usize, to: usize },
+pub struct Word {
+    pub from: usize,
+    pub to: usize,
 }
 
 // The functions over it are thin: they call those with plain parameters.
@@ -22,7 +22,7 @@ pub struct Reader<'a> {
 // The word that a reader stands before, and the reader after it.
 #[derive(Clone, Copy)]
 pub struct Step<'a> {
-    pub word: Word,
+    pub word: Option<Word>,
     pub rest: Reader<'a>,
 }
 
@@ -65,35 +65,15 @@ fn stop(s: &[u8], at: usize) -> usize
 }
 
 // The first word from a place on.
-fn word_at(s: &[u8], at: usize) -> Word
+fn word_at(s: &[u8], at: usize) -> Option<Word>
     ensures { result ≡ reading.word_at s.now at }
 {
     let a = skip(s, at);
     let b = stop(s, a);
     if a < b {
-        return Word::At { from: a, to: b };
+        return Some(Word { from: a, to: b });
     }
-    Word::End
-}
-
-// The place after a word; of the end, the place where it was met.
-fn after_word(word: Word, at: usize) -> usize
-    ensures { result ≡ reading.after_word word at }
-{
-    match word {
-        Word::End => at,
-        Word::At { from: _, to } => to,
-    }
-}
-
-// Whether it is a word and not the end.
-fn found(word: Word) -> bool
-    ensures { result ≡ reading.found word }
-{
-    match word {
-        Word::End => false,
-        Word::At { from: _, to: _ } => true,
-    }
+    None
 }
 
 pub fn new<'a>(words: &'a [u8], at: usize) -> Reader<'a>
@@ -106,7 +86,7 @@ pub fn next<'a>(here: Reader<'a>) -> Step<'a>
     ensures { result ≡ reading.stepped here.entry }
 {
     let word = word_at(here.words, here.at);
-    let at = after_word(word, here.at);
+    let at = word.map_or(here.at, |w| w.to);
     let rest = Reader {
         words: here.words,
         at,
@@ -115,7 +95,7 @@ pub fn next<'a>(here: Reader<'a>) -> Step<'a>
 }
 
 // The first word from a place on, by the reader.
-pub fn first(words: &[u8], at: usize) -> Word
+pub fn first(words: &[u8], at: usize) -> Option<Word>
     ensures { result ≡ reading.word_at words.now at }
 {
     next(new(words, at)).word
@@ -127,7 +107,7 @@ pub fn count(words: &[u8]) -> usize
 {
     let mut n = 0;
     let mut here = next(new(words, 0));
-    while found(here.word) {
+    while here.word.is_some() {
         here = next(here.rest);
         n += 1;
     }

@@ -8,12 +8,14 @@ use native.Mathlib.Nat.{zero-add}
 use borrow.Author.Tests.{lt-ltb, le-ltb, ltb-false, eq-eqb, ne_eqb}
 use lib.Dec.{eqb, ltb}
 use lib.ListN.{length}
+use Rattle.std.specs.Prelude.{Result, Ok, Err}
 use Rattle.meaning.specs.Base.{zeros}
+use Rattle.meaning.specs.Numbered.{number}
 use Rattle.laws.specs.Cases.{on}
 use Rattle.values.specs.declared.State.{State}
-use Rattle.values.specs.declared.Reply.{Reply}
-use Rattle.values.specs.declared.Reply.TheVariants.{Fine, Fault}
-use Rattle.values.specs.Out.{moved, cells, Ready, Filled}
+use Rattle.values.specs.declared.Stopped.{Stopped}
+use Rattle.values.specs.Out.{cells, Ready, Filled}
+use Rattle.values.proofs.Outs.{went, failed}
 use Rattle.toml_lite.specs.Rooms.{suffice}
 use Rattle.toml_lite.proofs.Reading.{suffices}
 use Rattle.host.specs.declared.single_values.ValueRead.{ValueRead}
@@ -70,34 +72,21 @@ module _ (s store tree z t : List ℕ) (ez : z ≡ zeros (length store)) (et : t
     fault_is : value_fault s store tree ≡ (out_of s).fault
     fault_is = rw (← same_sizes, eq-eqb n 0 h)
 
-    module _ (z' t' : List ℕ) (r : Reply) (f : Filled 2048 s z t z' t' (record { used = 0; made = 0 }) (out_of s) r) where
-      pub read_out : (e : State) → r ≡ Fine e → Readout s store tree z' t' (record { number = 0; used = e.used; made = e.made })
+    module _ (z' t' : List ℕ) (r : Result State Stopped) (f : Filled 2048 s z t z' t' (record { used = 0; made = 0 }) (out_of s) r) where
+      pub read_out : (e : State) → r ≡ Ok e → Readout s store tree z' t' (record { number = 0; used = e.used; made = e.made })
       read_out e q =
-          on (eqb (out_of s).fault 0)
-          (λ p.
-          let g : Fine e ≡ Fine (moved (record { used = 0; made = 0 }) (out_of s)) = sym q ∙ rw p at f.says in
-          let m : e ≡ moved (record { used = 0; made = 0 }) (out_of s) = cc in
+          let g = went (record { used = 0; made = 0 }) (out_of s) r f.says e q in
+          let p : eqb (out_of s).fault 0 ≡ true = eq-eqb (out_of s).fault 0 g.calm in
           record {
-            says = rw (fault_is, p, m, zero-add (length (out_of s).bytes), zero-add (length (out_of s).slots));
+            says = rw (fault_is, p, ← g.there, zero-add (length (out_of s).bytes), zero-add (length (out_of s).slots));
             store_is = rw (fault_is, p) (rw ez at f.store_is ∙ over_stored (out_of s).bytes (zeros (length store)));
             tree_is = rw (fault_is, p) (rw et at f.tree_is ∙ over_stored (cells (out_of s).slots) (zeros (length tree)));
-          })
-          (λ p.
-          let g : Fine e ≡ Fault (out_of s).fault (moved (record { used = 0; made = 0 }) (out_of s)) = sym q ∙ rw p at f.says in
-          let x : ◌≡◌ {A = ℕ} 0 1 = cc in
-          absurd (omega arith))
+          }
 
       module _ (y x : List ℕ) (ey : y ≡ zeros (length z')) (ex : x ≡ zeros (length t')) (lz : length z' ≡ length z) (lt : length t' ≡ length t) where
-        pub fault_out : (m : ℕ) (e : State) (v : ValueRead) → r ≡ Fault m e → v ≡ record { number = m; used = 0; made = 0 } → Readout s store tree y x v
-        fault_out m e v q w =
+        pub fault_out : (e : Stopped) (n : ℕ) (v : ValueRead) → r ≡ Err e → n ≡ number e.refused → v ≡ record { number = n; used = 0; made = 0 } → Readout s store tree y x v
+        fault_out e n v q k w =
             let a : y ≡ zeros (length store) = ey ∙ ap zeros (lz ∙ ap length ez ∙ length_zeros (length store)) in
             let b : x ≡ zeros (length tree) = ex ∙ ap zeros (lt ∙ ap length et ∙ length_zeros (length tree)) in
-            on (eqb (out_of s).fault 0)
-            (λ p.
-            let g : Fault m e ≡ Fine (moved (record { used = 0; made = 0 }) (out_of s)) = sym q ∙ rw p at f.says in
-            let i : ◌≡◌ {A = ℕ} 0 1 = cc in
-            absurd (omega arith))
-            (λ p.
-            let g : Fault m e ≡ Fault (out_of s).fault (moved (record { used = 0; made = 0 }) (out_of s)) = sym q ∙ rw p at f.says in
-            let i : m ≡ (out_of s).fault = cc in
-            record { says = w ∙ rw (fault_is, p, i); store_is = rw (fault_is, p) a; tree_is = rw (fault_is, p) b })
+            let g = failed (record { used = 0; made = 0 }) (out_of s) r f.says e q in
+            record { says = w ∙ rw (fault_is, g.fails, g.code, k); store_is = rw (fault_is, g.fails) a; tree_is = rw (fault_is, g.fails) b }

@@ -1,5 +1,5 @@
 -- The exports of whole presets: an answer in 01's words, and what the rooms hold then.
-use Rattle.std.specs.Prelude.{ℕ, ◌/◌, List, ◌≡◌, eqb, ltb, length}
+use Rattle.std.specs.Prelude.{ℕ, ◌/◌, List, ◌≡◌, eqb, ltb, length, Option, Some, None}
 use Rattle.meaning.specs.Base.{pick}
 use Rattle.meaning.specs.Limits.{of01}
 use Rattle.meaning.specs.Refusal.{Answer, accepted, refused, number_of}
@@ -7,9 +7,6 @@ use Rattle.meaning.specs.Rooms.{room_after}
 use Rattle.meaning.specs.Tree.{table}
 use Rattle.meaning.specs.Document.{Parsed, in_rooms}
 use Rattle.tree.specs.declared.Slot.{Slot}
-use Rattle.tree.specs.declared.Found.{Found}
-use Rattle.tree.specs.declared.Found.TheVariants.{Nothing}
-use Rattle.tree.specs.declared.Found.TheVariants as founds
 use Rattle.tree.specs.Room.{slot_at, look, child}
 use Rattle.tree.specs.Order.{next}
 use Rattle.agree.specs.Steps.{Agree}
@@ -46,13 +43,13 @@ pub record Presented (s store tree store' tree' : List ℕ) (r : Outcome) : Type
   pub shows : Shows store' tree' (parsed s store tree)
 
 -- ---- views
-abbrev pub at_of : Found → At
-at_of (founds.At n) = record { found = 1; number = n }
-at_of Nothing = record { found = 0; number = 0 }
+abbrev pub at_of : Option ℕ → At
+at_of (Some n) = record { found = 1; number = n }
+at_of None = record { found = 0; number = 0 }
 
 -- a search among more values than the room has finds nothing
-abbrev pub within : List ℕ → ℕ → Found → At
-within tree made f = at_of (pick (ltb (length tree / 32) made) Nothing f)
+abbrev pub within : List ℕ → ℕ → Option ℕ → At
+within tree made f = at_of (pick (ltb (length tree / 32) made) None f)
 
 abbrev pub key_shown : List ℕ → List ℕ → ℕ → ℕ → List ℕ → At
 key_shown tree store made parent key = within tree made (look tree store made parent key)
@@ -60,8 +57,8 @@ key_shown tree store made parent key = within tree made (look tree store made pa
 abbrev pub child_shown : List ℕ → ℕ → ℕ → ℕ → At
 child_shown tree made parent from = within tree made (child tree made parent from)
 
-abbrev pub last_visited : ℕ → ℕ → Found
-last_visited begun after = pick (eqb begun 0) Nothing (founds.At after)
+abbrev pub last_visited : ℕ → ℕ → Option ℕ
+last_visited begun after = pick (eqb begun 0) None (Some after)
 
 -- children in byte order of key
 abbrev pub next_shown : List ℕ → List ℕ → ℕ → ℕ → ℕ → ℕ → At

@@ -1,5 +1,5 @@
 -- An accepted plan: what the views read from its rooms is 01's plan.
-use Rattle.std.specs.Prelude.{ℕ, zero, suc, ◌+◌, ◌≤◌, ◌<◌, ◌≡◌, ltb, length, get_or}
+use Rattle.std.specs.Prelude.{ℕ, zero, suc, ◌+◌, ◌≤◌, ◌<◌, ◌≡◌, ltb, length, get_or, Option as Maybe, Some, None}
 use mathlib.Core.List.{List, [], ◌∷◌, map}
 use Rattle.std.proofs.Math.Option.{Option, none, some}
 use Rattle.std.proofs.Math.Path.{refl, sym, ap}
@@ -28,12 +28,9 @@ use Rattle.validate.specs.Gathered.{components}
 use Rattle.plan.specs.declared.choice.Choice.{Choice}
 use Rattle.plan.specs.declared.choice.Choice.TheVariants as choices
 use Rattle.plan.specs.declared.component.Build.{Build}
-use Rattle.plan.specs.declared.builds.BuildFound.{BuildFound}
-use Rattle.plan.specs.declared.builds.BuildFound.TheVariants as builds
 use Rattle.plan.specs.Choices.{choice, fault}
 use Rattle.plan.specs.ChoiceSaid.{selection, selected, Met, plan_says}
 use Rattle.plan.specs.declared.component.Planned as composing
-use Rattle.plan.specs.declared.component.PlannedFound.TheVariants as founds
 use Rattle.plan.specs.Planned as composed
 use Rattle.plan.specs.Stems as stems
 use Rattle.plan.specs.StemSaid.{stem_means}
@@ -87,9 +84,9 @@ module _ (text name : List ℕ) (app : ℕ) (key store tree : List ℕ) where
 -- ---- what the rooms of a plan show
 
 module _ (room store : List ℕ) (made : ℕ) (name : List ℕ) where
-  abbrev pub built_meant : BuildFound → Option meant.Build
-  built_meant builds.Nothing = none
-  built_meant (builds.At b) = some (build_meant room store made name b)
+  abbrev pub built_meant : Maybe Build → Option meant.Build
+  built_meant None = none
+  built_meant (Some b) = some (build_meant room store made name b)
 
 -- components and builds by number, and how many there are; the partition of each component's reference, and the stem
 pub record Composed (name store tree : List ℕ) (app : ℕ) (key : List ℕ) (made : ℕ) (q : meant.Plan) : Type 0 where
@@ -97,7 +94,7 @@ pub record Composed (name store tree : List ℕ) (app : ℕ) (key : List ℕ) (m
   pub builds : (i : ℕ) → built_meant tree store made name (needed.build tree store made (chosen tree store made app key) i) ≡ entry_at q.builds i
   pub built : (i : ℕ) → build_shown tree store made app key i ≡ build_of (needed.build tree store made (chosen tree store made app key) i)
   pub counts : counts_shown tree store made app key ≡ record { components = length q.components; builds = length q.builds }
-  pub target : (i : ℕ) (p : composing.Planned) → component tree store made app key i ≡ founds.At p
+  pub target : (i : ℕ) (p : composing.Planned) → component tree store made app key i ≡ Some p
       → target_meant tree store made name (target_of tree store made (component tree store made app key i)) ≡ meant.partition_for q.partitions (planned_meant tree store made name p).spec.role.partition
   pub targeted : (i : ℕ) → target_shown tree store made (component tree store made app key i) ≡ partition_of (target_of tree store made (component tree store made app key i))
   pub stem : spelled store name (stems.stem tree store made name (chosen tree store made app key)) ≡ q.stem
@@ -211,7 +208,7 @@ module _ (name store tree : List ℕ) (app : ℕ) (key : List ℕ) (p : Read) (h
   unfolding meant.composed
   stem_is = stem_means tree store made name app key declared_key ∙ ap (λ (r : meant.Plan). r.stem) says.1
 
-  target_is : (i : ℕ) (p : composing.Planned) → composed.component tree store made c i ≡ founds.At p
+  target_is : (i : ℕ) (p : composing.Planned) → composed.component tree store made c i ≡ Some p
       → target_meant tree store made name (target_of tree store made (composed.component tree store made c i)) ≡ meant.partition_for q.partitions (planned_meant tree store made name p).spec.role.partition
   target_is i p d =
       rw d (planned_target tree store made name parts_read.0 parts_read.1 c i p d ∙ ap (λ (ps : List schemas.Partition). meant.partition_for ps (planned_meant tree store made name p).spec.role.partition) partitions_are)

@@ -1,5 +1,9 @@
 -- Views of the records: what stands in the rooms, as numbers. Where there is no such record all is 0.
-use Rattle.std.specs.Prelude.{ℕ, Bool, true, false, List, [], ◌≡◌, eqb, ltb, length}
+use Rattle.std.specs.Prelude.{ℕ, Bool, true, false, List, [], ◌≡◌, eqb, ltb, length, Option, Some, None}
+use Rattle.features.specs.declared.Piece.{Piece}
+use Rattle.schema.specs.declared.Application.{Application}
+use Rattle.schema.specs.declared.Component.{Component}
+use Rattle.schema.specs.declared.Partition.{Partition}
 use Rattle.meaning.specs.Base.{pick, zeros}
 use Rattle.meaning.specs.Rooms.{over}
 use Rattle.tree.specs.Doors.{fields_of}
@@ -7,8 +11,6 @@ use Rattle.schema.specs.declared.Word.{Word}
 use Rattle.schema.specs.declared.Word.TheVariants as words
 use Rattle.schema.specs.declared.Text.{Text}
 use Rattle.schema.specs.declared.Text.TheVariants as texts
-use Rattle.schema.specs.declared.Number.{Number}
-use Rattle.schema.specs.declared.Number.TheVariants as numbers
 use Rattle.schema.specs.declared.Features.{Features}
 use Rattle.schema.specs.declared.Features.TheVariants as lists
 use Rattle.schema.specs.declared.Chip.{Chip}
@@ -20,16 +22,8 @@ use Rattle.schema.specs.declared.Kind.TheVariants as kinds
 use Rattle.schema.specs.declared.Board.{Board}
 use Rattle.schema.specs.declared.Image.{Image}
 use Rattle.schema.specs.Words.{word}
-use Rattle.features.specs.declared.Feature.{Feature}
-use Rattle.features.specs.declared.Feature.TheVariants as items
 use Rattle.features.specs.Pieces.{pieces, next_of}
 use Rattle.parse.specs.declared.front.Front.{Front}
-use Rattle.parse.specs.declared.view.PartitionFound.{PartitionFound}
-use Rattle.parse.specs.declared.view.PartitionFound.TheVariants as partitions
-use Rattle.parse.specs.declared.view.ComponentFound.{ComponentFound}
-use Rattle.parse.specs.declared.view.ComponentFound.TheVariants as components
-use Rattle.parse.specs.declared.view.ApplicationFound.{ApplicationFound}
-use Rattle.parse.specs.declared.view.ApplicationFound.TheVariants as applications
 use Rattle.parse.specs.Front.{front_read}
 use Rattle.parse.specs.declared.view.Counts as counted
 use Rattle.parse.specs.Views as views
@@ -77,9 +71,9 @@ bytes_of texts.Lent = record { kind = 2; word = 0; from = 0; len = 0 }
 bytes_of (texts.Fixed w) = record { kind = 3; word = word_number w; from = 0; len = 0 }
 bytes_of (texts.WithAic from len) = record { kind = 4; word = 0; from = from; len = len }
 
-abbrev pub amount_of : Number → Amount
-amount_of numbers.Absent = record { kind = 0; number = 0 }
-amount_of (numbers.Of n) = record { kind = 1; number = n }
+abbrev pub amount_of : Option ℕ → Amount
+amount_of None = record { kind = 0; number = 0 }
+amount_of (Some n) = record { kind = 1; number = n }
 
 abbrev pub list_of : Features → FeatureList
 list_of lists.Absent = record { kind = 0; from = 0; len = 0 }
@@ -108,7 +102,7 @@ abbrev pub no_bytes : Bytes
 no_bytes = bytes_of texts.Absent
 
 abbrev pub no_amount : Amount
-no_amount = amount_of numbers.Absent
+no_amount = amount_of None
 
 abbrev pub no_list : FeatureList
 no_list = list_of lists.Absent
@@ -140,13 +134,13 @@ image_of i =
 abbrev pub no_partition : PartitionView
 no_partition = record { found = 0; offset = 0; size = 0; from = 0; len = 0; locked = 0 }
 
-abbrev pub partition_of : PartitionFound → PartitionView
-partition_of partitions.Nothing = no_partition
-partition_of (partitions.At p) = record { found = 1; offset = p.offset; size = p.size; from = p.from; len = p.len; locked = flag_number p.locked }
+abbrev pub partition_of : Option Partition → PartitionView
+partition_of None = no_partition
+partition_of (Some p) = record { found = 1; offset = p.offset; size = p.size; from = p.from; len = p.len; locked = flag_number p.locked }
 
-abbrev pub head_of : ComponentFound → HeadView
-head_of components.Nothing = record { found = 0; kind = 0; name = no_bytes; «package» = no_bytes; bin = no_bytes; file = no_bytes; filename = no_bytes }
-head_of (components.At c) =
+abbrev pub head_of : Option Component → HeadView
+head_of None = record { found = 0; kind = 0; name = no_bytes; «package» = no_bytes; bin = no_bytes; file = no_bytes; filename = no_bytes }
+head_of (Some c) =
     record {
       found = 1;
       kind = kind_number c.head.kind;
@@ -157,9 +151,9 @@ head_of (components.At c) =
       filename = bytes_of c.head.filename;
     }
 
-abbrev pub role_of : ComponentFound → RoleView
-role_of components.Nothing = record { found = 0; features = no_list; pbp_features = no_list; partition = no_bytes; attr = no_bytes; target_attr = no_bytes; target_filename = no_bytes }
-role_of (components.At c) =
+abbrev pub role_of : Option Component → RoleView
+role_of None = record { found = 0; features = no_list; pbp_features = no_list; partition = no_bytes; attr = no_bytes; target_attr = no_bytes; target_filename = no_bytes }
+role_of (Some c) =
     record {
       found = 1;
       features = list_of c.role.features;
@@ -170,9 +164,9 @@ role_of (components.At c) =
       target_filename = bytes_of c.role.target_filename;
     }
 
-abbrev pub boot_of : ComponentFound → BootView
-boot_of components.Nothing = record { found = 0; updater = 0; ram = no_amount; pbp = no_bytes; pbp_package = no_bytes; private = no_bytes }
-boot_of (components.At c) =
+abbrev pub boot_of : Option Component → BootView
+boot_of None = record { found = 0; updater = 0; ram = no_amount; pbp = no_bytes; pbp_package = no_bytes; private = no_bytes }
+boot_of (Some c) =
     record {
       found = 1;
       updater = flag_number c.boot.updater;
@@ -182,9 +176,9 @@ boot_of (components.At c) =
       private = bytes_of c.boot.private;
     }
 
-abbrev pub load_of : ComponentFound → LoadView
-load_of components.Nothing = record { found = 0; with_ext = 0; ext_reserve = 0; load_address = no_amount; entry_point = no_amount; entry_offset = no_amount; header_version = no_amount }
-load_of (components.At c) =
+abbrev pub load_of : Option Component → LoadView
+load_of None = record { found = 0; with_ext = 0; ext_reserve = 0; load_address = no_amount; entry_point = no_amount; entry_offset = no_amount; header_version = no_amount }
+load_of (Some c) =
     record {
       found = 1;
       with_ext = flag_number c.load.with_ext;
@@ -199,9 +193,9 @@ abbrev pub no_application : ApplicationView
 no_application =
     record { found = 0; «package» = no_bytes; name = no_bytes; partition = no_bytes; filename = no_bytes; attr = no_bytes; features = no_list; load_address = no_amount; entry_offset = no_amount }
 
-abbrev pub application_of : ApplicationFound → ApplicationView
-application_of applications.Nothing = no_application
-application_of (applications.At a) =
+abbrev pub application_of : Option Application → ApplicationView
+application_of None = no_application
+application_of (Some a) =
     record {
       found = 1;
       «package» = bytes_of a.«package»;
@@ -236,8 +230,8 @@ module _ (room store : List ℕ) (made : ℕ) where
   abbrev pub partition_shown : ℕ → PartitionView
   partition_shown i = pick (holds_values room made) (partition_of (views.partition room store made i)) no_partition
 
-  abbrev pub component : ℕ → ComponentFound
-  component i = pick (holds_values room made) (views.component room store made i 32) components.Nothing
+  abbrev pub component : ℕ → Option Component
+  component i = pick (holds_values room made) (views.component room store made i 32) None
 
   abbrev pub application_shown : ℕ → ApplicationView
   application_shown i = pick (holds_values room made) (application_of (views.application room store made i 32)) no_application
@@ -250,16 +244,16 @@ counts_of c = record { partitions = c.partitions; components = c.components; app
 unfoldable pub features_by : ℕ → ℕ → ℕ → Features
 features_by kind from len = pick (eqb kind 1) (lists.Words from len) (pick (eqb kind 2) (pick (ltb from 65536) (lists.Items from) lists.Absent) lists.Absent)
 
-unfoldable pub last_item : ℕ → ℕ → ℕ → Feature
-last_item begun last size = pick (eqb begun 0) items.Nothing (items.At (record { from = last; len = size }))
+unfoldable pub last_item : ℕ → ℕ → ℕ → Option Piece
+last_item begun last size = pick (eqb begun 0) None (Some (record { from = last; len = size }))
 
-abbrev pub feature_of : Feature → FeatureView
-feature_of items.Nothing = record { found = 0; from = 0; len = 0 }
-feature_of (items.At p) = record { found = 1; from = p.from; len = p.len }
+abbrev pub feature_of : Option Piece → FeatureView
+feature_of None = record { found = 0; from = 0; len = 0 }
+feature_of (Some p) = record { found = 1; from = p.from; len = p.len }
 
 abbrev pub feature_shown : List ℕ → List ℕ → ℕ → ℕ → ℕ → ℕ → ℕ → ℕ → ℕ → FeatureView
 feature_shown room store made kind from len begun last size =
-    pick (holds_values room made) (feature_of (next_of store (last_item begun last size) items.Nothing (pieces room store made (features_by kind from len)))) (feature_of items.Nothing)
+    pick (holds_values room made) (feature_of (next_of store (last_item begun last size) None (pieces room store made (features_by kind from len)))) (feature_of None)
 
 -- ---- words
 

@@ -1,15 +1,16 @@
 -- What the exports of the text layer say, in the words of the definitions.
-use Rattle.std.specs.Prelude.{ℕ, List, ◌≡◌, ltb, length}
+use Rattle.std.specs.Prelude.{ℕ, List, ◌≡◌, ltb, length, None, Some, Ok, Err}
 use Rattle.meaning.specs.Base.{pick}
 use Rattle.meaning.specs.Limits.{of01}
+use Rattle.meaning.specs.Numbered.{number}
 use Rattle.meaning.specs.Refusal.{Answer, accepted, refused, number_of, at_no_line}
 use Rattle.meaning.specs.Rooms.{room_after}
 use Rattle.meaning.specs.Lines as meant
 use Rattle.chars.specs.declared.Span as chars
-use Rattle.text.specs.declared.Next.{Next}
-use Rattle.text.specs.declared.Next.TheVariants as nexts
+use Rattle.text.specs.declared.Laid.{Laid}
 use Rattle.text.specs.Laid.{laid}
-use Rattle.text.specs.Answers.{Count, measured}
+use Rattle.text.specs.Answers.{measured}
+use Rattle.text.specs.Walk.{Next}
 use Rattle.host.specs.declared.Span.{Span}
 use Rattle.host.specs.declared.Scanned.{Scanned}
 use Rattle.meaning.specs.declared.Scan.{Scan}
@@ -33,7 +34,7 @@ abbrev pub scanned : Scan → Scanned
 scanned c = record { state = state_number c.state; opens = c.opens; closes = c.closes }
 
 -- number 0 and the counts of an accepted text; or 01's number, section and place, and no counts
-abbrev pub lines_of : Answer Count → Lines
+abbrev pub lines_of : Answer Laid → Lines
 lines_of (accepted c) = record { number = 0; section = 0; place = 0; lines = c.lines; used = c.used }
 lines_of (refused f s p) = record { number = number_of f; section = s; place = p; lines = 0; used = 0 }
 
@@ -42,7 +43,7 @@ abbrev pub refused_at : ℕ → ℕ → Lines
 refused_at n p = record { number = n; section = 0; place = p; lines = 0; used = 0 }
 
 -- 17, "a lent room is too small", comes before 1 to 4
-abbrev pub judged : List ℕ → List ℕ → Answer Count
+abbrev pub judged : List ℕ → List ℕ → Answer Laid
 judged s room = pick (ltb (length room) 32769) (at_no_line 17) (measured (length (laid s)) (meant.lines of01 s))
 
 -- an accepted text leaves its laid lines
@@ -56,7 +57,6 @@ no_line kind line = record { kind = kind; line = line; from = 0; end = 0; next =
 
 -- kind 0: no line is left; 1: a joined line; 3 and 4: that refusal
 abbrev pub line_of : Next → Line
-line_of nexts.End = no_line 0 0
-line_of (nexts.Over n) = no_line 3 n
-line_of (nexts.Open n) = no_line 4 n
-line_of (nexts.Line f e n p) = record { kind = 1; line = n; from = f; end = e; next = p.at; next_line = p.line }
+line_of (Ok None) = no_line 0 0
+line_of (Ok (Some l)) = record { kind = 1; line = l.line; from = l.from; end = l.end; next = l.next.at; next_line = l.next.line }
+line_of (Err u) = no_line (number u.refused) u.line

@@ -4,9 +4,6 @@ ghost use Rattle.std.specs.Prelude.{◌≡◌};
 ghost use Rattle.meaning.specs.Limits.{value_bytes};
 ghost use Rattle.host.specs.Documents.{Presented, at_of, key_shown, child_shown, last_visited, next_shown};
 
-use toml_lite::Read;
-use tree::{Found, Item, Key};
-
 // number 0: accepted, and then made counts the values; else 01's number, section and place.
 #[repr(C)]
 #[derive(Clone, Copy)]
@@ -37,32 +34,31 @@ pub fn document_read(text: &[u8], store: &mut [u8], tree: &mut [u8]) -> Outcome
     ensures { Presented text.now store.old tree.old store.new
         tree.new result }
 {
-    let r = toml_lite::read_tree(text, store, tree);
-    match r {
-        Read::Fine(st) => Outcome {
+    match toml_lite::read_tree(text, store, tree) {
+        Ok(st) => Outcome {
             number: 0,
             section: 0,
             place: 0,
             made: st.made as u32,
         },
-        Read::Fault { number, line } => Outcome {
-            number,
+        Err(e) => Outcome {
+            number: e.refused.number(),
             section: 0,
-            place: line as u32,
+            place: e.line as u32,
             made: 0,
         },
     }
 }
 
-fn at_of(f: Found) -> At
+fn at_of(f: Option<usize>) -> At
     ensures { result ≡ at_of f }
 {
     match f {
-        Found::At(n) => At {
+        Some(n) => At {
             found: 1,
             number: n,
         },
-        Found::Nothing => At {
+        None => At {
             found: 0,
             number: 0,
         },
@@ -74,7 +70,7 @@ pub fn preset_tree_find(tree: &[u8], store: &[u8], made: usize, parent: u16, key
     ensures { result ≡ key_shown tree.now store.now made parent key.now }
 {
     if tree::capacity(tree) < made {
-        return at_of(Found::Nothing);
+        return at_of(None);
     }
     at_of(tree::find_child(tree, store, made, parent, key))
 }
@@ -84,23 +80,17 @@ pub fn preset_tree_child(tree: &[u8], made: usize, parent: u16, from: usize) -> 
     ensures { result ≡ child_shown tree.now made parent from }
 {
     if tree::capacity(tree) < made {
-        return at_of(Found::Nothing);
+        return at_of(None);
     }
-    let step = tree::next_item(tree, tree::items_from(parent, from, made));
-    match step {
-        Item::At { value, rest: _ } => at_of(Found::At(value)),
-        Item::End => at_of(Found::Nothing),
-    }
+    let item = tree::next_item(tree, tree::items_from(parent, from, made));
+    at_of(item.map(|i| i.value))
 }
 
 // Where a walk in byte order stands: at its start, or after a value.
-fn last_visited(begun: u32, after: usize) -> Found
+fn last_visited(begun: u32, after: usize) -> Option<usize>
     ensures { result ≡ last_visited begun after }
 {
-    if begun == 0 {
-        return Found::Nothing;
-    }
-    Found::At(after)
+    (begun != 0).then_some(after)
 }
 
 // The value under the parent with the least key of all (begun 0), or with the least key above that of value number
@@ -116,12 +106,9 @@ pub fn preset_tree_next(
     ensures { result ≡ next_shown tree.now store.now made parent begun after }
 {
     if tree::capacity(tree) < made {
-        return at_of(Found::Nothing);
+        return at_of(None);
     }
     let w = tree::keys_after(tree, parent, made, last_visited(begun, after));
-    let step = tree::next_key(tree, store, w);
-    match step {
-        Key::At { value, rest: _ } => at_of(Found::At(value)),
-        Key::End => at_of(Found::Nothing),
-    }
+    let key = tree::next_key(tree, store, w);
+    at_of(key.map(|k| k.value))
 }

@@ -38,7 +38,6 @@ pub use single_values::{
     Number, Segments, Spelling, Value, ValueRead, preset_tree_slot, preset_value_int,
     preset_value_key, preset_value_key_end, preset_value_read, preset_value_string,
 };
-use text::{Next, Reading};
 
 // A part of a byte string, by its first byte and the byte after its last.
 #[repr(C)]
@@ -149,24 +148,17 @@ fn no_line(kind: u32, line: usize) -> Line
 pub fn preset_text_next(laid: &[u8], at: usize, line: u32) -> Line
     ensures { result ≡ line_of (walk.next laid.now at line) }
 {
-    let r = text::next_line(laid, at, line as usize);
-    match r {
-        Next::End => no_line(0, 0),
-        Next::Over(n) => no_line(3, n),
-        Next::Open(n) => no_line(4, n),
-        Next::Line {
-            from,
-            end,
-            line: n,
-            next: p,
-        } => Line {
+    match text::next_line(laid, at, line as usize) {
+        Ok(None) => no_line(0, 0),
+        Ok(Some(l)) => Line {
             kind: 1,
-            line: n,
-            from,
-            end,
-            next: p.at,
-            next_line: p.line,
+            line: l.line,
+            from: l.from,
+            end: l.end,
+            next: l.next.at,
+            next_line: l.next.line,
         },
+        Err(u) => no_line(u.refused.number(), u.line),
     }
 }
 
@@ -190,32 +182,17 @@ pub fn preset_text_lines(text: &[u8], scratch: &mut [u8]) -> Lines
     if scratch.len() < toml_lite::SCRATCH_BYTES {
         return refused_lines(17, 0);
     }
-    let r = text::lines(text, scratch, meaning::of01());
-    match r {
-        Reading::Fine { lines, used } => Lines {
+    match text::lines(text, scratch, meaning::of01()) {
+        Ok(laid) => Lines {
             number: 0,
             section: 0,
             place: 0,
-            lines: lines as u32,
-            used,
+            lines: laid.lines as u32,
+            used: laid.used,
         },
-        Reading::TooLong => {
+        Err(u) => {
             slices::zero(scratch);
-            refused_lines(1, 0)
-        }
-        Reading::NotUtf8 => {
-            slices::zero(scratch);
-            refused_lines(2, 0)
-        }
-        Reading::Over(n) => {
-            let place = n as u32;
-            slices::zero(scratch);
-            refused_lines(3, place)
-        }
-        Reading::Open(n) => {
-            let place = n as u32;
-            slices::zero(scratch);
-            refused_lines(4, place)
+            refused_lines(u.refused.number(), u.line as u32)
         }
     }
 }

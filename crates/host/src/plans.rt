@@ -2,11 +2,11 @@
 // `found` or `kind` is 0 and all else too.
 
 ghost use Rattle.std.specs.Prelude.{◌≡◌};
-ghost use Rattle.tree.specs.Doors.{Rooms};
 ghost use Rattle.host.specs.Presets.{Answered};
 ghost use Rattle.host.specs.Records as records;
 ghost use Rattle.host.specs.Plans as plans;
 ghost use Rattle.host.specs.Plans.{planned};
+ghost use Rattle.tree.specs.Both.{on};
 
 use crate::documents::Outcome;
 use crate::presets::exported;
@@ -14,10 +14,9 @@ use crate::records::{
     BootView, Bytes, FeatureList, HeadView, LoadView, PartitionView, RoleView, boot_of, bytes_of,
     head_of, list_of, load_of, partition_of, role_of,
 };
-use parse::view::{ComponentFound, PartitionFound};
-use plan::builds::BuildFound;
-use plan::component::{PlannedFound, Source};
-use schema::{Features, Text};
+use plan::component::{Build, Planned, Source};
+use schema::{Component, Features, Partition, Text};
+use tree::Rooms;
 
 // kind 0: none; 1: a package; 2: a file.
 #[repr(C)]
@@ -71,27 +70,21 @@ fn planned_at(
     app: u32,
     key: &[u8],
     i: usize,
-) -> PlannedFound
+) -> Option<Planned>
     ensures { result ≡ plans.component tree.now store.now made app key.now i }
 {
-    if parse::view::holds_values(tree, made) {
-        let c = plan::choice::choose(tree, store, made, app, key);
-        return plan::component::component(tree, store, made, c, i);
-    }
-    PlannedFound::Nothing
+    let Some(rooms) = Rooms::of(tree, store, made) else {
+        return None;
+    };
+    let c = plan::choice::choose(rooms, app, key);
+    plan::component::component(rooms, c, i)
 }
 
 // The record of a planned component.
-fn spec_of(f: PlannedFound) -> ComponentFound
+fn spec_of(f: Option<Planned>) -> Option<Component>
     ensures { result ≡ plans.spec_of f }
 {
-    match f {
-        PlannedFound::Nothing => ComponentFound::Nothing,
-        PlannedFound::At(p) => {
-            let spec = p.spec;
-            ComponentFound::At(spec)
-        }
-    }
+    f.map(|p| p.spec)
 }
 
 // What component number i of a plan is; its `file` is absent where that is its source.
@@ -154,24 +147,19 @@ pub fn preset_plan_load(
     load_of(spec_of(planned_at(tree, store, made, app, key, i)))
 }
 
-fn source_of(s: Source) -> SourceView
+fn source_of(s: Option<Source>) -> SourceView
     ensures { result ≡ plans.source_of s }
 {
     match s {
-        Source::Nothing => no_source(),
-        Source::Package(b) => {
-            let package = b.package;
-            let bin = b.bin;
-            let features = b.features;
-            SourceView {
-                kind: 1,
-                package: bytes_of(package),
-                bin: bytes_of(bin),
-                features: list_of(features),
-                file: bytes_of(Text::Absent),
-            }
-        }
-        Source::File(t) => SourceView {
+        None => no_source(),
+        Some(Source::Package(b)) => SourceView {
+            kind: 1,
+            package: bytes_of(b.package),
+            bin: bytes_of(b.bin),
+            features: list_of(b.features),
+            file: bytes_of(Text::Absent),
+        },
+        Some(Source::File(t)) => SourceView {
             kind: 2,
             package: bytes_of(Text::Absent),
             bin: bytes_of(Text::Absent),
@@ -205,14 +193,7 @@ pub fn preset_plan_source(
     ensures { result ≡ plans.payload
         (plans.component tree.now store.now made app key.now i) }
 {
-    let f = planned_at(tree, store, made, app, key, i);
-    match f {
-        PlannedFound::Nothing => no_source(),
-        PlannedFound::At(p) => {
-            let s = p.source;
-            source_of(s)
-        }
-    }
+    source_of(planned_at(tree, store, made, app, key, i).map(|p| p.source))
 }
 
 // Its PBP.
@@ -227,30 +208,15 @@ pub fn preset_plan_pbp(
     ensures { result ≡ plans.pbp
         (plans.component tree.now store.now made app key.now i) }
 {
-    let f = planned_at(tree, store, made, app, key, i);
-    match f {
-        PlannedFound::Nothing => no_source(),
-        PlannedFound::At(p) => {
-            let s = p.pbp_source;
-            source_of(s)
-        }
-    }
+    source_of(planned_at(tree, store, made, app, key, i).and_then(|p| p.pbp_source))
 }
 
 // The partition that a planned component's reference finds.
-fn target_of(tree: &[u8], store: &[u8], made: usize, f: PlannedFound) -> PartitionFound
-    requires { Rooms tree.now made }
-    ensures { result ≡ plans.target_of tree.now store.now made f }
+fn target_of(rooms: Rooms<'_>, f: Option<Planned>) -> Option<Partition>
+    ensures { result ≡ on plans.target_of rooms.entry f }
 {
-    match f {
-        PlannedFound::Nothing => PartitionFound::Nothing,
-        PlannedFound::At(p) => {
-            let spec = p.spec;
-            let role = spec.role;
-            let reference = role.partition;
-            plan::target::partition(tree, store, made, reference)
-        }
-    }
+    let p = f?;
+    plan::target::partition(rooms, p.spec.role.partition)
 }
 
 pub fn preset_plan_partition(
@@ -265,33 +231,28 @@ pub fn preset_plan_partition(
         (plans.component tree.now store.now made app key.now i) }
 {
     let f = planned_at(tree, store, made, app, key, i);
-    if parse::view::holds_values(tree, made) {
-        return partition_of(target_of(tree, store, made, f));
-    }
-    partition_of(PartitionFound::Nothing)
+    let Some(rooms) = Rooms::of(tree, store, made) else {
+        return partition_of(None);
+    };
+    partition_of(target_of(rooms, f))
 }
 
-fn build_of(f: BuildFound) -> BuildView
+fn build_of(f: Option<Build>) -> BuildView
     ensures { result ≡ plans.build_of f }
 {
     match f {
-        BuildFound::Nothing => BuildView {
+        None => BuildView {
             found: 0,
             package: bytes_of(Text::Absent),
             bin: bytes_of(Text::Absent),
             features: list_of(Features::Absent),
         },
-        BuildFound::At(b) => {
-            let package = b.package;
-            let bin = b.bin;
-            let features = b.features;
-            BuildView {
-                found: 1,
-                package: bytes_of(package),
-                bin: bytes_of(bin),
-                features: list_of(features),
-            }
-        }
+        Some(b) => BuildView {
+            found: 1,
+            package: bytes_of(b.package),
+            bin: bytes_of(b.bin),
+            features: list_of(b.features),
+        },
     }
 }
 
@@ -306,11 +267,11 @@ pub fn preset_plan_build(
 ) -> BuildView
     ensures { result ≡ plans.build_shown tree.now store.now made app key.now i }
 {
-    if parse::view::holds_values(tree, made) {
-        let c = plan::choice::choose(tree, store, made, app, key);
-        return build_of(plan::builds::build(tree, store, made, c, i));
-    }
-    build_of(BuildFound::Nothing)
+    let Some(rooms) = Rooms::of(tree, store, made) else {
+        return build_of(None);
+    };
+    let c = plan::choice::choose(rooms, app, key);
+    build_of(plan::builds::build(rooms, c, i))
 }
 
 // How many components and builds a plan has.
@@ -323,17 +284,17 @@ pub fn preset_plan_counts(
 ) -> PlanCounts
     ensures { result ≡ plans.counts_shown tree.now store.now made app key.now }
 {
-    if parse::view::holds_values(tree, made) {
-        let c = plan::choice::choose(tree, store, made, app, key);
-        let b = plan::builds::builds(tree, store, made, c);
+    let Some(rooms) = Rooms::of(tree, store, made) else {
         return PlanCounts {
-            components: plan::component::count(tree, store, made, c),
-            builds: b.count,
+            components: 0,
+            builds: 0,
         };
-    }
+    };
+    let c = plan::choice::choose(rooms, app, key);
+    let b = plan::builds::builds(rooms, c);
     PlanCounts {
-        components: 0,
-        builds: 0,
+        components: plan::component::count(rooms, c),
+        builds: b.count,
     }
 }
 
@@ -349,9 +310,9 @@ pub fn preset_plan_stem(
     ensures { result ≡ plans.stem_shown tree.now store.now made name.now app
         key.now }
 {
-    if parse::view::holds_values(tree, made) {
-        let c = plan::choice::choose(tree, store, made, app, key);
-        return bytes_of(plan::stem::stem(tree, store, made, name, c));
-    }
-    bytes_of(Text::Absent)
+    let Some(rooms) = Rooms::of(tree, store, made) else {
+        return bytes_of(Text::Absent);
+    };
+    let c = plan::choice::choose(rooms, app, key);
+    bytes_of(plan::stem::stem(rooms, name, c))
 }

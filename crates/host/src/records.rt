@@ -2,16 +2,16 @@
 // is 0 and all else too.
 
 ghost use Rattle.std.specs.Prelude.{◌≡◌};
-ghost use Rattle.tree.specs.Doors.{Rooms};
 ghost use Rattle.parse.specs.Views as views;
 ghost use Rattle.host.specs.Records as records;
 ghost use Rattle.host.specs.Records.{Worded};
+ghost use Rattle.tree.specs.Both.{on};
 
-use features::{Feature, Piece};
+use features::Piece;
 use meaning::FEATURES;
 use parse::front::Front;
-use parse::view::{ApplicationFound, ComponentFound, PartitionFound};
-use schema::{Chip, Features, Kind, Media, Number, Text, Word};
+use schema::{Application, Chip, Component, Features, Kind, Media, Partition, Text, Word};
+use tree::Rooms;
 
 // A place of the tree room is below it.
 const PLACES: usize = 65536;
@@ -225,12 +225,12 @@ pub fn bytes_of(t: Text) -> Bytes
     }
 }
 
-fn amount_of(n: Number) -> Amount
+fn amount_of(n: Option<u32>) -> Amount
     ensures { result ≡ records.amount_of n }
 {
     match n {
-        Number::Absent => Amount { kind: 0, number: 0 },
-        Number::Of(m) => Amount { kind: 1, number: m },
+        None => Amount { kind: 0, number: 0 },
+        Some(m) => Amount { kind: 1, number: m },
     }
 }
 
@@ -289,12 +289,11 @@ fn flag_number(b: bool) -> u32
     0
 }
 
-fn front_at(tree: &[u8], store: &[u8], made: usize, name: &[u8]) -> Front
-    requires { Rooms tree.now made }
-    ensures { result ≡ records.front tree.now store.now made name.now }
+fn front_at(rooms: Rooms<'_>, name: &[u8]) -> Front
+    ensures { result ≡ on records.front rooms.entry name.now }
 {
-    let root = tree::fields_at(tree, made, tree::ROOT);
-    parse::front::read_front(tree, store, made, root, parse::lent_name(name))
+    let root = rooms.fields_at(tree::ROOT);
+    parse::front::read_front(rooms, root, parse::lent_name(name))
 }
 
 fn no_board() -> BoardView
@@ -309,11 +308,10 @@ fn no_board() -> BoardView
     }
 }
 
-fn board_view(tree: &[u8], store: &[u8], made: usize, lent: &[u8]) -> BoardView
-    requires { Rooms tree.now made }
-    ensures { result ≡ records.board_view tree.now store.now made lent.now }
+fn board_view(rooms: Rooms<'_>, lent: &[u8]) -> BoardView
+    ensures { result ≡ on records.board_view rooms.entry lent.now }
 {
-    let f = front_at(tree, store, made, lent);
+    let f = front_at(rooms, lent);
     let fault = f.fault;
     if fault.number != 0 {
         return no_board();
@@ -336,10 +334,10 @@ fn board_view(tree: &[u8], store: &[u8], made: usize, lent: &[u8]) -> BoardView
 pub fn preset_board(tree: &[u8], store: &[u8], made: usize, name: &[u8]) -> BoardView
     ensures { result ≡ records.board_shown tree.now store.now made name.now }
 {
-    if parse::view::holds_values(tree, made) {
-        return board_view(tree, store, made, name);
-    }
-    no_board()
+    let Some(rooms) = Rooms::of(tree, store, made) else {
+        return no_board();
+    };
+    board_view(rooms, name)
 }
 
 fn no_image() -> ImageView
@@ -357,11 +355,10 @@ fn no_image() -> ImageView
     }
 }
 
-fn image_view(tree: &[u8], store: &[u8], made: usize) -> ImageView
-    requires { Rooms tree.now made }
-    ensures { result ≡ records.image_view tree.now store.now made }
+fn image_view(rooms: Rooms<'_>) -> ImageView
+    ensures { result ≡ on records.image_view rooms.entry }
 {
-    let f = front_at(tree, store, made, b"");
+    let f = front_at(rooms, b"");
     let fault = f.fault;
     if fault.number != 0 {
         return no_image();
@@ -388,10 +385,10 @@ fn image_view(tree: &[u8], store: &[u8], made: usize) -> ImageView
 pub fn preset_image(tree: &[u8], store: &[u8], made: usize) -> ImageView
     ensures { result ≡ records.image_shown tree.now store.now made }
 {
-    if parse::view::holds_values(tree, made) {
-        return image_view(tree, store, made);
-    }
-    no_image()
+    let Some(rooms) = Rooms::of(tree, store, made) else {
+        return no_image();
+    };
+    image_view(rooms)
 }
 
 fn no_partition() -> PartitionView
@@ -407,12 +404,12 @@ fn no_partition() -> PartitionView
     }
 }
 
-pub fn partition_of(f: PartitionFound) -> PartitionView
+pub fn partition_of(f: Option<Partition>) -> PartitionView
     ensures { result ≡ records.partition_of f }
 {
     match f {
-        PartitionFound::Nothing => no_partition(),
-        PartitionFound::At(p) => PartitionView {
+        None => no_partition(),
+        Some(p) => PartitionView {
             found: 1,
             offset: p.offset,
             size: p.size,
@@ -427,27 +424,27 @@ pub fn partition_of(f: PartitionFound) -> PartitionView
 pub fn preset_partition(tree: &[u8], store: &[u8], made: usize, i: usize) -> PartitionView
     ensures { result ≡ records.partition_shown tree.now store.now made i }
 {
-    if parse::view::holds_values(tree, made) {
-        return partition_of(parse::view::partition(tree, store, made, i));
-    }
-    no_partition()
+    let Some(rooms) = Rooms::of(tree, store, made) else {
+        return no_partition();
+    };
+    partition_of(parse::view::partition(rooms, i))
 }
 
 // Component number i, where the rooms have one.
-fn component(tree: &[u8], store: &[u8], made: usize, i: usize) -> ComponentFound
+fn component(tree: &[u8], store: &[u8], made: usize, i: usize) -> Option<Component>
     ensures { result ≡ records.component tree.now store.now made i }
 {
-    if parse::view::holds_values(tree, made) {
-        return parse::view::component(tree, store, made, i, FEATURES);
-    }
-    ComponentFound::Nothing
+    let Some(rooms) = Rooms::of(tree, store, made) else {
+        return None;
+    };
+    parse::view::component(rooms, i, FEATURES)
 }
 
-pub fn head_of(f: ComponentFound) -> HeadView
+pub fn head_of(f: Option<Component>) -> HeadView
     ensures { result ≡ records.head_of f }
 {
     match f {
-        ComponentFound::Nothing => HeadView {
+        None => HeadView {
             found: 0,
             kind: 0,
             name: bytes_of(Text::Absent),
@@ -456,24 +453,15 @@ pub fn head_of(f: ComponentFound) -> HeadView
             file: bytes_of(Text::Absent),
             filename: bytes_of(Text::Absent),
         },
-        ComponentFound::At(c) => {
-            let h = c.head;
-            let kind = h.kind;
-            let name = h.name;
-            let package = h.package;
-            let bin = h.bin;
-            let file = h.file;
-            let filename = h.filename;
-            HeadView {
-                found: 1,
-                kind: kind_number(kind),
-                name: bytes_of(name),
-                package: bytes_of(package),
-                bin: bytes_of(bin),
-                file: bytes_of(file),
-                filename: bytes_of(filename),
-            }
-        }
+        Some(c) => HeadView {
+            found: 1,
+            kind: kind_number(c.head.kind),
+            name: bytes_of(c.head.name),
+            package: bytes_of(c.head.package),
+            bin: bytes_of(c.head.bin),
+            file: bytes_of(c.head.file),
+            filename: bytes_of(c.head.filename),
+        },
     }
 }
 
@@ -484,11 +472,11 @@ pub fn preset_component_head(tree: &[u8], store: &[u8], made: usize, i: usize) -
     head_of(component(tree, store, made, i))
 }
 
-pub fn role_of(f: ComponentFound) -> RoleView
+pub fn role_of(f: Option<Component>) -> RoleView
     ensures { result ≡ records.role_of f }
 {
     match f {
-        ComponentFound::Nothing => RoleView {
+        None => RoleView {
             found: 0,
             features: list_of(Features::Absent),
             pbp_features: list_of(Features::Absent),
@@ -497,24 +485,15 @@ pub fn role_of(f: ComponentFound) -> RoleView
             target_attr: bytes_of(Text::Absent),
             target_filename: bytes_of(Text::Absent),
         },
-        ComponentFound::At(c) => {
-            let o = c.role;
-            let features = o.features;
-            let pbp_features = o.pbp_features;
-            let partition = o.partition;
-            let attr = o.attr;
-            let target_attr = o.target_attr;
-            let target_filename = o.target_filename;
-            RoleView {
-                found: 1,
-                features: list_of(features),
-                pbp_features: list_of(pbp_features),
-                partition: bytes_of(partition),
-                attr: bytes_of(attr),
-                target_attr: bytes_of(target_attr),
-                target_filename: bytes_of(target_filename),
-            }
-        }
+        Some(c) => RoleView {
+            found: 1,
+            features: list_of(c.role.features),
+            pbp_features: list_of(c.role.pbp_features),
+            partition: bytes_of(c.role.partition),
+            attr: bytes_of(c.role.attr),
+            target_attr: bytes_of(c.role.target_attr),
+            target_filename: bytes_of(c.role.target_filename),
+        },
     }
 }
 
@@ -525,33 +504,26 @@ pub fn preset_component_role(tree: &[u8], store: &[u8], made: usize, i: usize) -
     role_of(component(tree, store, made, i))
 }
 
-pub fn boot_of(f: ComponentFound) -> BootView
+pub fn boot_of(f: Option<Component>) -> BootView
     ensures { result ≡ records.boot_of f }
 {
     match f {
-        ComponentFound::Nothing => BootView {
+        None => BootView {
             found: 0,
             updater: 0,
-            ram: amount_of(Number::Absent),
+            ram: amount_of(None),
             pbp: bytes_of(Text::Absent),
             pbp_package: bytes_of(Text::Absent),
             private: bytes_of(Text::Absent),
         },
-        ComponentFound::At(c) => {
-            let b = c.boot;
-            let ram = b.ram;
-            let pbp = b.pbp;
-            let pbp_package = b.pbp_package;
-            let private = b.private;
-            BootView {
-                found: 1,
-                updater: flag_number(b.updater),
-                ram: amount_of(ram),
-                pbp: bytes_of(pbp),
-                pbp_package: bytes_of(pbp_package),
-                private: bytes_of(private),
-            }
-        }
+        Some(c) => BootView {
+            found: 1,
+            updater: flag_number(c.boot.updater),
+            ram: amount_of(c.boot.ram),
+            pbp: bytes_of(c.boot.pbp),
+            pbp_package: bytes_of(c.boot.pbp_package),
+            private: bytes_of(c.boot.private),
+        },
     }
 }
 
@@ -562,35 +534,28 @@ pub fn preset_component_boot(tree: &[u8], store: &[u8], made: usize, i: usize) -
     boot_of(component(tree, store, made, i))
 }
 
-pub fn load_of(f: ComponentFound) -> LoadView
+pub fn load_of(f: Option<Component>) -> LoadView
     ensures { result ≡ records.load_of f }
 {
     match f {
-        ComponentFound::Nothing => LoadView {
+        None => LoadView {
             found: 0,
             with_ext: 0,
             ext_reserve: 0,
-            load_address: amount_of(Number::Absent),
-            entry_point: amount_of(Number::Absent),
-            entry_offset: amount_of(Number::Absent),
-            header_version: amount_of(Number::Absent),
+            load_address: amount_of(None),
+            entry_point: amount_of(None),
+            entry_offset: amount_of(None),
+            header_version: amount_of(None),
         },
-        ComponentFound::At(c) => {
-            let l = c.load;
-            let load_address = l.load_address;
-            let entry_point = l.entry_point;
-            let entry_offset = l.entry_offset;
-            let header_version = l.header_version;
-            LoadView {
-                found: 1,
-                with_ext: flag_number(l.with_ext),
-                ext_reserve: l.ext_reserve,
-                load_address: amount_of(load_address),
-                entry_point: amount_of(entry_point),
-                entry_offset: amount_of(entry_offset),
-                header_version: amount_of(header_version),
-            }
-        }
+        Some(c) => LoadView {
+            found: 1,
+            with_ext: flag_number(c.load.with_ext),
+            ext_reserve: c.load.ext_reserve,
+            load_address: amount_of(c.load.load_address),
+            entry_point: amount_of(c.load.entry_point),
+            entry_offset: amount_of(c.load.entry_offset),
+            header_version: amount_of(c.load.header_version),
+        },
     }
 }
 
@@ -612,37 +577,27 @@ fn no_application() -> ApplicationView
         filename: bytes_of(Text::Absent),
         attr: bytes_of(Text::Absent),
         features: list_of(Features::Absent),
-        load_address: amount_of(Number::Absent),
-        entry_offset: amount_of(Number::Absent),
+        load_address: amount_of(None),
+        entry_offset: amount_of(None),
     }
 }
 
-fn application_of(f: ApplicationFound) -> ApplicationView
+fn application_of(f: Option<Application>) -> ApplicationView
     ensures { result ≡ records.application_of f }
 {
     match f {
-        ApplicationFound::Nothing => no_application(),
-        ApplicationFound::At(a) => {
-            let package = a.package;
-            let name = a.name;
-            let partition = a.partition;
-            let filename = a.filename;
-            let attr = a.attr;
-            let features = a.features;
-            let load_address = a.load_address;
-            let entry_offset = a.entry_offset;
-            ApplicationView {
-                found: 1,
-                package: bytes_of(package),
-                name: bytes_of(name),
-                partition: bytes_of(partition),
-                filename: bytes_of(filename),
-                attr: bytes_of(attr),
-                features: list_of(features),
-                load_address: amount_of(load_address),
-                entry_offset: amount_of(entry_offset),
-            }
-        }
+        None => no_application(),
+        Some(a) => ApplicationView {
+            found: 1,
+            package: bytes_of(a.package),
+            name: bytes_of(a.name),
+            partition: bytes_of(a.partition),
+            filename: bytes_of(a.filename),
+            attr: bytes_of(a.attr),
+            features: list_of(a.features),
+            load_address: amount_of(a.load_address),
+            entry_offset: amount_of(a.entry_offset),
+        },
     }
 }
 
@@ -650,10 +605,10 @@ fn application_of(f: ApplicationFound) -> ApplicationView
 pub fn preset_application(tree: &[u8], store: &[u8], made: usize, i: usize) -> ApplicationView
     ensures { result ≡ records.application_shown tree.now store.now made i }
 {
-    if parse::view::holds_values(tree, made) {
-        return application_of(parse::view::application(tree, store, made, i, FEATURES));
-    }
-    no_application()
+    let Some(rooms) = Rooms::of(tree, store, made) else {
+        return no_application();
+    };
+    application_of(parse::view::application(rooms, i, FEATURES))
 }
 
 // How many entries the three lists have.
@@ -684,28 +639,25 @@ fn features_by(kind: u32, from: usize, len: usize) -> Features
     Features::Absent
 }
 
-fn last_item(begun: u32, last: usize, size: usize) -> Feature
+fn last_item(begun: u32, last: usize, size: usize) -> Option<Piece>
     ensures { result ≡ records.last_item begun last size }
 {
-    if begun == 0 {
-        return Feature::Nothing;
-    }
-    Feature::At(Piece {
+    (begun != 0).then_some(Piece {
         from: last,
         len: size,
     })
 }
 
-fn feature_of(f: Feature) -> FeatureView
+fn feature_of(f: Option<Piece>) -> FeatureView
     ensures { result ≡ records.feature_of f }
 {
     match f {
-        Feature::Nothing => FeatureView {
+        None => FeatureView {
             found: 0,
             from: 0,
             len: 0,
         },
-        Feature::At(p) => FeatureView {
+        Some(p) => FeatureView {
             found: 1,
             from: p.from,
             len: p.len,
@@ -729,17 +681,11 @@ pub fn preset_feature(
     ensures { result ≡ records.feature_shown tree.now store.now made kind from len begun last
         size }
 {
-    if parse::view::holds_values(tree, made) {
-        let f = features_by(kind, from, len);
-        return feature_of(features::next_feature(
-            tree,
-            store,
-            made,
-            f,
-            last_item(begun, last, size),
-        ));
-    }
-    feature_of(Feature::Nothing)
+    let Some(rooms) = Rooms::of(tree, store, made) else {
+        return feature_of(None);
+    };
+    let f = features_by(kind, from, len);
+    feature_of(features::next_feature(rooms, f, last_item(begun, last, size)))
 }
 
 // The word of a number; the first of all where there is none.

@@ -5,10 +5,8 @@ ghost use Rattle.meaning.specs.Integers as ints;
 ghost use Rattle.host.specs.Values.{number_of, slot_of, size_fault, Spelled, Split, Ends, Readout};
 
 use meaning::{ARRAYS, SEGMENTS, TEXT_BYTES, VALUES};
-use scalar::integer::Int;
-use scalar::string::Decoded;
+use values::State;
 use values::value::Allowed;
-use values::{Reply, State};
 
 // number 0 and the integer by sign and magnitude, or 12.
 #[repr(C)]
@@ -44,15 +42,14 @@ pub struct Value {
 pub fn preset_value_int(s: &[u8]) -> Number
     ensures { result ≡ number_of (ints.signed s.now) }
 {
-    let r = scalar::integer::read_int(s);
-    match r {
-        Int::Value(x) => Number {
+    match scalar::integer::read_int(s) {
+        Ok(x) => Number {
             number: 0,
             negative: x.neg,
             magnitude: x.mag,
         },
-        Int::Wrong => Number {
-            number: 12,
+        Err(refused) => Number {
+            number: refused.number(),
             negative: false,
             magnitude: 0,
         },
@@ -78,21 +75,16 @@ pub fn preset_value_string(src: &[u8], out: &mut [u8]) -> Spelling
     if out.len() < src.len() {
         return refused_string(17, 0);
     }
-    let d = scalar::string::decode(src, out);
-    match d {
-        Decoded::Done { used, written } => Spelling {
+    match scalar::string::decode(src, out) {
+        Ok(said) => Spelling {
             number: 0,
-            used,
-            written,
+            used: said.used,
+            written: said.written,
             at: 0,
         },
-        Decoded::Escape { at, written: _ } => {
+        Err(bad) => {
             slices::zero(out);
-            refused_string(8, at)
-        }
-        Decoded::Unended { written: _ } => {
-            slices::zero(out);
-            refused_string(9, 0)
+            refused_string(bad.refused.number(), bad.at)
         }
     }
 }
@@ -147,18 +139,17 @@ pub fn preset_value_key(s: &[u8], store: &mut [u8]) -> Segments
     if store.len() < s.len() {
         return refused_key(17);
     }
-    let k = scalar::key::put_key(s, store, 0, SEGMENTS);
-    let v = k.verdict;
-    let n = toml_lite::key_fault(v);
-    if n == 0 {
-        return Segments {
+    match scalar::key::put_key(s, store, 0, SEGMENTS) {
+        Ok(key) => Segments {
             number: 0,
-            count: k.n,
-            used: k.used,
-        };
+            count: key.n,
+            used: key.used,
+        },
+        Err(bad) => {
+            slices::zero(store);
+            refused_key(bad.refused.number())
+        }
     }
-    slices::zero(store);
-    refused_key(n)
 }
 
 // Where segment i of a key ends among its bytes; 0 where there is none. The room is all zero after it.
@@ -169,18 +160,12 @@ pub fn preset_value_key_end(s: &[u8], store: &mut [u8], i: usize) -> usize
     if store.len() < s.len() {
         return 0;
     }
-    let k = scalar::key::put_key(s, store, 0, SEGMENTS);
-    let v = k.verdict;
-    let n = toml_lite::key_fault(v);
+    let key = scalar::key::put_key(s, store, 0, SEGMENTS);
     slices::zero(store);
-    if n == 0 {
-        if i < SEGMENTS {
-            let ends = k.ends;
-            return ends[i];
-        }
-        return 0;
+    match key {
+        Ok(key) if i < SEGMENTS => key.ends[i],
+        _ => 0,
     }
-    0
 }
 
 // number 0 with the bytes used of the store and the values made; or 8 to 12, 14 or 16; or 17, then 1.
@@ -231,17 +216,16 @@ pub fn preset_value_read(text: &[u8], store: &mut [u8], tree: &mut [u8]) -> Valu
         values: VALUES,
         arrays: ARRAYS,
     };
-    let r = values::value::value(text, store, tree, st, 0, allowed);
-    match r {
-        Reply::Fine(end) => ValueRead {
+    match values::value::value(text, store, tree, st, 0, allowed) {
+        Ok(end) => ValueRead {
             number: 0,
             used: end.used,
             made: end.made,
         },
-        Reply::Fault(m, _) => {
+        Err(e) => {
             slices::zero(store);
             slices::zero(tree);
-            refused_value(m)
+            refused_value(e.refused.number())
         }
     }
 }

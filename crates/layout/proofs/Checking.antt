@@ -1,17 +1,15 @@
 -- A layout: one law for each way out.
 use Prim.Native.Nat.{ℕ, ◌≤◌}
-use mathlib.Core.Bool.{false}
-use mathlib.Core.List.{List, ◌∷◌, map}
-use mathlib.Core.Path.{◌≡◌, ◌∙◌}
+use mathlib.Core.List.{List, [], ◌∷◌, map}
+use mathlib.Core.Path.{◌≡◌, sym, subst, ◌∙◌}
 use native.Mathlib.Omega.{arith}
-use lib.ListN.{length, get_or, take}
-use lib.Seq.{slice, slice-cons}
+use lib.ListN.{length, get_or, take, drop}
+use lib.Seq.{drop-cons}
 use Rattle.meaning.specs.Schema as schemas
 use Rattle.meaning.specs.Layout as meant
 use Rattle.schema.specs.declared.Partition.{Partition}
 use Rattle.turns.specs.declared.Mark.{Mark}
-use Rattle.turns.specs.declared.Fault.{Fault}
-use Rattle.turns.specs.Marks.{judged, fault_of}
+use Rattle.turns.specs.Marks.{Fault, judged, fault_of}
 use Rattle.layout.specs.Parts.{part_meant, marks_from, OnBlocks}
 use Rattle.layout.specs.Layouts.{layout_none, layout_off, layout_judged}
 
@@ -23,23 +21,24 @@ block_some schemas.d21x = omega arith
 pub on_blocks : (chip : schemas.Chip) (block n : ℕ) → n ≤ 32 → block ≡ schemas.erase_for chip → OnBlocks n block
 on_blocks chip block n h e = record { fits = h; some = rw e (block_some chip) }
 
--- what stands past the end of a list of partitions
-abbrev pub no_part : Partition
-no_part = record { from = 0; len = 0; offset = 0; size = 0; locked = false }
+module _ (chip : schemas.Chip) (bytes : List ℕ) (ps : List Partition) where
+  pub check_none : length ps ≡ 0 → record { number = 40; place = 0 } ≡ fault_of (meant.layout chip (map (part_meant bytes) ps))
+  check_none e = go ps e
+    where
+      go : (qs : List Partition) → length qs ≡ 0 → record { number = 40; place = 0 } ≡ fault_of (meant.layout chip (map (part_meant bytes) qs))
+      go [] h = layout_none chip
+      go (q ∷ qs) h = absurd (omega arith)
 
-module _ (chip : schemas.Chip) (bytes : List ℕ) (ps : List Partition) (n : ℕ) where
-  pub check_none : n ≡ 0 → record { number = 40; place = 0 } ≡ fault_of (meant.layout chip (map (part_meant bytes) (take n ps)))
-  check_none e = rw e (layout_none chip)
+  module _ (z : length ps ≡ 0 → ⊥) (d : Partition) where
+    first_of : ps ≡ get_or ps 0 d ∷ drop 1 ps
+    first_of = drop-cons ps 0 d (omega arith)
 
-  module _ (z : n ≡ 0 → ⊥) (m : n ≤ 32) (l : length ps ≡ 32) where
-    first_of : take n ps ≡ get_or ps 0 no_part ∷ slice 1 n ps
-    first_of = slice-cons 0 n ps no_part (omega arith) (omega arith)
+    pub check_off : ((get_or ps 0 d).offset ≡ 0 → ⊥) → record { number = 41; place = 0 } ≡ fault_of (meant.layout chip (map (part_meant bytes) ps))
+    check_off h = subst (λ (qs : List Partition). record { number = 41; place = 0 } ≡ fault_of (meant.layout chip (map (part_meant bytes) qs))) (sym first_of) (layout_off chip bytes (get_or ps 0 d) (drop 1 ps) h)
 
-    pub check_off : ((get_or ps 0 no_part).offset ≡ 0 → ⊥) → record { number = 41; place = 0 } ≡ fault_of (meant.layout chip (map (part_meant bytes) (take n ps)))
-    check_off h = rw first_of (layout_off chip bytes (get_or ps 0 no_part) (slice 1 n ps) h)
-
-    pub check_judged : (ms : List Mark) (block : ℕ) (r : Fault) → take n ms ≡ marks_from bytes block 0 (take n ps) → block ≡ schemas.erase_for chip
-        → (get_or ps 0 no_part).offset ≡ 0 → r ≡ judged 43 bytes (take n ms) → r ≡ fault_of (meant.layout chip (map (part_meant bytes) (take n ps)))
+    pub check_judged : (ms : List Mark) (block : ℕ) (r : Fault) → take (length ps) ms ≡ marks_from bytes block 0 ps → block ≡ schemas.erase_for chip
+        → (get_or ps 0 d).offset ≡ 0 → r ≡ judged 43 bytes (take (length ps) ms) → r ≡ fault_of (meant.layout chip (map (part_meant bytes) ps))
     check_judged ms block r f e h g =
-        let a : r ≡ judged 43 bytes (marks_from bytes (schemas.erase_for chip) 0 (take n ps)) = rw (f, e) at g in
-        rw first_of ((rw first_of at a) ∙ layout_judged chip bytes (get_or ps 0 no_part) (slice 1 n ps) h)
+        let a : r ≡ judged 43 bytes (marks_from bytes (schemas.erase_for chip) 0 ps) = rw (f, e) at g in
+        a ∙ subst (λ (qs : List Partition). judged 43 bytes (marks_from bytes (schemas.erase_for chip) 0 qs) ≡ fault_of (meant.layout chip (map (part_meant bytes) qs))) (sym first_of)
+        (layout_judged chip bytes (get_or ps 0 d) (drop 1 ps) h)

@@ -1,4 +1,3 @@
 pub mod Marking
 pub mod Naming
-pub mod Finding
 pub mod Checking

@@ -1,8 +1,11 @@
 -- Level 2 of a layout: the marks of partitions, and a partition by its name.
-use Rattle.std.specs.Prelude.{ℕ, suc, ◌+◌, ◌%◌, ◌≤◌, Bool, List, [], ◌∷◌, ◌≡◌, refl, eqb, ltb, length}
+use Rattle.std.specs.Prelude.{ℕ, suc, ◌+◌, ◌%◌, ◌≤◌, Bool, List, [], ◌∷◌, ◌≡◌, refl, eqb, ltb, length, map, Option, None, Some, is_some, unwrap_or, Result, Ok, Err}
+use Rattle.std.specs.List.{position, position_or_len}
 use Rattle.std.proofs.Common.{sym, ◌∙◌, arith, ne_eqb, lt-ltb}
 use Rattle.std.proofs.Math.Dec.{leb-suc-suc}
 use Rattle.meaning.specs.Base.{pick, nil?, same}
+use Rattle.meaning.specs.declared.Refused.{Refused}
+use Rattle.meaning.specs.declared.Refused.TheVariants.{EmptyPartitionName, NoSize, OffsetOffBlock, SizeOffBlock, Overlap, PastAddresses}
 use Rattle.meaning.specs.Rules.{name_of}
 use Rattle.meaning.specs.Schema as schemas
 use Rattle.meaning.specs.Verdict.{among}
@@ -24,14 +27,19 @@ part_meant bytes p = record { name = part_name bytes p; offset = p.offset; size 
 abbrev pub end_of : Partition → ℕ
 end_of p = p.offset + p.size
 
--- 44 to 48
-unfoldable pub late_fault : ℕ → ℕ → Partition → ℕ
-late_fault block end p =
-    pick (eqb p.size 0) 44
-    (pick (eqb (p.offset % block) 0) (pick (eqb (p.size % block) 0) (pick (ltb p.offset end) 47 (pick (ltb (end_of p) 4294967296) 0 48)) 46) 45)
+-- 42
+abbrev pub name_checked : List ℕ → Partition → Result (Unit {0}) Refused
+name_checked bytes p = pick (nil? (part_name bytes p)) (Err EmptyPartitionName) (Ok tt)
 
-unfoldable pub mark_of : List ℕ → ℕ → ℕ → Partition → Mark
-mark_of bytes block end p = record { from = p.from; len = p.len; early = pick (nil? (part_name bytes p)) 42 0; late = late_fault block end p }
+-- 44 to 48
+unfoldable pub span_checked : ℕ → ℕ → Partition → Result (Unit {0}) Refused
+span_checked block end p =
+    pick (eqb p.size 0) (Err NoSize)
+    (pick (eqb (p.offset % block) 0)
+    (pick (eqb (p.size % block) 0) (pick (ltb p.offset end) (Err Overlap) (pick (ltb (end_of p) 4294967296) (Ok tt) (Err PastAddresses))) (Err SizeOffBlock)) (Err OffsetOffBlock))
+
+abbrev pub mark_of : List ℕ → ℕ → ℕ → Partition → Mark
+mark_of bytes block end p = record { from = p.from; len = p.len; early = name_checked bytes p; late = span_checked block end p }
 
 abbrev pub marks_from : List ℕ → ℕ → ℕ → List Partition → List Mark
 marks_from bytes block end [] = []
@@ -60,8 +68,41 @@ pub rank_high : (x : List ℕ) (ys : List (List ℕ)) → rank x ys ≤ length y
 rank_high x [] = omega arith
 rank_high x (y ∷ ys) = on (same x y) (λ e. rw e (omega arith)) (λ e. rw e (omega (arith, rank_high x ys)))
 
+-- the place of the first among n; none where as many stand before it
+abbrev pub placed : ℕ → ℕ → Option ℕ
+placed n at = pick (ltb at n) (Some at) None
+
+-- whether it is the first of all; none is as many as there are
+abbrev pub is_first : ℕ → Option ℕ → Bool
+is_first n at = eqb (unwrap_or at n) 0
+
+pub placed_some : (n at : ℕ) → is_some (placed n at) ≡ ltb at n
+placed_some n at = on (ltb at n) (λ e. rw e) (λ e. rw e)
+
 pub rank_first : (x y : List ℕ) (ys : List (List ℕ)) → eqb (rank x (y ∷ ys)) 0 ≡ same x y
 rank_first x y ys = on (same x y) (λ e. rw e) (λ e. rw e (ne_eqb (suc (rank x ys)) 0 (λ h. omega arith)))
+
+-- the same of the place
+pub placed_first : (x y : List ℕ) (ys : List (List ℕ)) → is_first (length (y ∷ ys)) (placed (length (y ∷ ys)) (rank x (y ∷ ys))) ≡ same x y
+placed_first x y ys =
+    on (same x y)
+    (λ e. rw (e, lt-ltb 0 (length (y ∷ ys)) (omega arith)))
+    (λ e.
+    on (ltb (rank x (y ∷ ys)) (length (y ∷ ys)))
+    (λ h. rw (h, e) (ne_eqb (suc (rank x ys)) 0 (λ z. omega arith)))
+    (λ h. rw (h, e) (ne_eqb (length (y ∷ ys)) 0 (λ z. omega arith))))
+
+abbrev pub bears : List ℕ → List ℕ → Partition → Bool
+bears name bytes p = same name (part_name bytes p)
+
+rank_is : (name bytes : List ℕ) (xs : List Partition) → rank name (map (part_name bytes) xs) ≡ position_or_len (bears name bytes) xs
+rank_is name bytes [] = refl
+rank_is name bytes (x ∷ xs) = on (bears name bytes x) (λ e. rw e) (λ e. rw e (omega (arith, rank_is name bytes xs)))
+
+pub position_placed : (name bytes : List ℕ) (xs : List Partition) (r : Option ℕ) → r ≡ position (bears name bytes) xs → r ≡ placed (length xs) (rank name (map (part_name bytes) xs))
+position_placed name bytes xs r e =
+    let n = position_or_len (bears name bytes) xs in
+    rw (rank_is name bytes xs) (on (ltb n (length xs)) (λ h. rw h (rw h at e)) (λ h. rw h (rw h at e)))
 
 -- ---- the partition that a text names
 

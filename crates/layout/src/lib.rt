@@ -1,46 +1,45 @@
-// Partitions on the flash: 40 to 48 over an array of partitions and a chip, and lookup by name.
+// Partitions on the flash: 40 to 48 over partitions and a chip, and lookup by name.
 
 #![tactic(auto)]
 
-pub mod lent;
-
-ghost use Rattle.std.specs.Prelude.{◌≡◌, map, ◌≤◌, take};
+ghost use Rattle.std.specs.Prelude.{◌≡◌, map, ◌≤◌, length, take};
+ghost use Rattle.std.specs.List.{position, slice_get};
 ghost use Rattle.meaning.specs.Base.{same};
 ghost use Rattle.meaning.specs.Layout as meant;
 ghost use Rattle.meaning.specs.Rules as rules;
 ghost use Rattle.schema.specs.Words.{chip_meant};
-ghost use Rattle.turns.specs.Marks.{fault_of};
+ghost use Rattle.turns.specs.Marks.{at_entry, fault_of};
 ghost use Rattle.layout.specs.Parts as parts;
-ghost use Rattle.layout.specs.Parts.{part_meant, part_name, name_in, aim, rank, OnBlocks};
+ghost use Rattle.layout.specs.Parts.{part_meant, part_name, name_in, aim, bears, rank, OnBlocks};
 
-use meaning::PARTITIONS;
-use schema::{Chip, Partition, Text, Word};
-use turns::{Fault, MOST_ENTRIES, Mark};
+use meaning::Refused;
+use schema::{Chip, Partition, Text};
+use turns::{EntryRefused, MOST_ENTRIES, Mark};
 
 // No partition ends at or above this.
 const ADDRESSES: u64 = 4294967296;
 
 // 44 to 48: size 0; offset off the erase block; size off it; starts before the previous end; end at or above 2^32.
-fn span_fault(p: Partition, end: u64, block: u32) -> u32
+fn check_span(p: Partition, end: u64, block: u32) -> Result<(), Refused>
     requires { 1 ≤ block }
-    ensures { result ≡ parts.late_fault block end p }
+    ensures { result ≡ parts.span_checked block end p }
 {
     if p.size == 0 {
-        return 44;
+        return Err(Refused::NoSize);
     }
     if p.offset % block != 0 {
-        return 45;
+        return Err(Refused::OffsetOffBlock);
     }
     if p.size % block != 0 {
-        return 46;
+        return Err(Refused::SizeOffBlock);
     }
     if (p.offset as u64) < end {
-        return 47;
+        return Err(Refused::Overlap);
     }
     if ADDRESSES <= end_of(p) {
-        return 48;
+        return Err(Refused::PastAddresses);
     }
-    0
+    Ok(())
 }
 
 // The end is the sum, without wrap-around.
@@ -50,139 +49,112 @@ pub fn end_of(p: Partition) -> u64
     p.offset as u64 + p.size as u64
 }
 
+// 42: empty name.
+fn check_named(bytes: &[u8], p: Partition) -> Result<(), Refused>
+    ensures { result ≡ parts.name_checked bytes.now p }
+{
+    if schema::stored(bytes, p.from, p.len).is_empty() {
+        return Err(Refused::EmptyPartitionName);
+    }
+    Ok(())
+}
+
 fn mark_of(bytes: &[u8], p: Partition, end: u64, block: u32) -> Mark
     requires { 1 ≤ block }
     ensures { result ≡ parts.mark_of bytes.now block end p }
 {
-    let s = schema::stored(bytes, p.from, p.len);
-    let mut early: u32 = 0;
-    if s.len() == 0 {
-        early = 42;
-    }
     Mark {
         from: p.from,
         len: p.len,
-        early,
-        late: span_fault(p, end, block),
+        early: check_named(bytes, p),
+        late: check_span(p, end, block),
     }
 }
 
-fn marks_of(
-    bytes: &[u8],
-    items: [Partition; PARTITIONS],
-    count: usize,
-    block: u32,
-) -> [Mark; MOST_ENTRIES]
-    requires { OnBlocks count block }
-    ensures { take count result ≡ parts.marks_from bytes.now block 0 (take count items) }
+fn marks_of(bytes: &[u8], items: &[Partition], block: u32) -> [Mark; MOST_ENTRIES]
+    requires { OnBlocks (length items.now) block }
+    ensures { take (length items.now) result ≡ parts.marks_from bytes.now block 0 items.now }
 {
     let mut entries = turns::no_marks();
-    let mut end: u64 = 0;
-    for i in 0..count {
-        let p = items[i];
-        entries[i] = mark_of(bytes, p, end, block);
-        end = end_of(p);
+    let mut end = 0;
+    for i in 0..items.len() {
+        entries[i] = mark_of(bytes, items[i], end, block);
+        end = end_of(items[i]);
     }
     entries
 }
 
 // 40 to 48: the layout of these partitions on a chip's flash; their names lie in some bytes.
-pub fn check_layout(bytes: &[u8], items: [Partition; PARTITIONS], count: usize, chip: Chip) -> Fault
-    requires { count ≤ 32 }
-    ensures { result ≡ fault_of
-        (meant.layout (chip_meant chip) (map (part_meant bytes.now) (take count items))) }
+pub fn check_layout(bytes: &[u8], items: &[Partition], chip: Chip) -> Result<(), EntryRefused>
+    requires { length items.now ≤ 32 }
+    ensures { at_entry result ≡ fault_of
+        (meant.layout (chip_meant chip) (map (part_meant bytes.now) items.now)) }
 {
-    if count == 0 {
-        return Fault {
-            number: 40,
+    if items.is_empty() {
+        return Err(EntryRefused {
+            refused: Refused::NoPartitions,
             place: 0,
-        };
+        });
     }
-    let first = items[0];
-    if first.offset != 0 {
-        return Fault {
-            number: 41,
+    if items[0].offset != 0 {
+        return Err(EntryRefused {
+            refused: Refused::FirstNotAtZero,
             place: 0,
-        };
+        });
     }
-    turns::judge_marks(
-        bytes,
-        marks_of(bytes, items, count, chip.erase_size()),
-        count,
-        43,
-    )
+    let marks = marks_of(bytes, items, chip.erase_size());
+    turns::judge_marks(bytes, &marks[..items.len()], Refused::PartitionTwice)
 }
 
-// One test for both lookups, of an array here and of lent partitions in `lent`.
 fn has_name(bytes: &[u8], p: Partition, name: &[u8]) -> bool
     ensures { result ≡ same name.now (parts.part_name bytes.now p) }
 {
     slices::same_last_first(name, schema::stored(bytes, p.from, p.len))
 }
 
-// The first partition that bears a name; as many as there are where none does.
-pub fn find_partition(
-    bytes: &[u8],
-    items: [Partition; PARTITIONS],
-    count: usize,
-    name: &[u8],
-) -> usize
-    requires { count ≤ 32 }
-    ensures { result ≡ rank name.now (map (parts.part_name bytes.now) (take count items)) }
+// The first partition that bears a name.
+pub fn find_partition(bytes: &[u8], items: &[Partition], name: &[u8]) -> Option<usize>
+    ensures { result ≡ position (bears name.now bytes.now) items.now }
 {
-    for i in 0..count {
-        if has_name(bytes, items[i], name) {
-            return i;
-        }
-    }
-    count
+    items.iter().position(|p| has_name(bytes, *p, name))
 }
 
 // "A component's reference drops everything from the first `;` and is trimmed."
 pub fn partition_name<'a>(s: &'a [u8]) -> &'a [u8]
     ensures { result.now ≡ rules.name_of s.now }
 {
-    let n = slices::find(s, b';');
-    let cut = &s[0..n];
+    let cut = &s[..slices::find(s, b';')];
     let part = chars::trim(cut);
-    let from = part.from;
-    let end = part.end;
-    &cut[from..end]
+    &cut[part.from..part.end]
 }
 
 // The name in a reference; or what was given, as it is.
 fn name_in<'a>(s: &'a [u8], cut: bool) -> &'a [u8]
     ensures { result.now ≡ name_in cut s.now }
 {
-    if cut {
-        return partition_name(s);
-    }
-    s
+    if cut { partition_name(s) } else { s }
 }
 
-// The partition that a text names, or refers to where it is to be cut; as many as there are where there is none.
-pub fn find_named(
-    store: &[u8],
-    items: [Partition; PARTITIONS],
-    count: usize,
-    t: Text,
-    cut: bool,
-) -> usize
-    requires { count ≤ 32 }
-    ensures { result ≡ aim cut store.now (map (part_name store.now) (take count items)) t }
+// The first partition that bears a name, by what it is.
+fn partition_named(store: &[u8], items: &[Partition], name: &[u8]) -> Option<Partition>
+    ensures { result ≡ slice_get items.now
+        (rank name.now (map (part_name store.now) items.now)) }
+{
+    let at = find_partition(store, items, name)?;
+    Some(items[at])
+}
+
+// The partition that a text names, or refers to where it is to be cut.
+pub fn find_named(store: &[u8], items: &[Partition], t: Text, cut: bool) -> Option<Partition>
+    ensures { result ≡ slice_get items.now
+        (aim cut store.now (map (part_name store.now) items.now) t) }
 {
     match t {
         Text::Stored { from, len } => {
             let name = name_in(schema::stored(store, from, len), cut);
-            lent::find(store, items, count, name)
+            partition_named(store, items, name)
         }
-        Text::Fixed(w) => {
-            let all = Word::ALL;
-            let s = w.span();
-            let from = s.from;
-            let to = s.to;
-            lent::find(store, items, count, name_in(&all[from..to], cut))
-        }
-        _ => count,
+        Text::Fixed(w) => partition_named(store, items, name_in(w.bytes(), cut)),
+        _ => None,
     }
 }

@@ -6,6 +6,7 @@
 ghost use Rattle.std.specs.Prelude.{◌≤◌, length};
 
 use meaning::TEXT_BYTES;
+use page::Page;
 use preset::listing::Listed;
 use std::io::{Read, Stdin, Stdout, Write};
 
@@ -60,7 +61,12 @@ fn print(stdout: &mut Stdout, room: &[u8], n: usize) -> bool {
 // `refused`, number, section, place.
 fn refuse(stdout: &mut Stdout, r: Listed) -> bool {
     let mut room = [0u8; REFUSAL_BYTES];
-    let n = report::line::refused(&mut room, 0, r.number, r.section, r.place);
+    let mut page = Page {
+        out: &mut room,
+        at: 0,
+    };
+    report::line::refused(&mut page, r.number, r.section, r.place);
+    let n = page.at;
     print(stdout, &room, n)
 }
 

@@ -2,6 +2,7 @@ pub mod Base
 pub mod Bytes
 pub mod Limits
 pub mod Refusal
+pub mod Numbered
 pub mod Rooms
 pub mod Utf8
 pub mod Space

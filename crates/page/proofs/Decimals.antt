@@ -1,12 +1,11 @@
 -- A number's digits from the last to the first: what the loop keeps, and one law for each way on and out of it.
-use Prim.Native.Nat.{ℕ, suc, ◌+◌, ◌-◌, ◌*◌, ◌/◌, ◌%◌, ◌≤◌, ◌<◌}
+use Prim.Native.Nat.{ℕ, zero, suc, ◌+◌, ◌-◌, ◌*◌, ◌/◌, ◌%◌, ◌≤◌, ◌<◌}
 use mathlib.Core.List.{List, [], ◌∷◌}
 use mathlib.Core.Path.{◌≡◌, sym, subst, ◌∙◌}
 use native.Mathlib.Omega.{arith}
-use native.Mathlib.Nat.{mod-lt, mod-eq_of_lt}
 use lib.ListN.{length, drop, set, length-set}
 use lib.Seq.{drop-cons, drop-set-lt, drop-length, get_or-set_same}
-use mir.Syntax.{w8, w64}
+use mir.Syntax.{w64}
 use mir.Val.{Fits}
 use Rattle.meaning.specs.Print.{decimal}
 use Rattle.laws.specs.Decimals.{digits_of, tens, last_digit, more_digits}
@@ -25,12 +24,6 @@ spell_start room n h f =
     let e : drop 20 room ≡ [] = rw (← h) (drop-length room) in
     record { long = h; high = omega arith; fits = omega (arith, f.fits); left = rw e }
 
-pub digit_fits : (n : ℕ) → Fits w8 (n % 10)
-digit_fits n = record { fits = omega (arith, mod-lt n {m = 10} (omega arith)) }
-
-pub digit_shown : (n : ℕ) → Fits w8 (48 + n % 10)
-digit_shown n = record { fits = omega (arith, mod-lt n {m = 10} (omega arith)) }
-
 -- a byte set, and those after it
 from_set : (room : List ℕ) (i v : ℕ) → i < length room → drop i (set room i v) ≡ v ∷ drop (i + 1) room
 from_set room i v h =
@@ -39,8 +32,17 @@ from_set room i v h =
     ∙ rw (get_or-set_same room i v 0 h, e, drop-set-lt (i + 1) room i v (omega arith))
 
 module _ (number : ℕ) (room : List ℕ) (n i : ℕ) where
-  pub spell_on : Spelling number room n i → 10 ≤ n → (i ≡ 0 → ⊥) → Spelling number (set room i (48 + n % 10)) (n / 10) (i - 1)
-  spell_on s h z =
+  -- a number of two digits has a place before its last
+  pub spell_more : Spelling number room n i → 10 ≤ n → 1 ≤ i
+  spell_more s h = by i s.fits
+    where
+      by : (j : ℕ) → n < tens (suc j) → 1 ≤ j
+      by zero f = absurd (omega (arith, f, h))
+      by (suc j) f = omega arith
+
+  pub spell_on : Spelling number room n i → 10 ≤ n → Spelling number (set room i (48 + n % 10)) (n / 10) (i - 1)
+  spell_on s h =
+      let z : 1 ≤ i = spell_more s h in
       let e : i - 1 + 1 ≡ i = omega arith in
       let d : suc (i - 1) ≡ i = omega arith in
       let k : n < 10 * tens i = s.fits in
@@ -52,16 +54,13 @@ module _ (number : ℕ) (room : List ℕ) (n i : ℕ) where
       }
 
   -- the first digit: none is left before it
-  pub spell_end : Spelling number room n i → n < 10 → Digits number (set room i (48 + n % 10)) i
+  pub spell_end : Spelling number room n i → n < 10 → Digits number (set room i (48 + n)) i
   spell_end s h =
       record {
-        long = length-set room i (48 + n % 10) ∙ s.long;
+        long = length-set room i (48 + n) ∙ s.long;
         begins = omega (arith, s.high);
         says =
-            from_set room i (48 + n % 10) (omega (arith, s.long, s.high))
-            ∙ rw (mod-eq_of_lt {n = n} {m = 10} h) (sym (last_digit n (drop (i + 1) room) h))
+            from_set room i (48 + n) (omega (arith, s.long, s.high))
+            ∙ sym (last_digit n (drop (i + 1) room) h)
             ∙ s.left;
       }
-
-  pub spell_full : Spelling number room n i → i ≡ 0 → Digits number (set room i (48 + n % 10)) i
-  spell_full s z = spell_end s (rw z at s.fits)

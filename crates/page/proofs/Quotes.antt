@@ -2,12 +2,12 @@
 use Prim.Native.Nat.{ℕ, suc, ◌+◌, ◌-◌, ◌≤◌, ◌<◌}
 use mathlib.Core.Bool.{true, false}
 use mathlib.Core.List.{List, [], ◌∷◌, ◌++◌, append_assoc, append-nil}
-use mathlib.Core.Path.{◌≡◌, refl, sym, ap, subst, ◌∙◌}
+use mathlib.Core.Path.{◌≡◌, refl, sym, ap, ◌∙◌}
 use native.Mathlib.Omega.{arith}
 use borrow.Author.Tests.{ne_eqb, eqb-true, eqb-false, lt-ltb}
 use lib.Bits.{bit_or, or_add_and, and_le_l, and_le_r}
 use lib.Dec.{eqb}
-use lib.ListN.{length, get_or, take, drop, length-take, length-drop, drop_of_length-le}
+use lib.ListN.{length, get_or, take, drop, length-drop, drop_of_length-le}
 use lib.Seq.{drop-drop, get_or-drop}
 use Rattle.meaning.specs.Base.{ascii}
 use Rattle.meaning.specs.Quoting.{letter_for, escaped, inner, quoted}
@@ -16,35 +16,15 @@ use Rattle.laws.specs.Parts.{rest_of}
 use Rattle.laws.specs.Quoted.{inner_append}
 use Rattle.slices.specs.Found.{Other, at?, lead, Passed, Led}
 use Rattle.slices.proofs.Bytes.{led_on, led_hit}
-use Rattle.page.specs.Page.{Wrote}
+use Rattle.page.specs.declared.Page.{Page}
+use Rattle.page.specs.Page.{Adds}
 use Rattle.page.specs.Runs.{escapes?}
-use Rattle.page.proofs.Pages.{wrote_nil, wrote_long, wrote_then}
+use Rattle.page.proofs.Pages.{adds_nil, adds_then, adds_as}
 
 -- ---- one byte
-module _ (b : ℕ) where
-  pub is_quote : b ≡ 34 → 34 ≡ letter_for b
-  unfolding letter_for
-  is_quote e = rw e
-
-  pub is_backslash : (b ≡ 34 → ⊥) → b ≡ 92 → 92 ≡ letter_for b
-  unfolding letter_for
-  is_backslash q e = rw e
-
-  pub is_feed : (b ≡ 34 → ⊥) → (b ≡ 92 → ⊥) → b ≡ 10 → 110 ≡ letter_for b
-  unfolding letter_for
-  is_feed q s e = rw e
-
-  pub is_tab : (b ≡ 34 → ⊥) → (b ≡ 92 → ⊥) → (b ≡ 10 → ⊥) → b ≡ 9 → 116 ≡ letter_for b
-  unfolding letter_for
-  is_tab q s n e = rw e
-
-  pub is_return : (b ≡ 34 → ⊥) → (b ≡ 92 → ⊥) → (b ≡ 10 → ⊥) → (b ≡ 9 → ⊥) → b ≡ 13 → 114 ≡ letter_for b
-  unfolding letter_for
-  is_return q s n t e = rw e
-
-  pub is_plain : (b ≡ 34 → ⊥) → (b ≡ 92 → ⊥) → (b ≡ 10 → ⊥) → (b ≡ 9 → ⊥) → (b ≡ 13 → ⊥) → 0 ≡ letter_for b
-  unfolding letter_for
-  is_plain q s n t r = rw (ne_eqb b 34 q, ne_eqb b 92 s, ne_eqb b 10 n, ne_eqb b 9 t, ne_eqb b 13 r)
+pub is_plain : (b : ℕ) → (b ≡ 34 → ⊥) → (b ≡ 92 → ⊥) → (b ≡ 10 → ⊥) → (b ≡ 9 → ⊥) → (b ≡ 13 → ⊥) → 0 ≡ letter_for b
+unfolding letter_for
+is_plain b q s n t r = rw (ne_eqb b 34 q, ne_eqb b 92 s, ne_eqb b 10 n, ne_eqb b 9 t, ne_eqb b 13 r)
 
 -- nothing was gathered, so neither part was
 or_none : (x y : ℕ) → bit_or x y ≡ 0 → (x ≡ 0) × (y ≡ 0)
@@ -106,42 +86,27 @@ inner_stop (b ∷ s) h =
 inner_stop_at : (s : List ℕ) (r : ℕ) → r ≡ lead escapes? s → r < length s → inner (drop r s) ≡ 92 ∷ letter_for (get_or s r 0) ∷ inner (drop (suc r) s)
 inner_stop_at s r e h = rw e (inner_stop s (rw e at h))
 
--- a run in what is left of a text
-pub run_fits : (s : List ℕ) (i r : ℕ) → i ≤ length s → Led escapes? (take (length s - i) (drop i s)) r → i + r ≤ length s
-run_fits s i r h p = omega (arith, p.fits, length-take (length s - i) (drop i s))
-
 -- the text up to i stands on the page
-pub record Inside (s : List ℕ) (out : List ℕ) (at i : ℕ) (out' : List ℕ) (at' : ℕ) : Type 0 where
+pub record Inside (s : List ℕ) (p : Page) (i : ℕ) (q : Page) : Type 0 where
   pub high : i ≤ length s
   pub done : List ℕ
-  pub wrote : Wrote done out at out' at'
+  pub adds : Adds done p q
   pub left : done ++ inner (drop i s) ≡ inner s
 
-pub inside_start : (s out : List ℕ) (at : ℕ) → Inside s out at 0 out at
-inside_start s out at = record { high = omega arith; done = []; wrote = wrote_nil out at; left = refl }
+pub inside_start : (s : List ℕ) (p : Page) → Inside s p 0 p
+inside_start s p = record { high = omega arith; done = []; adds = adds_nil p; left = refl }
 
-module _ (s out : List ℕ) (at i : ℕ) (out' : List ℕ) (at' : ℕ) (k : Inside s out at i out' at') where
-  pub inside_long : length out' ≡ length out
-  inside_long = wrote_long k.wrote
-
-  pub run_long : (t out₁ : List ℕ) (at₁ : ℕ) → Wrote t out' at' out₁ at₁ → length out₁ ≡ length out
-  run_long t out₁ at₁ w = wrote_long w ∙ inside_long
-
-  pub inside_end : length s ≤ i → Wrote (inner s) out at out' at'
-  inside_end h =
-      let e : inner (drop i s) ≡ [] = rw (drop_of_length-le s h) in
-      subst (λ (t : List ℕ). Wrote t out at out' at') (sym (append-nil k.done) ∙ rw e at k.left) k.wrote
-
-  module _ (r : ℕ) (p : Led escapes? (take (length s - i) (drop i s)) r) (out₁ : List ℕ) (at₁ : ℕ) (w : Wrote (take (i + r - i) (drop i s)) out' at' out₁ at₁) where
+module _ (s : List ℕ) (p : Page) (i : ℕ) (q : Page) (k : Inside s p i q) where
+  module _ (r : ℕ) (l : Led escapes? (take (length s - i) (drop i s)) r) (q₁ : Page) (w : Adds (take (i + r - i) (drop i s)) q q₁) where
     run : Led escapes? (drop i s) r
-    run = rw (rest_of s i) at p
+    run = rw (rest_of s i) at l
 
     -- what stands on the page with this run
     abbrev so_far : List ℕ
     so_far = k.done ++ take r (drop i s)
 
-    wrote_far : Wrote so_far out at out₁ at₁
-    wrote_far = let e : i + r - i ≡ r = omega arith in wrote_then k.wrote (rw e at w)
+    adds_far : Adds so_far p q₁
+    adds_far = let e : i + r - i ≡ r = omega arith in adds_then k.adds (rw e at w)
 
     left_far : so_far ++ inner (drop r (drop i s)) ≡ inner s
     left_far =
@@ -149,14 +114,13 @@ module _ (s out : List ℕ) (at i : ℕ) (out' : List ℕ) (at' : ℕ) (k : Insi
         ∙ ap (λ (l : List ℕ). k.done ++ l) (rw run.is (sym (inner_run (drop i s))))
         ∙ k.left
 
-    pub inside_last : i + r ≡ length s → Wrote (inner s) out at out₁ at₁
+    pub inside_last : i + r ≡ length s → Adds (inner s) p q₁
     inside_last e =
         let d : drop r (drop i s) ≡ [] = drop_of_length-le (drop i s) {i = r} (omega (arith, length-drop i s)) in
-        subst (λ (t : List ℕ). Wrote t out at out₁ at₁) (sym (append-nil so_far) ∙ rw d at left_far) wrote_far
+        adds_as (sym (append-nil so_far) ∙ rw d at left_far) adds_far
 
-    pub inside_on : (l : ℕ) → l ≡ letter_for (get_or s (i + r) 0) → (i + r ≡ length s → ⊥) → (out₂ : List ℕ) (at₂ : ℕ) → Wrote (92 ∷ l ∷ []) out₁ at₁ out₂ at₂
-        → Inside s out at (i + r + 1) out₂ at₂
-    inside_on l d e out₂ at₂ v =
+    pub inside_on : (l : ℕ) → l ≡ letter_for (get_or s (i + r) 0) → (i + r ≡ length s → ⊥) → (q₂ : Page) → Adds (92 ∷ l ∷ []) q₁ q₂ → Inside s p (i + r + 1) q₂
+    inside_on l d e q₂ v =
         let low : r < length (drop i s) = omega (arith, length-drop i s, run.fits, k.high) in
         let n : i + suc r ≡ i + r + 1 = omega arith in
         let f : inner (drop r (drop i s)) ≡ 92 ∷ l ∷ inner (drop (i + r + 1) s) =
@@ -165,28 +129,20 @@ module _ (s out : List ℕ) (at i : ℕ) (out' : List ℕ) (at' : ℕ) (k : Insi
         record {
           high = omega (arith, length-drop i s);
           done = so_far ++ (92 ∷ l ∷ []);
-          wrote = wrote_then wrote_far v;
+          adds = adds_then adds_far v;
           left = append_assoc so_far (92 ∷ l ∷ []) (inner (drop (i + r + 1) s)) ∙ ap (λ (t : List ℕ). so_far ++ t) (sym f) ∙ left_far;
         }
 
--- ---- escapes and quotes
+-- ---- quotes
 aic_plain : inner (ascii ".aic") ≡ ascii ".aic"
 unfolding escaped letter_for
 aic_plain = refl
 
-module _ (o o1 o2 : List ℕ) (n n1 n2 : ℕ) where
-  pub escape_is : (l : ℕ) → Wrote (92 ∷ []) o n o1 n1 → Wrote (l ∷ []) o1 n1 o2 n2 → Wrote (92 ∷ l ∷ []) o n o2 n2
-  escape_is l x y = wrote_then x y
-
-  pub unclosed_is : (o3 : List ℕ) (n3 : ℕ) (s : List ℕ) → Wrote (32 ∷ []) o n o1 n1 → Wrote (34 ∷ []) o1 n1 o2 n2 → Wrote (inner s) o2 n2 o3 n3
-      → Wrote (32 ∷ 34 ∷ inner s) o n o3 n3
-  unclosed_is o3 n3 s x y z = wrote_then x (wrote_then y z)
-
-  pub quoted_is : (s : List ℕ) → Wrote (32 ∷ 34 ∷ inner s) o n o1 n1 → Wrote (34 ∷ []) o1 n1 o2 n2 → Wrote (32 ∷ quoted s) o n o2 n2
+module _ (p q r : Page) where
+  pub quoted_is : (s : List ℕ) → Adds (32 ∷ 34 ∷ inner s) p q → Adds (34 ∷ []) q r → Adds (32 ∷ quoted s) p r
   unfolding quoted
-  quoted_is s x y = wrote_then x y
+  quoted_is s x y = adds_then x y
 
-  pub aic_is : (o3 : List ℕ) (n3 : ℕ) (s : List ℕ) → Wrote (32 ∷ 34 ∷ inner s) o n o1 n1 → Wrote (ascii ".aic") o1 n1 o2 n2 → Wrote (34 ∷ []) o2 n2 o3 n3
-      → Wrote (32 ∷ quoted (s ++ ascii ".aic")) o n o3 n3
+  pub aic_is : (o : Page) (s : List ℕ) → Adds (32 ∷ 34 ∷ inner s) p q → Adds (ascii ".aic") q r → Adds (34 ∷ []) r o → Adds (32 ∷ quoted (s ++ ascii ".aic")) p o
   unfolding quoted
-  aic_is o3 n3 s x y z = rw (inner_append s (ascii ".aic"), aic_plain, append_assoc (inner s) (ascii ".aic") (34 ∷ [])) (wrote_then x (wrote_then y z))
+  aic_is o s x y z = adds_as (ap (λ (l : List ℕ). 32 ∷ 34 ∷ l) (rw (inner_append s (ascii ".aic"), aic_plain) (sym (append_assoc (inner s) (ascii ".aic") (34 ∷ []))))) (adds_then x (adds_then y z))

@@ -2,11 +2,9 @@
 use Prim.Native.Nat.{ℕ, zero, suc, min, ◌+◌, ◌-◌, ◌≤◌, ◌<◌}
 use mathlib.Core.Bool.{Bool, true, false}
 use mathlib.Core.List.{List, [], ◌∷◌, ◌++◌, append-nil}
-use mathlib.Core.Path.{◌≡◌, refl, sym, ap, subst, ◌∙◌}
+use mathlib.Core.Path.{◌≡◌, refl, sym, ap, ◌∙◌}
 use native.Mathlib.Omega.{arith}
-use borrow.Author.Tests.{ne_eqb}
-use lib.Dec.{eqb}
-use lib.ListN.{length, take, drop, set, length-take, length-drop, drop_of_length-le}
+use lib.ListN.{length, take, drop, set, length-take, drop_of_length-le}
 use lib.Seq.{drop-drop, take_all}
 use Rattle.meaning.specs.Base.{nil?, ascii}
 use Rattle.meaning.specs.Print.{decimal, shown}
@@ -17,14 +15,13 @@ use Rattle.laws.specs.Stored.{stored, stored_nil, stored_cons}
 use Rattle.laws.specs.Variants.{Left, others}
 use Rattle.schema.specs.contracts.Text.{enum}
 use Rattle.schema.specs.declared.Text.{Text}
-use Rattle.schema.specs.declared.Text.TheVariants as texts
 use Rattle.schema.specs.declared.Word.{Word}
 use Rattle.schema.specs.declared.Word.TheVariants as words
-use Rattle.schema.specs.declared.Span.{Span}
-use Rattle.schema.specs.Words.{word, all, Stands, word_part}
+use Rattle.schema.specs.Words.{word}
 use Rattle.schema.specs.Texts.{clip, spelled}
-use Rattle.page.specs.Page.{fitting, Wrote, Digits}
-use Rattle.page.proofs.Pages.{none_past, wrote_then}
+use Rattle.page.specs.declared.Page.{Page}
+use Rattle.page.specs.Page.{fitting, Wrote, Adds, Digits}
+use Rattle.page.proofs.Pages.{none_past, adds_as}
 
 -- ---- bytes
 take_again : (n : ℕ) (s : List ℕ) → take (length (take n s)) s ≡ take n s
@@ -39,18 +36,11 @@ module _ (s out : List ℕ) (at : ℕ) where
       record { left = sym (none_past s out at (omega arith)); place = omega (arith, length-take (length out - at) s) }
 
   -- the part of the page with the bytes in it is back
-  -- the part that is written, and the part of the page for it
-  pub part_count : (n room : ℕ) → n ≡ min room (length s) → n ≡ length (take n s)
-  part_count n room h = omega (arith, length-take n s)
-
-  pub part_fits : (n : ℕ) → at ≤ length out → n ≡ min (length out - at) (length s) → length (take n s) ≤ length (take (at + n - at) (drop at out))
-  part_fits n l h = omega (arith, length-take n s, length-take (at + n - at) (drop at out), length-drop at out)
-
-  pub put_in : (n : ℕ) (ys : List ℕ) → n ≡ min (length out - at) (length s) → ys ≡ take n s ++ drop (length (take n s)) (take (at + n - at) (drop at out))
+  pub put_in : (n : ℕ) (ys : List ℕ) → n ≡ min (length s) (length out - at) → ys ≡ take n s ++ drop (length (take n s)) (take (at + n - at) (drop at out))
       → Wrote s out at (take at out ++ (ys ++ drop (at + n - at) (drop at out))) (at + n)
   unfolding stored
   put_in n ys r e =
-      let h : n ≡ length (take (length out - at) s) = r ∙ sym (length-take (length out - at) s) in
+      let h : n ≡ length (take (length out - at) s) = omega (arith, length-take (length out - at) s) in
       let k : at + n - at ≡ n = omega arith in
       let f : take n s ≡ take (length out - at) s = ap (λ (m : ℕ). take m s) h ∙ take_again (length out - at) s in
       let g : length (take n s) ≡ n = ap length f ∙ sym h in
@@ -68,51 +58,22 @@ module _ (b : ℕ) (out : List ℕ) (at : ℕ) where
   pub byte_past : length out ≤ at → Wrote (b ∷ []) out at out at
   byte_past h = record { left = sym (none_past (b ∷ []) out at h); place = omega (arith, length-take (length out - at) (b ∷ [])) }
 
--- a field by what it says
-pub field_by : {s t o o1 : List ℕ} {n n1 : ℕ} → Wrote (32 ∷ s) o n o1 n1 → s ≡ t → Wrote (32 ∷ t) o n o1 n1
-field_by {o = o} {o1 = o1} {n = n} {n1 = n1} x e = subst (λ (f : List ℕ). Wrote (32 ∷ f) o n o1 n1) e x
-
-module _ (s o o1 o2 : List ℕ) (n n1 n2 : ℕ) where
-  pub field_is : Wrote (32 ∷ []) o n o1 n1 → Wrote s o1 n1 o2 n2 → Wrote (32 ∷ s) o n o2 n2
-  field_is x y = wrote_then x y
-
-module _ (o o1 : List ℕ) (n n1 : ℕ) where
-  -- ---- numbers and words
-  pub number_is : (number : ℕ) (room : List ℕ) (from : ℕ) → Digits number room from → Wrote (32 ∷ take (20 - from) (drop from room)) o n o1 n1 → Wrote (32 ∷ decimal number) o n o1 n1
-  number_is number room from d x = field_by x (rw (← d.long, rest_of room from) d.says)
-
-  pub word_is : (w : Word) (s : Span) → Stands w s → Wrote (take (s.to - s.from) (drop s.from all)) o n o1 n1 → Wrote (word w) o n o1 n1
-  word_is w s h x = subst (λ (l : List ℕ). Wrote l o n o1 n1) (rw (h.is, word_part w)) x
-
-  pub word_quoted_lem : (w : Word) (s : Span) → Stands w s → Wrote (32 ∷ quoted (take (s.to - s.from) (drop s.from all))) o n o1 n1 → Wrote (32 ∷ quoted (word w)) o n o1 n1
-  word_quoted_lem w s h x = subst (λ (l : List ℕ). Wrote (32 ∷ quoted l) o n o1 n1) (rw (h.is, word_part w)) x
-
-  -- ---- texts
-  pub quoted_by : (s t : List ℕ) → Wrote (32 ∷ quoted s) o n o1 n1 → s ≡ t → Wrote (32 ∷ quoted t) o n o1 n1
-  quoted_by s t x e = subst (λ (l : List ℕ). Wrote (32 ∷ quoted l) o n o1 n1) e x
-
-  module _ (store name : List ℕ) (t : Text) where
-    pub text_fixed : (w : Word) → t ≡ texts.Fixed w → Wrote (32 ∷ quoted (word w)) o n o1 n1 → Wrote (32 ∷ quoted (spelled store name t)) o n o1 n1
-    text_fixed w e x = rw e x
-
-    pub text_aic : (from len : ℕ) (s : List ℕ) → t ≡ texts.WithAic from len → s ≡ clip from len store → Wrote (32 ∷ quoted (s ++ ascii ".aic")) o n o1 n1
-        → Wrote (32 ∷ quoted (spelled store name t)) o n o1 n1
-    text_aic from len s e h x = rw (e, ← h) x
+module _ (p q : Page) where
+  -- ---- numbers
+  pub number_is : (number : ℕ) (room : List ℕ) (from : ℕ) → Digits number room from → Adds (32 ∷ take (20 - from) (drop from room)) p q → Adds (32 ∷ decimal number) p q
+  number_is number room from d x = adds_as (ap (λ (s : List ℕ). 32 ∷ s) (rw (← d.long, rest_of room from) d.says)) x
 
   -- ---- references
   module _ (s : List ℕ) (b : Bool) (e : b ≡ nil? s) where
-    pub dash_is : b ≡ true → Wrote (32 ∷ ascii "-") o n o1 n1 → Wrote (32 ∷ shown (placed s)) o n o1 n1
+    pub dash_is : b ≡ true → Adds (32 ∷ ascii "-") p q → Adds (32 ∷ shown (placed s)) p q
     unfolding placed
     dash_is h x = rw (← e, h) x
 
-    pub named_is : b ≡ false → Wrote (32 ∷ quoted s) o n o1 n1 → Wrote (32 ∷ shown (placed s)) o n o1 n1
+    pub named_is : b ≡ false → Adds (32 ∷ quoted s) p q → Adds (32 ∷ shown (placed s)) p q
     unfolding placed
     named_is h x = rw (← e, h) x
 
 -- ---- empty texts
-length_nil : (s : List ℕ) → eqb (length s) 0 ≡ nil? s
-length_nil [] = refl
-length_nil (a ∷ s) = ne_eqb (length (a ∷ s)) 0 (λ e. omega arith)
 
 -- no word is empty
 word_some : (w : Word) → nil? (word w) ≡ false
@@ -140,9 +101,6 @@ some_after [] b bs = refl
 some_after (a ∷ s) b bs = refl
 
 module _ (store name : List ℕ) (t : Text) where
-  pub blank_by : (s : List ℕ) → s ≡ spelled store name t → eqb (length s) 0 ≡ nil? (spelled store name t)
-  blank_by s e = rw (← e) (length_nil s)
-
   -- a fixed word, or bytes with `.aic` after them
   pub blank_not : Left enum (3 ∷ 4 ∷ []) t → false ≡ nil? (spelled store name t)
   blank_not =

@@ -2,6 +2,7 @@
 use Rattle.std.specs.Prelude.{ℕ, ◌+◌, ◌-◌, ◌≤◌, List, ◌≡◌, length, take, drop}
 use Rattle.meaning.specs.Print.{decimal}
 use Rattle.laws.specs.Stored.{stored}
+use Rattle.page.specs.declared.Page.{Page}
 
 -- as many of the bytes as a page takes from a place on
 abbrev pub fitting : List ℕ → ℕ → List ℕ → List ℕ
@@ -17,3 +18,8 @@ pub record Digits (n : ℕ) (room : List ℕ) (from : ℕ) : Type 0 where
   pub long : length room ≡ 20
   pub begins : from ≤ 20
   pub says : drop from room ≡ decimal n
+
+-- bytes after what stands on a page, on the same lent bytes
+pub record Adds (s : List ℕ) (old new : Page) : Type 0 where
+  pub same : new.out.ghost_name ≡ old.out.ghost_name
+  pub wrote : Wrote s old.out.now old.at new.out.now new.at

@@ -20,12 +20,11 @@ use Rattle.schema.specs.contracts.Text.{enum}
 use Rattle.schema.specs.declared.Text.{Text}
 use Rattle.schema.specs.declared.Text.TheVariants as texts
 use Rattle.schema.specs.declared.Word.TheVariants as words
-use Rattle.schema.specs.declared.KindRead.{KindRead}
-use Rattle.schema.specs.Texts.{clip, or_text, or_number}
+use Rattle.parse.specs.declared.field.KindRead.{KindRead}
+use Rattle.schema.specs.Texts.{clip, or_text}
 use Rattle.features.specs.declared.FeaturesRead.{FeaturesRead}
 use Rattle.features.specs.Pieces.{pieces, features_read}
-use Rattle.parse.specs.declared.file.Piece.{Piece}
-use Rattle.parse.specs.declared.file.Piece.TheVariants as found
+use Rattle.std.specs.Prelude.{Option, Some, None, unwrap_or}
 use Rattle.parse.specs.declared.field.TextRead.{TextRead}
 use Rattle.parse.specs.declared.field.NumberRead.{NumberRead}
 use Rattle.parse.specs.declared.field.FlagRead.{FlagRead}
@@ -36,6 +35,7 @@ use Rattle.parse.specs.declared.component.RoleRead.{RoleRead}
 use Rattle.parse.specs.declared.component.BootRead.{BootRead}
 use Rattle.parse.specs.declared.component.LoadRead.{LoadRead}
 use Rattle.parse.specs.Fields.{first_fault, text_at, text_needed, number_at, flag_at, kind_at}
+use Rattle.features.specs.declared.Piece.{Piece}
 use Rattle.parse.specs.File.{file_at, Placed}
 use Rattle.parse.specs.Component.{name_in, filename_for, sources, head_read, lists, role_read, boot_read, load_read, component_read}
 
@@ -58,17 +58,17 @@ clip_end store from len h =
     (λ e. absurd (let k : 0 < 0 = rw e at h in omega arith))
 
 module _ (store : List ℕ) (file : Text) where
-  module _ (from len : ℕ) (e : file ≡ texts.Stored from len) (s : List ℕ) (g : s ≡ clip from len store) (p : Piece) (h : Placed s (file_at s) p) where
-    pub name_none : p ≡ found.Nothing → texts.Absent ≡ name_in store file
-    name_none i = let k : found.Nothing ≡ file_at (clip from len store) = sym i ∙ h.is ∙ ap file_at g in rw (e, ← k)
+  module _ (from len : ℕ) (e : file ≡ texts.Stored from len) (s : List ℕ) (g : s ≡ clip from len store) (p : Option Piece) (h : Placed s (file_at s) p) where
+    pub name_none : p ≡ None → texts.Absent ≡ name_in store file
+    name_none i = let k : None ≡ file_at (clip from len store) = sym i ∙ h.is ∙ ap file_at g in rw (e, ← k)
 
-    module _ (at n : ℕ) (i : p ≡ found.At at n) where
-      pub name_at : texts.Stored (from + at) n ≡ name_in store file
-      name_at = let k : found.At at n ≡ file_at (clip from len store) = sym i ∙ h.is ∙ ap file_at g in rw (e, ← k)
+    module _ (u : Piece) (i : p ≡ Some u) where
+      pub name_at : texts.Stored (from + u.from) u.len ≡ name_in store file
+      name_at = let k : Some u ≡ file_at (clip from len store) = sym i ∙ h.is ∙ ap file_at g in rw (e, ← k)
 
-      pub name_fits : length store < 2 ^ 64 → from < 2 ^ 64 → Fits w64 (from + at)
+      pub name_fits : length store < 2 ^ 64 → from < 2 ^ 64 → Fits w64 (from + u.from)
       name_fits l m =
-          let k : at + n ≤ length s = rw i at h.inside in
+          let k : u.from + u.len ≤ length s = rw i at h.inside in
           let q : length s ≡ length (clip from len store) = ap length g in
           on (ltb 0 (length s))
           (λ t. record { fits = omega (arith, clip_end store from len (omega (arith, ltb-true 0 (length s) t))) })
@@ -115,7 +115,7 @@ module _ (room store : List ℕ) (f : Fields) where
       → o ≡ number_at room store f (ascii "entry_offset") → v ≡ number_at room store f (ascii "header_version")
       → e ≡ flag_at room store f (ascii "with_ext") → r ≡ number_at room store f (ascii "ext_reserve")
       → end ≡ first_fault e.fault r.fault → late ≡ first_fault v.fault end → low ≡ first_fault o.fault late
-      → mid ≡ first_fault p.fault low → all ≡ first_fault a.fault mid → d ≡ or_number r.number 0
+      → mid ≡ first_fault p.fault low → all ≡ first_fault a.fault mid → d ≡ unwrap_or r.number 0
       → record {
         fault = all;
         load = record {

@@ -4,8 +4,6 @@ use mathlib.Core.List.{List as Seq, [], ◌∷◌, ◌++◌, append_assoc, appen
 use mathlib.Core.Path.{◌≡◌, refl, sym, ap, ◌∙◌}
 use native.Mathlib.Omega.{arith}
 use native.Mathlib.Numerals.{add-one}
-use mir.Syntax.{w64}
-use mir.Val.{Fits}
 use borrow.Author.Tests.{lt-ltb, le-ltb, ne_eqb}
 use lib.Dec.{eqb}
 use lib.ListN.{length, take, drop, set, replicate, take-append-drop, length-set}
@@ -15,17 +13,14 @@ use Rattle.meaning.specs.Refusal.{R, ok, bad, Answer, accepted, refused, numbere
 use Rattle.meaning.specs.Fields.{each, listed}
 use Rattle.laws.specs.Cases.{on}
 use Rattle.laws.specs.Variants.{Left, others}
-use Rattle.tree.specs.declared.Found.TheVariants.{At, Nothing}
+use Rattle.std.specs.Prelude.{Option, Some, None, unwrap_or}
 use Rattle.tree.specs.declared.Value.{Value}
 use Rattle.tree.specs.declared.Value.TheVariants as values
 use Rattle.tree.specs.declared.Fields.{Fields}
 use Rattle.tree.specs.declared.Span.{Span}
+use Rattle.tree.specs.declared.Step.{Step}
 use Rattle.tree.specs.declared.Items.{Items}
-use Rattle.tree.specs.declared.Item.{Item}
-use Rattle.tree.specs.declared.Item.TheVariants as given
 use Rattle.tree.specs.declared.Keys.{Keys}
-use Rattle.tree.specs.declared.Key.{Key}
-use Rattle.tree.specs.declared.Key.TheVariants as keyed
 use Rattle.tree.specs.Room.{Holds, Finds, Counts}
 use Rattle.tree.specs.Doors.{Rooms, Stood, Spread, field, fields_of, value_at, items, nth_of}
 use Rattle.tree.specs.Spans.{spread_fields, items_count}
@@ -47,7 +42,7 @@ use Rattle.tree.specs.Steps.{
 }
 use Rattle.schema.specs.declared.Text.TheVariants as texts
 use Rattle.schema.specs.declared.Partition.{Partition}
-use Rattle.schema.specs.Texts.{start_of, length_of, or_number}
+use Rattle.schema.specs.Texts.{start_of, length_of}
 use Rattle.parse.specs.declared.Refusal.{Refusal}
 use Rattle.parse.specs.declared.front.TableRead.{TableRead}
 use Rattle.parse.specs.declared.field.TextRead.{TextRead}
@@ -163,7 +158,7 @@ module _ (room store : Seq ℕ) where
       → n ≡ text_needed room store f (ascii "name") → o ≡ number_needed room store f (ascii "offset") → s ≡ number_needed room store f (ascii "size")
       → l ≡ flag_at room store f (ascii "locked")
       → last ≡ first_fault s.fault l.fault → late ≡ first_fault o.fault last → all ≡ first_fault n.fault late
-      → from ≡ start_of n.text → len ≡ length_of n.text → offset ≡ or_number o.number 0 → size ≡ or_number s.number 0
+      → from ≡ start_of n.text → len ≡ length_of n.text → offset ≡ unwrap_or o.number 0 → size ≡ unwrap_or s.number 0
       → record { fault = all; partition = record { from = from; len = len; offset = offset; size = size; locked = l.flag } } ≡ partition_read room store f
   unfolding partition_read
   partition_is f n o s l last late all from len offset size e1 e2 e3 e4 e5 e6 e7 e8 e9 e10 e11 = rw (e7, e6, e5, e8, e9, e10, e11, e1, e2, e3, e4)
@@ -222,36 +217,33 @@ module _ (room store : Seq ℕ) (made place end limit : ℕ) where
   comps_start w e r l = rw e (record { low = omega arith; high = omega arith; within = l; most = r.low; left = refl })
 
   module _ (i : ℕ) (w : Items) (k : Composed room store made place end limit i w) where
-    pub comps_fits : Fits w64 (i + 1)
-    comps_fits = record { fits = omega (arith, k.most, k.low, k.high) }
-
-    module _ (step : Item) (h : Gives room w step) where
-      pub comps_end : (r : Refusal) → step ≡ given.End → r ≡ refusal_at 0 0 0 → r ≡ each_component room store made place end limit
+    module _ (step : Option (Step Items)) (h : Gives room w step) where
+      pub comps_end : (r : Refusal) → step ≡ None → r ≡ refusal_at 0 0 0 → r ≡ each_component room store made place end limit
       comps_end r g e = e ∙ sym (rw (item_ended room w step h g) at k.left)
 
-      module _ (n : ℕ) (rest : Items) (g : step ≡ given.At n rest) (c : ComponentRead) (e : c ≡ component_at room store made n limit) where
-        next : Given room w n rest
-        next = item_given room w step h n rest g
+      module _ (given : Step Items) (g : step ≡ Some given) (c : ComponentRead) (e : c ≡ component_at room store made given.value limit) where
+        next : Given room w given
+        next = item_given room w step h given g
 
         pub comps_not : (r : Refusal) → (c.fault ≡ 0 → ⊥) → r ≡ refusal_at 4 c.fault i → r ≡ each_component room store made place end limit
         comps_not r f t =
             let q : as_r c.fault c.component ≡ bad c.fault = wrong c.fault c.component f in
-            let p : component_r room store made limit n ≡ bad c.fault = rw (← e) q in
+            let p : component_r room store made limit given.value ≡ bad c.fault = rw (← e) q in
             t
-            ∙ sym (each_wrong (component_r room store made limit) in_component i n (to_come room rest) c.fault p)
+            ∙ sym (each_wrong (component_r room store made limit) in_component i given.value (to_come room given.rest) c.fault p)
             ∙ sym (rw next.come at k.left)
 
-        pub comps_on : c.fault ≡ 0 → Composed room store made place end limit (i + 1) rest
+        pub comps_on : c.fault ≡ 0 → Composed room store made place end limit (i + 1) given.rest
         comps_on f =
             let q : as_r c.fault c.component ≡ ok c.component = good c.fault c.component f in
-            let p : component_r room store made limit n ≡ ok c.component = rw (← e) q in
+            let p : component_r room store made limit given.value ≡ ok c.component = rw (← e) q in
             record {
               low = omega (arith, k.low, next.on);
               high = omega (arith, next.within, k.within);
               within = omega (arith, next.end, k.within);
               most = k.most;
               left = rw next.come at k.left
-                  ∙ each_good (component_r room store made limit) in_component i n (to_come room rest) c.component p;
+                  ∙ each_good (component_r room store made limit) in_component i given.value (to_come room given.rest) c.component p;
             }
 
 -- ---- all partitions
@@ -290,9 +282,9 @@ module _ (room store : Seq ℕ) (made place end : ℕ) where
       }
       )
 
-  module _ (xs : Seq Partition) (i : ℕ) (w : Items) (k : Filled room store made place end xs i w) (step : Item) (h : Gives room w step) where
+  module _ (xs : Seq Partition) (i : ℕ) (w : Items) (k : Filled room store made place end xs i w) (step : Option (Step Items)) (h : Gives room w step) where
     -- no item is left
-    pub parts_end : (t : Refusal) → t ≡ refusal_at 0 0 0 → step ≡ given.End
+    pub parts_end : (t : Refusal) → t ≡ refusal_at 0 0 0 → step ≡ None
         → Partitioned (each_partition room store made place end) (record { fault = t; count = i; items = xs })
     parts_end t e g =
         let a : each_partition room store made place end ≡ accepted (take i xs ++ []) = rw (item_ended room w step h g) at k.left in
@@ -301,37 +293,37 @@ module _ (room store : Seq ℕ) (made place end : ℕ) where
         let u : xs ≡ take i xs ++ replicate (32 - i) blank = sym (take-append-drop i xs) ∙ ap (λ (ys : Seq Partition). take i xs ++ ys) k.rest in
         rw (b, n) (e, refl, omega (arith, k.few), u)
 
-    module _ (n : ℕ) (rest : Items) (g : step ≡ given.At n rest) where
-      more : to_come room w ≡ n ∷ to_come room rest
-      more = (item_given room w step h n rest g).come
+    module _ (given : Step Items) (g : step ≡ Some given) where
+      more : to_come room w ≡ given.value ∷ to_come room given.rest
+      more = (item_given room w step h given g).come
 
       pub parts_room : i < 32
       parts_room = omega (arith, k.few, ap length more)
 
-      module _ (p : PartitionRead) (e : p ≡ partition_at room store made n) where
+      module _ (p : PartitionRead) (e : p ≡ partition_at room store made given.value) where
         pub parts_not : (r : Partitions) → (p.fault ≡ 0 → ⊥) → NoPartitions (refusal_at 3 p.fault i) r → Partitioned (each_partition room store made place end) r
         parts_not r f t =
             let q : as_r p.fault p.partition ≡ bad p.fault = wrong p.fault p.partition f in
-            let b : partition_r room store made n ≡ bad p.fault = rw (← e) q in
+            let b : partition_r room store made given.value ≡ bad p.fault = rw (← e) q in
             let a : each_partition room store made place end ≡ refused (numbered p.fault) 3 i
             = rw (more, b) at k.left in
             rw a t
 
-        pub parts_on : p.fault ≡ 0 → Filled room store made place end (set xs i p.partition) (i + 1) rest
+        pub parts_on : p.fault ≡ 0 → Filled room store made place end (set xs i p.partition) (i + 1) given.rest
         parts_on f =
             let q : as_r p.fault p.partition ≡ ok p.partition = good p.fault p.partition f in
-            let b : partition_r room store made n ≡ ok p.partition = rw (← e) q in
+            let b : partition_r room store made given.value ≡ ok p.partition = rw (← e) q in
             let d : 32 - i ≡ suc (32 - (i + 1)) = omega (arith, parts_room) in
             let v : drop i xs ≡ replicate (suc (32 - (i + 1))) blank = rw d at k.rest in
             let l : i < length xs = omega (arith, parts_room, k.size) in
             let u : take (i + 1) (set xs i p.partition) ≡ take i xs ++ (p.partition ∷ []) = rw add-one (take-suc-set xs i p.partition l) in
             record {
-              within = omega (arith, (item_given room w step h n rest g).end, k.within);
+              within = omega (arith, (item_given room w step h given g).end, k.within);
               size = length-set xs i p.partition ∙ k.size;
               few = omega (arith, k.few, ap length more);
               rest = drop-set-lt (i + 1) xs i p.partition (omega arith) ∙ sym (drop-drop 1 i xs) ∙ ap (drop 1) v;
               left = rw (more, b) at k.left
-                  ∙ fronted (take i xs) p.partition (each (partition_r room store made) in_partition (i + 1) (to_come room rest))
+                  ∙ fronted (take i xs) p.partition (each (partition_r room store made) in_partition (i + 1) (to_come room given.rest))
                   ∙ rw u;
             }
 
@@ -365,14 +357,14 @@ module _ (room store : Seq ℕ) (made n : ℕ) (l : List) (h : Counts room l.end
 -- ---- keys in byte order
 
 -- what a walk has still to give, at most k of them, by what a step says
-module _ (room store : Seq ℕ) (place end : ℕ) (w : Keys) (o : Over room place end w) (step : Key) (h : KeyGives room store w step) where
-  pub walk_ended : (k : ℕ) → step ≡ keyed.End → walk room store end place k w.after ≡ []
+module _ (room store : Seq ℕ) (place end : ℕ) (w : Keys) (o : Over room place end w) (step : Option (Step Keys)) (h : KeyGives room store w step) where
+  pub walk_ended : (k : ℕ) → step ≡ None → walk room store end place k w.after ≡ []
   walk_ended zero e = refl
   walk_ended (suc k) e = rw (key_ended room store place end w o step h e)
 
-  pub walk_given : (k n : ℕ) (rest : Keys) → step ≡ keyed.At n rest
-      → walk room store end place (suc k) w.after ≡ n ∷ walk room store end place k rest.after
-  walk_given k n rest e = let g = key_given room store place end w o step h n rest e in rw (g.next, g.after)
+  pub walk_given : (k : ℕ) (given : Step Keys) → step ≡ Some given
+      → walk room store end place (suc k) w.after ≡ given.value ∷ walk room store end place k given.rest.after
+  walk_given k given e = let g = key_given room store place end w o step h given e in rw (g.next, g.after)
 
 -- a walk is over the keys that it is over
 over_itself : (room : Seq ℕ) (place end : ℕ) (w : Keys) → Over room place end w → Over room w.place w.end w
@@ -382,33 +374,33 @@ over_itself room place end w o = record { ready = o.ready; place = refl; end = r
 pub record Counted (room store : Seq ℕ) (place end most : ℕ) (w : Keys) (n : ℕ) : Type 0 where
   pub over : Over room place end w
   pub high : n ≤ most + 1
-  pub left : length (walk room store end place (most + 1) Nothing) ≡ n + length (walk room store end place (most + 1 - n) w.after)
+  pub left : length (walk room store end place (most + 1) None) ≡ n + length (walk room store end place (most + 1 - n) w.after)
 
 module _ (room store : Seq ℕ) (place end most : ℕ) (w : Keys) where
-  pub count_start : Begins room place end Nothing w → Counted room store w.place w.end most w 0
+  pub count_start : Begins room place end None w → Counted room store w.place w.end most w 0
   count_start b =
       let d : most + 1 - 0 ≡ most + 1 = omega arith in
       record { over = over_itself room place end w b.over; high = omega arith; left = rw (d, b.after) (omega arith) }
 
   module _ (n : ℕ) (k : Counted room store place end most w n) where
-    pub count_on : (m : ℕ) (rest : Keys) (step : Key) → n ≤ most → KeyGives room store w step → step ≡ keyed.At m rest
-        → Counted room store place end most rest (n + 1)
-    count_on m rest step l h e =
+    pub count_on : (given : Step Keys) (step : Option (Step Keys)) → n ≤ most → KeyGives room store w step → step ≡ Some given
+        → Counted room store place end most given.rest (n + 1)
+    count_on given step l h e =
         let d : most + 1 - n ≡ suc (most + 1 - (n + 1)) = omega arith in
-        let v : walk room store end place (most + 1 - n) w.after ≡ m ∷ walk room store end place (most + 1 - (n + 1)) rest.after
-        = rw d (walk_given room store place end w k.over step h (most + 1 - (n + 1)) m rest e) in
+        let v : walk room store end place (most + 1 - n) w.after ≡ given.value ∷ walk room store end place (most + 1 - (n + 1)) given.rest.after
+        = rw d (walk_given room store place end w k.over step h (most + 1 - (n + 1)) given e) in
         record {
-          over = (key_given room store place end w k.over step h m rest e).over;
+          over = (key_given room store place end w k.over step h given e).over;
           high = omega arith;
           left = omega (arith, k.left, ap length v);
         }
 
-module _ (room store : Seq ℕ) (l : List) (v : Keys) (b : Begins room l.place l.end Nothing v)
+module _ (room store : Seq ℕ) (l : List) (v : Keys) (b : Begins room l.place l.end None v)
     (most : ℕ) (w : Keys) (n : ℕ) (c : Counted room store v.place v.end most w n) where
   counted_keys : Counted room store l.place l.end most w n
   counted_keys = rw (b.over.place, b.over.end) at c
 
-  pub count_none : (step : Key) → KeyGives room store w step → step ≡ keyed.End → Keyed room store l most n
+  pub count_none : (step : Option (Step Keys)) → KeyGives room store w step → step ≡ None → Keyed room store l most n
   count_none step h e =
       let u : walk room store l.end l.place (most + 1 - n) w.after ≡ []
       = walk_ended room store l.place l.end w counted_keys.over step h (most + 1 - n) e in
@@ -424,46 +416,46 @@ module _ (room store : Seq ℕ) (l : List) (v : Keys) (b : Begins room l.place l
 
 pub record Nearing (room store : Seq ℕ) (place end i : ℕ) (w : Keys) (left : ℕ) : Type 0 where
   pub over : Over room place end w
-  pub is : nth_of (walk room store end place (i + 1) Nothing) i ≡ nth_of (walk room store end place (left + 1) w.after) left
+  pub is : nth_of (walk room store end place (i + 1) None) i ≡ nth_of (walk room store end place (left + 1) w.after) left
 
-pub nth_start : (room store : Seq ℕ) (place end i : ℕ) (w : Keys) → Begins room place end Nothing w
+pub nth_start : (room store : Seq ℕ) (place end i : ℕ) (w : Keys) → Begins room place end None w
     → Nearing room store w.place w.end i w i
 nth_start room store place end i w b = record { over = over_itself room place end w b.over; is = rw b.after }
 
 module _ (room store : Seq ℕ) (place end i : ℕ) (w : Keys) (left : ℕ) (k : Nearing room store place end i w left)
-    (step : Key) (h : KeyGives room store w step) (m : ℕ) (rest : Keys) (e : step ≡ keyed.At m rest) where
-  onward_is : nth_of (walk room store end place (i + 1) Nothing) i ≡ nth_of (m ∷ walk room store end place left rest.after) left
+    (step : Option (Step Keys)) (h : KeyGives room store w step) (given : Step Keys) (e : step ≡ Some given) where
+  onward_is : nth_of (walk room store end place (i + 1) None) i ≡ nth_of (given.value ∷ walk room store end place left given.rest.after) left
   onward_is =
-      let v : walk room store end place (left + 1) w.after ≡ m ∷ walk room store end place left rest.after
-      = rw (add-one left) (walk_given room store place end w k.over step h left m rest e) in
+      let v : walk room store end place (left + 1) w.after ≡ given.value ∷ walk room store end place left given.rest.after
+      = rw (add-one left) (walk_given room store place end w k.over step h left given e) in
       rw v at k.is
 
-  pub nth_on : (left ≡ 0 → ⊥) → Nearing room store place end i rest (left - 1)
+  pub nth_on : (left ≡ 0 → ⊥) → Nearing room store place end i given.rest (left - 1)
   nth_on f =
       let d : left ≡ suc (left - 1) = omega arith in
       let z : left - 1 + 1 ≡ left = omega arith in
       record {
-        over = (key_given room store place end w k.over step h m rest e).over;
-        is = rw z (onward_is ∙ ap (λ (j : ℕ). nth_of (m ∷ walk room store end place left rest.after) j) d);
+        over = (key_given room store place end w k.over step h given e).over;
+        is = rw z (onward_is ∙ ap (λ (j : ℕ). nth_of (given.value ∷ walk room store end place left given.rest.after) j) d);
       }
 
-module _ (room store : Seq ℕ) (l : List) (v : Keys) (b : Begins room l.place l.end Nothing v)
-    (i : ℕ) (w : Keys) (left : ℕ) (c : Nearing room store v.place v.end i w left) (step : Key) (h : KeyGives room store w step) where
+module _ (room store : Seq ℕ) (l : List) (v : Keys) (b : Begins room l.place l.end None v)
+    (i : ℕ) (w : Keys) (left : ℕ) (c : Nearing room store v.place v.end i w left) (step : Option (Step Keys)) (h : KeyGives room store w step) where
   nearing_key : Nearing room store l.place l.end i w left
   nearing_key = rw (b.over.place, b.over.end) at c
 
-  pub nth_none : step ≡ keyed.End → Finds 0 l.end (nth_key room store l i) Nothing
+  pub nth_none : step ≡ None → Finds 0 l.end (nth_key room store l i) None
   nth_none e =
       let u : walk room store l.end l.place (left + 1) w.after ≡ []
       = walk_ended room store l.place l.end w nearing_key.over step h (left + 1) e in
       record { is = sym (rw u at nearing_key.is); from = tt; below = tt }
 
-  pub nth_hit : (m : ℕ) (rest : Keys) → step ≡ keyed.At m rest → left ≡ 0 → Finds 0 l.end (nth_key room store l i) (At m)
-  nth_hit m rest e z =
+  pub nth_hit : (given : Step Keys) → step ≡ Some given → left ≡ 0 → Finds 0 l.end (nth_key room store l i) (Some given.value)
+  nth_hit given e z =
       record {
-        is = sym (rw z at (onward_is room store l.place l.end i w left nearing_key step h m rest e));
+        is = sym (rw z at (onward_is room store l.place l.end i w left nearing_key step h given e));
         from = omega arith;
-        below = (key_given room store l.place l.end w nearing_key.over step h m rest e).below;
+        below = (key_given room store l.place l.end w nearing_key.over step h given e).below;
       }
 
 -- ---- all applications
@@ -503,40 +495,40 @@ module _ (room store : Seq ℕ) (made limit i n : ℕ) where
 pub record Walking (room store : Seq ℕ) (made most limit place end : ℕ) (w : Keys) (fault : Refusal) (i : ℕ) : Type 0 where
   pub count : Counted room store place end most w i
   pub plain : Plain fault
-  pub left : refusal_of (each (application_r room store made limit) in_application 0 (walk room store end place (most + 1) Nothing))
+  pub left : refusal_of (each (application_r room store made limit) in_application 0 (walk room store end place (most + 1) None))
       ≡ earlier fault (refusal_of (each (application_r room store made limit) in_application i (walk room store end place (most + 1 - i) w.after)))
 
 module _ (room store : Seq ℕ) (made most limit place end : ℕ) (w : Keys) (fault : Refusal) where
-  pub apps_start : Begins room place end Nothing w → fault ≡ refusal_at 0 0 0 → Walking room store made most limit w.place w.end w fault 0
+  pub apps_start : Begins room place end None w → fault ≡ refusal_at 0 0 0 → Walking room store made most limit w.place w.end w fault 0
   apps_start b e =
       let d : most + 1 - 0 ≡ most + 1 = omega arith in
       record { count = count_start room store place end most w b; plain = rw e; left = rw (d, e, b.after) }
 
   module _ (i : ℕ) (k : Walking room store made most limit place end w fault i) (l : i ≤ most)
-      (step : Key) (h : KeyGives room store w step) (m : ℕ) (rest : Keys) (g : step ≡ keyed.At m rest) where
-    pub apps_on : (r : Refusal) → r ≡ earlier fault (application_fault room store made limit i m) → Walking room store made most limit place end rest r (i + 1)
+      (step : Option (Step Keys)) (h : KeyGives room store w step) (given : Step Keys) (g : step ≡ Some given) where
+    pub apps_on : (r : Refusal) → r ≡ earlier fault (application_fault room store made limit i given.value) → Walking room store made most limit place end given.rest r (i + 1)
     apps_on r e =
         let d : most + 1 - i ≡ suc (most + 1 - (i + 1)) = omega arith in
-        let v : walk room store end place (most + 1 - i) w.after ≡ m ∷ walk room store end place (most + 1 - (i + 1)) rest.after
-        = rw d (walk_given room store place end w k.count.over step h (most + 1 - (i + 1)) m rest g) in
-        let ns = walk room store end place (most + 1 - (i + 1)) rest.after in
-        let here = application_fault room store made limit i m in
+        let v : walk room store end place (most + 1 - i) w.after ≡ given.value ∷ walk room store end place (most + 1 - (i + 1)) given.rest.after
+        = rw d (walk_given room store place end w k.count.over step h (most + 1 - (i + 1)) given g) in
+        let ns = walk room store end place (most + 1 - (i + 1)) given.rest.after in
+        let here = application_fault room store made limit i given.value in
         let late = refusal_of (each (application_r room store made limit) in_application (i + 1) ns) in
         record {
-          count = count_on room store place end most w i k.count m rest step l h g;
-          plain = rw e (sym (earlier_both fault here (refusal_at 0 0 0)) ∙ ap (earlier fault) (fault_plain room store made limit i m));
-          left = rw e (rw v at k.left ∙ ap (earlier fault) (each_fault room store made limit i m ns) ∙ earlier_both fault here late);
+          count = count_on room store place end most w i k.count given step l h g;
+          plain = rw e (sym (earlier_both fault here (refusal_at 0 0 0)) ∙ ap (earlier fault) (fault_plain room store made limit i given.value));
+          left = rw e (rw v at k.left ∙ ap (earlier fault) (each_fault room store made limit i given.value ns) ∙ earlier_both fault here late);
         }
 
-module _ (room store : Seq ℕ) (made : ℕ) (l : List) (v : Keys) (b : Begins room l.place l.end Nothing v)
+module _ (room store : Seq ℕ) (made : ℕ) (l : List) (v : Keys) (b : Begins room l.place l.end None v)
     (most limit : ℕ) (w : Keys) (fault : Refusal) (i : ℕ) (c : Walking room store made most limit v.place v.end w fault i) where
   walked_keys : Walking room store made most limit l.place l.end w fault i
   walked_keys = rw (b.over.place, b.over.end) at c
 
-  pub apps_stood : (step : Key) (m : ℕ) (rest : Keys) → Among room made l → KeyGives room store w step → step ≡ keyed.At m rest → Stood room m
-  apps_stood step m rest a h g = key_stands room store l.place l.end w walked_keys.count.over step h m rest g made a.rooms a.end
+  pub apps_stood : (step : Option (Step Keys)) (given : Step Keys) → Among room made l → KeyGives room store w step → step ≡ Some given → Stood room given.value
+  apps_stood step given a h g = key_stands room store l.place l.end w walked_keys.count.over step h given g made a.rooms a.end
 
-  pub apps_none : (step : Key) → i ≤ most → KeyGives room store w step → step ≡ keyed.End → fault ≡ applications room store made l most limit
+  pub apps_none : (step : Option (Step Keys)) → i ≤ most → KeyGives room store w step → step ≡ None → fault ≡ applications room store made l most limit
   unfolding listed
   apps_none step a h g =
       let n : Keyed room store l most i = count_none room store l v b most w i c.count step h g in

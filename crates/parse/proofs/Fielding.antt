@@ -9,19 +9,11 @@ use Rattle.tree.specs.declared.Fields.{Fields}
 use Rattle.laws.specs.Variants.{Left, others}
 use Rattle.tree.specs.Doors.{field}
 use Rattle.tree.specs.contracts.Value.{enum}
-use Rattle.schema.specs.contracts.Text as text
-use Rattle.schema.specs.declared.Text.TheVariants as texts
-use Rattle.schema.specs.declared.Number.TheVariants as numbers
-use Rattle.schema.specs.declared.Kind.TheVariants.{Raw}
-use Rattle.schema.specs.declared.KindRead.{KindRead}
-use Rattle.schema.specs.declared.Media.{Media}
-use Rattle.schema.specs.declared.MediaRead.{MediaRead}
-use Rattle.schema.specs.Words.{kind_read, media_read}
-use Rattle.schema.specs.Texts.{clip}
+use Rattle.std.specs.Prelude.{Some}
 use Rattle.parse.specs.declared.field.TextRead.{TextRead}
 use Rattle.parse.specs.declared.field.NumberRead.{NumberRead}
 use Rattle.parse.specs.declared.field.FlagRead.{FlagRead}
-use Rattle.parse.specs.Fields.{first_fault, missing, no_text, no_flag, text_read, number_read, flag_read, no_number, ranged, kind_of, media_of, text_at, number_at, flag_at, text_needed, number_needed}
+use Rattle.parse.specs.Fields.{first_fault, missing, no_text, no_flag, text_read, number_read, flag_read, no_number, ranged, text_at, number_at, flag_at, text_needed, number_needed}
 
 -- ---- an integer's range
 module _ (negative : Bool) (magnitude : ℕ) where
@@ -34,7 +26,7 @@ module _ (negative : Bool) (magnitude : ℕ) where
     unfolding ranged
     range_above r l h = rw (e, lt-leb magnitude 4294967295 l) h
 
-    pub range_in : magnitude ≤ 4294967295 → record { fault = 0; number = numbers.Of magnitude } ≡ ranged negative magnitude
+    pub range_in : magnitude ≤ 4294967295 → record { fault = 0; number = Some magnitude } ≡ ranged negative magnitude
     unfolding ranged
     range_in l = rw (e, le-leb magnitude 4294967295 l)
 
@@ -80,20 +72,3 @@ module _ (room store : List ℕ) (f : Fields) (key : List ℕ) (v : Value) (e : 
 
     pub number_needs : (t : NumberRead) → t ≡ number_read v → n ≡ first_fault t.fault m → record { fault = n; number = t.number } ≡ number_needed room store f key
     number_needs t et en = rw (en, em, et, e)
-
--- ---- a text that is a word of some
-module _ (store : List ℕ) (t u : TextRead) (e : t ≡ u) where
-  module _ (from len : ℕ) (p : t.text ≡ texts.Stored from len) (s : List ℕ) (c : s ≡ clip from len store) where
-    pub kind_stored : (r : KindRead) → r ≡ kind_read s → r ≡ kind_of store u u.text
-    kind_stored r h = h ∙ rw (← e, p, c)
-
-    pub media_stored : (d : Media) (r : MediaRead) → r ≡ media_read s → r ≡ media_of store d u u.text
-    media_stored d r h = h ∙ rw (← e, p, c)
-
-  -- all but a string of the store
-  module _ (o : Left text.enum (0 ∷ 2 ∷ 3 ∷ 4 ∷ []) t.text) where
-    pub kind_none : record { fault = t.fault; kind = Raw } ≡ kind_of store u u.text
-    kind_none = rw (← e) (others text.enum (λ w. record { fault = t.fault; kind = Raw } ≡ kind_of store t w) (0 ∷ 2 ∷ 3 ∷ 4 ∷ []) (λ _. refl) (λ _. refl) (λ _. refl) (λ _. refl) t.text o)
-
-    pub media_none : (d : Media) → record { fault = t.fault; media = d } ≡ media_of store d u u.text
-    media_none d = rw (← e) (others text.enum (λ w. record { fault = t.fault; media = d } ≡ media_of store d t w) (0 ∷ 2 ∷ 3 ∷ 4 ∷ []) (λ _. refl) (λ _. refl) (λ _. refl) (λ _. refl) t.text o)

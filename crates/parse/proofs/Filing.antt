@@ -15,8 +15,8 @@ use Rattle.meaning.specs.Files.{piece?}
 use Rattle.laws.specs.Cases.{on}
 use Rattle.laws.specs.Parts.{rest_of}
 use Rattle.slices.specs.Found.{Found}
-use Rattle.parse.specs.declared.file.Piece.{Piece}
-use Rattle.parse.specs.declared.file.Piece.TheVariants.{Nothing, At}
+use Rattle.std.specs.Prelude.{Option, Some, None}
+use Rattle.features.specs.declared.Piece.{Piece}
 use Rattle.parse.specs.File.{Inside, Ends, closed, last_at, not_up_at, file_at, Placed}
 
 -- ---- one piece
@@ -48,11 +48,11 @@ module _ (p : List ℕ) (h : length p ≡ 0 → ⊥) (r : Bool) (e : r ≡ same 
   unfolding piece?
   piece_is q = rw (some p h, ← e, q)
 
-module _ (s : List ℕ) (best : Piece) (at end : ℕ) (o : at ≤ end) (r : Bool) (e : r ≡ piece? (take (end - at) (drop at s))) where
+module _ (s : List ℕ) (best : Option Piece) (at end : ℕ) (o : at ≤ end) (r : Bool) (e : r ≡ piece? (take (end - at) (drop at s))) where
   whole : part at (at + (end - at)) s ≡ take (end - at) (drop at s)
   whole = let k : at + (end - at) ≡ end = omega arith in rw k
 
-  pub closed_here : end ≤ length s → r ≡ true → Placed s (closed s best at (end - at)) (At at (end - at))
+  pub closed_here : end ≤ length s → r ≡ true → Placed s (closed s best at (end - at)) (Some (record { from = at; len = end - at }))
   unfolding closed
   closed_here l q = record { is = rw (whole, ← e, q); inside = omega arith }
 
@@ -61,7 +61,7 @@ module _ (s : List ℕ) (best : Piece) (at end : ℕ) (o : at ≤ end) (r : Bool
   closed_past i q = record { is = rw (whole, ← e, q); inside = i }
 
 -- ---- the pieces up to the next slash, and up to the end
-run_on : (path : List ℕ) (best : Piece) (from len : ℕ) (t : List ℕ) → before 47 t < length t
+run_on : (path : List ℕ) (best : Option Piece) (from len : ℕ) (t : List ℕ) → before 47 t < length t
     → last_at path best from len t ≡ last_at path (closed path best from (len + before 47 t)) (from + (len + before 47 t) + 1) 0 (drop (suc (before 47 t)) t)
 run_on path best from len [] h = absurd (omega arith)
 run_on path best from len (b ∷ t) h =
@@ -71,7 +71,7 @@ run_on path best from len (b ∷ t) h =
     let q : len + 1 + before 47 t ≡ len + suc (before 47 t) = omega arith in
     rw p (rw q at (run_on path best from (len + 1) t (omega arith))))
 
-run_out : (path : List ℕ) (best : Piece) (from len : ℕ) (t : List ℕ) → length t ≤ before 47 t → last_at path best from len t ≡ closed path best from (len + before 47 t)
+run_out : (path : List ℕ) (best : Option Piece) (from len : ℕ) (t : List ℕ) → length t ≤ before 47 t → last_at path best from len t ≡ closed path best from (len + before 47 t)
 run_out path best from len [] h = rw (add-zero len)
 run_out path best from len (b ∷ t) h =
     on (eqb b 47) (λ p. let k : suc (length t) ≤ 0 = rw p at h in absurd (omega arith))
@@ -81,16 +81,16 @@ run_out path best from len (b ∷ t) h =
     rw p (rw q at (run_out path best from (len + 1) t (omega arith))))
 
 -- ---- the loop
-pub record Seeking (s : List ℕ) (best : Piece) (at : ℕ) : Type 0 where
+pub record Seeking (s : List ℕ) (best : Option Piece) (at : ℕ) : Type 0 where
   pub high : at ≤ length s
   pub inside : Inside s best
-  pub left : last_at s Nothing 0 0 s ≡ last_at s best at 0 (drop at s)
+  pub left : last_at s None 0 0 s ≡ last_at s best at 0 (drop at s)
 
-pub seek_start : (s : List ℕ) → Seeking s Nothing 0
+pub seek_start : (s : List ℕ) → Seeking s None 0
 seek_start s = record { high = omega arith; inside = tt; left = refl }
 
-module _ (s : List ℕ) (best : Piece) (at : ℕ) (k : Seeking s best at) where
-  module _ (end : ℕ) (e : Ends s at end) (next : Piece) (n : Placed s (closed s best at (end - at)) next) where
+module _ (s : List ℕ) (best : Option Piece) (at : ℕ) (k : Seeking s best at) where
+  module _ (end : ℕ) (e : Ends s at end) (next : Option Piece) (n : Placed s (closed s best at (end - at)) next) where
     pub seek_on : end < length s → Seeking s next (end + 1)
     seek_on h =
         let u : before 47 (drop at s) ≡ end - at = omega (arith, e.is) in
@@ -104,35 +104,35 @@ module _ (s : List ℕ) (best : Piece) (at : ℕ) (k : Seeking s best at) where
           left = k.left ∙ (rw (u, v, w, drop-drop, x, ← n.is) at (run_on s best at 0 (drop at s) l));
         }
 
-    pub seek_out : length s ≤ end → Placed s (last_at s Nothing 0 0 s) next
+    pub seek_out : length s ≤ end → Placed s (last_at s None 0 0 s) next
     seek_out h =
         let u : before 47 (drop at s) ≡ end - at = omega (arith, e.is) in
         let l : length (drop at s) ≤ before 47 (drop at s) = omega (arith, length-drop at s, e.is) in
         let v : 0 + (end - at) ≡ end - at = omega arith in
         record { is = n.is ∙ sym (k.left ∙ (rw (u, v) at (run_out s best at 0 (drop at s) l))); inside = n.inside }
 
-  pub seek_end : length s ≤ at → Placed s (last_at s Nothing 0 0 s) best
+  pub seek_end : length s ≤ at → Placed s (last_at s None 0 0 s) best
   unfolding closed piece?
   seek_end h = let z : at + 0 - at ≡ 0 = omega arith in record { is = sym (k.left ∙ rw (drop_of_length-le s h, z)); inside = k.inside }
 
 -- ---- the name
-module _ (s : List ℕ) (p : Piece) (k : Placed s (last_at s Nothing 0 0 s) p) where
-  pub name_none : p ≡ Nothing → Placed s (file_at s) Nothing
+module _ (s : List ℕ) (p : Option Piece) (k : Placed s (last_at s None 0 0 s) p) where
+  pub name_none : p ≡ None → Placed s (file_at s) None
   unfolding not_up_at
   name_none e = record { is = rw (← k.is, e); inside = tt }
 
-  module _ (from len : ℕ) (e : p ≡ At from len) where
-    pub name_fits : from + len ≤ length s
+  module _ (q : Piece) (e : p ≡ Some q) where
+    pub name_fits : q.from + q.len ≤ length s
     name_fits = rw e at k.inside
 
-    pub name_within : length s < 2 ^ 64 → Fits w64 (from + len)
+    pub name_within : length s < 2 ^ 64 → Fits w64 (q.from + q.len)
     name_within h = record { fits = omega (arith, name_fits) }
 
-    module _ (r : Bool) (q : r ≡ same (take (from + len - from) (drop from s)) (ascii "..")) where
-      pub name_up : r ≡ true → Placed s (file_at s) Nothing
+    module _ (r : Bool) (f : r ≡ same (take (q.from + q.len - q.from) (drop q.from s)) (ascii "..")) where
+      pub name_up : r ≡ true → Placed s (file_at s) None
       unfolding not_up_at
-      name_up t = record { is = rw (← k.is, e, ← q, t); inside = tt }
+      name_up t = record { is = rw (← k.is, e, ← f, t); inside = tt }
 
-      pub name_is : r ≡ false → Placed s (file_at s) (At from len)
+      pub name_is : r ≡ false → Placed s (file_at s) (Some q)
       unfolding not_up_at
-      name_is t = record { is = rw (← k.is, e, ← q, t); inside = name_fits }
+      name_is t = record { is = rw (← k.is, e, ← f, t); inside = name_fits }

@@ -12,6 +12,7 @@ use Rattle.tree.specs.Doors.{Rooms, Spread, field, fields_of, no_fields}
 use Rattle.tree.specs.Spans.{spread_fields}
 use Rattle.laws.specs.Variants.{Left, others}
 use Rattle.tree.specs.contracts.Value.{enum}
+use Rattle.std.specs.Prelude.{unwrap_or}
 use Rattle.schema.specs.contracts.Text as text
 use Rattle.schema.specs.declared.Text.{Text}
 use Rattle.schema.specs.declared.Text.TheVariants as texts
@@ -19,11 +20,10 @@ use Rattle.schema.specs.declared.Word.{Word}
 use Rattle.schema.specs.declared.Word.TheVariants as words
 use Rattle.schema.specs.declared.Chip.{Chip}
 use Rattle.schema.specs.declared.Chip.TheVariants.{D13x}
-use Rattle.schema.specs.declared.ChipRead.{ChipRead}
 use Rattle.schema.specs.declared.Media.{Media}
-use Rattle.schema.specs.declared.MediaRead.{MediaRead}
-use Rattle.schema.specs.Words.{chip_read, chip_word as word_of, target_word, media_choice}
-use Rattle.schema.specs.Texts.{clip, or_text, or_number}
+use Rattle.parse.specs.declared.field.MediaRead.{MediaRead}
+use Rattle.schema.specs.Words.{chip_word as word_of, target_word, media_choice}
+use Rattle.schema.specs.Texts.{or_text}
 use Rattle.parse.specs.declared.Refusal.{Refusal}
 use Rattle.parse.specs.declared.field.TextRead.{TextRead}
 use Rattle.parse.specs.declared.field.NumberRead.{NumberRead}
@@ -71,10 +71,6 @@ pub sections_are : (board image : ℕ) (a b r : Refusal) → r ≡ earlier a b �
 sections_are board image a b r h ea eb = h ∙ rw (ea, eb)
 
 module _ (store : List ℕ) where
-  pub chip_word_lem : (from len section : ℕ) (s : List ℕ) (r : ChipRead) (q : Refusal) → s ≡ clip from len store → r ≡ chip_read s → q ≡ in_section section r.fault
-      → record { fault = q; chip = r.chip } ≡ chip_word store from len section
-  chip_word_lem from len section s r q es er eq = rw (eq, er, es)
-
   module _ (c p : Text) where
     pub chosen_first : (from len : ℕ) (r : ChipFound) → c ≡ texts.Stored from len → r ≡ chip_word store from len 1 → r ≡ chosen store c p
     chosen_first from len r e h = rw e h
@@ -118,7 +114,7 @@ module _ (room store : List ℕ) where
   pub rest_is : (f : Fields) (dev : NumberRead) (id app : TextRead) (a b n : ℕ) (x y : Text)
       → dev ≡ number_at room store f (ascii "media_dev_id") → id ≡ text_at room store f (ascii "media_id") → app ≡ text_at room store f (ascii "app")
       → a ≡ first_fault id.fault app.fault → b ≡ first_fault dev.fault a
-      → n ≡ or_number dev.number 0 → x ≡ or_text id.text (texts.Stored 0 0) → y ≡ or_text app.text (texts.Stored 0 0)
+      → n ≡ unwrap_or dev.number 0 → x ≡ or_text id.text (texts.Stored 0 0) → y ≡ or_text app.text (texts.Stored 0 0)
       → record { fault = b; media_dev_id = n; media_id = x; app = y } ≡ image_rest room store f
   unfolding image_rest
   rest_is f dev id app a b n x y e1 e2 e3 ea eb en ex ey = rw (eb, ea, en, ex, ey, e1, e2, e3)

@@ -11,17 +11,15 @@ use Rattle.meaning.specs.declared.Limits.{Limits}
 use Rattle.meaning.specs.Base.{pick, ascii}
 use Rattle.meaning.specs.Limits.{of01}
 use Rattle.laws.specs.Cases.{on}
-use Rattle.tree.specs.declared.Found.{Found}
-use Rattle.tree.specs.declared.Found.TheVariants as founds
 use Rattle.tree.specs.declared.Value.{Value}
 use Rattle.tree.specs.declared.Value.TheVariants as values
 use Rattle.tree.specs.declared.Fields.{Fields}
-use Rattle.tree.specs.Room.{Holds, Finds, Below, Counts as Counted}
-use Rattle.tree.specs.Doors.{Rooms, Stood, Spread, field, fields_of, items, nth_of}
+use Rattle.tree.specs.Room.{Holds, Counts as Counted}
+use Rattle.tree.specs.Doors.{Rooms, Spread, field, fields_of}
 use Rattle.tree.specs.Spans.{spread_fields}
 use Rattle.schema.specs.declared.Text.{Text}
 use Rattle.schema.specs.declared.Media.{Media}
-use Rattle.schema.specs.declared.MediaRead.{MediaRead}
+use Rattle.parse.specs.declared.field.MediaRead.{MediaRead}
 use Rattle.schema.specs.Words.{media_choice}
 use Rattle.parse.specs.declared.Refusal.{Refusal}
 use Rattle.parse.specs.declared.front.TableRead.{TableRead}
@@ -29,22 +27,13 @@ use Rattle.parse.specs.declared.front.ChipFound.{ChipFound}
 use Rattle.parse.specs.declared.front.Front.{Front}
 use Rattle.parse.specs.declared.entry.List.{List}
 use Rattle.parse.specs.declared.entry.Partitions.{Partitions}
-use Rattle.parse.specs.declared.entry.PartitionRead.{PartitionRead}
-use Rattle.parse.specs.declared.component.ComponentRead.{ComponentRead}
-use Rattle.parse.specs.declared.application.ApplicationRead.{ApplicationRead}
 use Rattle.parse.specs.declared.view.Lists.{Lists}
-use Rattle.parse.specs.declared.view.PartitionFound.{PartitionFound}
-use Rattle.parse.specs.declared.view.PartitionFound.TheVariants as parts
-use Rattle.parse.specs.declared.view.ComponentFound.{ComponentFound}
-use Rattle.parse.specs.declared.view.ComponentFound.TheVariants as comps
-use Rattle.parse.specs.declared.view.ApplicationFound.{ApplicationFound}
-use Rattle.parse.specs.declared.view.ApplicationFound.TheVariants as apps
 use Rattle.parse.specs.Refusals.{in_section, earlier}
 use Rattle.parse.specs.Fields.{media_at}
 use Rattle.parse.specs.Front.{table_at, chip_of, board_read, image_read, front_of, front_read}
 use Rattle.parse.specs.Given.{partitioned_fault}
-use Rattle.parse.specs.Entries.{list_of, or_other, list_at, keys_of, keys_at, Among, Partitioned, partitions, components, applications, partition_at, component_at, application_at, Keyed, nth_key}
-use Rattle.parse.specs.Views.{partition_list, component_list, application_list, good_partition, good_component, good_application, partition_of, component_of, application_of, partition, component, application, lists_of, counts_of, device_of, holds_values}
+use Rattle.parse.specs.Entries.{list_of, or_other, list_at, keys_of, keys_at, Among, Partitioned, partitions, components, applications, Keyed}
+use Rattle.parse.specs.Views.{partition_list, component_list, application_list, lists_of, counts_of, device_of, holds_values}
 use Rattle.parse.specs.Refused as refused
 use Rattle.parse.specs.Placed.{verdict_place}
 use Rattle.parse.specs.Refused.{lent_text}
@@ -101,11 +90,6 @@ module _ (room store : Seq ℕ) (made : ℕ) (l : List) (h : Rooms room made) wh
 among_holds : (room : Seq ℕ) (made : ℕ) (l : List) → Among room made l → Holds room l.end
 among_holds room made l h = record { fits = omega (arith, h.rooms.fits.fits, h.end) }
 
-among_stood : (room : Seq ℕ) (made : ℕ) (l : List) (m r : Found) (n : ℕ) → Among room made l → Finds 0 l.end m r → r ≡ founds.At n → Stood room n
-among_stood room made l m r n h f e =
-    let k : n < l.end = subst (λ (q : Found). Below l.end q) e f.below in
-    record { fits = record { fits = omega (arith, h.rooms.fits.fits, h.end) }; low = omega (arith, h.rooms.low, h.end) }
-
 module _ (room store : Seq ℕ) (made : ℕ) (l : List) (h : Rooms room made) where
   pub partitions_hold : l ≡ partition_list room store made → Holds room l.end
   partitions_hold e = among_holds room made l (partitions_among room store made l h e)
@@ -115,16 +99,6 @@ module _ (room store : Seq ℕ) (made : ℕ) (l : List) (h : Rooms room made) wh
 
   pub applications_hold : l ≡ application_list room store made → Holds room l.end
   applications_hold e = among_holds room made l (applications_among room store made l h e)
-
-  module _ (m r : Found) (n : ℕ) (f : Finds 0 l.end m r) (q : r ≡ founds.At n) where
-    pub partition_stood : l ≡ partition_list room store made → Stood room n
-    partition_stood e = among_stood room made l m r n (partitions_among room store made l h e) f q
-
-    pub component_stood : l ≡ component_list room store made → Stood room n
-    component_stood e = among_stood room made l m r n (components_among room store made l h e) f q
-
-    pub application_stood : l ≡ application_list room store made → Stood room n
-    application_stood e = among_stood room made l m r n (applications_among room store made l h e) f q
 
 -- ---- one group after the other
 module _ (room store : Seq ℕ) (made : ℕ) (lim : Limits) (l : List) where
@@ -176,43 +150,6 @@ verdict_told name store tree made lim v el ev h =
           (verdict_place tree store made (fields_of tree made 1) of01 (lent_text name) 70000 (omega (arith, list_end made p, h.low)) (omega (arith, list_end made c, h.low)) (omega arith));
     }
 
--- ---- a record by its number
-module _ (room store : Seq ℕ) (made i : ℕ) (l : List) (r : Found) where
-  -- which value entry number i is
-  partition_is : l ≡ partition_list room store made → Finds 0 l.end (nth_of (items room l.end l.place 0) i) r → partition_of room store made r ≡ partition room store made i
-  partition_is e f = ap (partition_of room store made) (f.is ∙ ap (λ (k : List). nth_of (items room k.end k.place 0) i) e)
-
-  component_is : (limit : ℕ) → l ≡ component_list room store made → Finds 0 l.end (nth_of (items room l.end l.place 0) i) r
-      → component_of room store made limit r ≡ component room store made i limit
-  component_is limit e f = ap (component_of room store made limit) (f.is ∙ ap (λ (k : List). nth_of (items room k.end k.place 0) i) e)
-
-  application_is : (limit : ℕ) → l ≡ application_list room store made → Finds 0 l.end (nth_key room store l i) r → application_of room store made limit r ≡ application room store made i limit
-  application_is limit e f = ap (application_of room store made limit) (f.is ∙ ap (λ (k : List). nth_key room store k i) e)
-
-  pub partition_found : (n : ℕ) (p : PartitionFound) → l ≡ partition_list room store made → Finds 0 l.end (nth_of (items room l.end l.place 0) i) r → r ≡ founds.At n
-      → p ≡ good_partition room store made n → p ≡ partition room store made i
-  partition_found n p el f e q = q ∙ ap (partition_of room store made) (sym e) ∙ partition_is el f
-
-  pub partition_none : l ≡ partition_list room store made → Finds 0 l.end (nth_of (items room l.end l.place 0) i) r → r ≡ founds.Nothing
-      → parts.Nothing ≡ partition room store made i
-  partition_none el f e = ap (partition_of room store made) (sym e) ∙ partition_is el f
-
-  pub component_found_lem : (limit n : ℕ) (p : ComponentFound) → l ≡ component_list room store made → Finds 0 l.end (nth_of (items room l.end l.place 0) i) r → r ≡ founds.At n
-      → p ≡ good_component room store made n limit → p ≡ component room store made i limit
-  component_found_lem limit n p el f e q = q ∙ ap (component_of room store made limit) (sym e) ∙ component_is limit el f
-
-  pub component_none : (limit : ℕ) → l ≡ component_list room store made → Finds 0 l.end (nth_of (items room l.end l.place 0) i) r → r ≡ founds.Nothing
-      → comps.Nothing ≡ component room store made i limit
-  component_none limit el f e = ap (component_of room store made limit) (sym e) ∙ component_is limit el f
-
-  pub application_found : (limit n : ℕ) (p : ApplicationFound) → l ≡ application_list room store made → Finds 0 l.end (nth_key room store l i) r → r ≡ founds.At n
-      → p ≡ good_application room store made n limit → p ≡ application room store made i limit
-  application_found limit n p el f e q = q ∙ ap (application_of room store made limit) (sym e) ∙ application_is limit el f
-
-  pub application_none : (limit : ℕ) → l ≡ application_list room store made → Finds 0 l.end (nth_key room store l i) r → r ≡ founds.Nothing
-      → apps.Nothing ≡ application room store made i limit
-  application_none limit el f e = ap (application_of room store made limit) (sym e) ∙ application_is limit el f
-
 -- ---- sound rooms
 pub sound_short : (room : Seq ℕ) (made takes : ℕ) → takes ≡ length room / 32 → takes < made → false ≡ holds_values room made
 unfolding holds_values
@@ -263,30 +200,3 @@ pub device_is : (room store : Seq ℕ) (made : ℕ) (f : Fields) (b i : TableRea
     → record { chip = c.chip; media = m.media } ≡ device_of room store made
 unfolding device_of front_of board_read image_read
 device_is room store made f b i c d m e eb ei ec ed em = rw (em, ed, ec, eb, ei, e)
-
--- ---- an entry without fault
-module _ (room store : Seq ℕ) (made n : ℕ) where
-  pub partition_good : (r : PartitionRead) → r ≡ partition_at room store made n → r.fault ≡ 0 → parts.At r.partition ≡ good_partition room store made n
-  unfolding good_partition
-  partition_good r e z = rw (← e, eq-eqb r.fault 0 z)
-
-  pub partition_wrong : (r : PartitionRead) → r ≡ partition_at room store made n → (r.fault ≡ 0 → ⊥) → parts.Nothing ≡ good_partition room store made n
-  unfolding good_partition
-  partition_wrong r e z = rw (← e, ne_eqb r.fault 0 z)
-
-  module _ (limit : ℕ) where
-    pub component_good : (r : ComponentRead) → r ≡ component_at room store made n limit → r.fault ≡ 0 → comps.At r.component ≡ good_component room store made n limit
-    unfolding good_component
-    component_good r e z = rw (← e, eq-eqb r.fault 0 z)
-
-    pub component_wrong : (r : ComponentRead) → r ≡ component_at room store made n limit → (r.fault ≡ 0 → ⊥) → comps.Nothing ≡ good_component room store made n limit
-    unfolding good_component
-    component_wrong r e z = rw (← e, ne_eqb r.fault 0 z)
-
-    pub application_good : (r : ApplicationRead) → r ≡ application_at room store made n limit → r.fault ≡ 0 → apps.At r.application ≡ good_application room store made n limit
-    unfolding good_application
-    application_good r e z = rw (← e, eq-eqb r.fault 0 z)
-
-    pub application_wrong : (r : ApplicationRead) → r ≡ application_at room store made n limit → (r.fault ≡ 0 → ⊥) → apps.Nothing ≡ good_application room store made n limit
-    unfolding good_application
-    application_wrong r e z = rw (← e, ne_eqb r.fault 0 z)

@@ -5,3 +5,4 @@ pub mod Composing
 pub mod Applying
 pub mod Entering
 pub mod Judging
+pub mod Opening

@@ -1,15 +1,14 @@
 -- Level 2 of a component.
-use Rattle.std.specs.Prelude.{ℕ, ◌+◌, List}
+use Rattle.std.specs.Prelude.{ℕ, ◌+◌, List, Option, Some, None, unwrap_or}
 use Rattle.meaning.specs.Base.{pick, ascii, nil?}
 use Rattle.tree.specs.declared.Fields.{Fields}
 use Rattle.tree.specs.Doors.{field}
 use Rattle.schema.specs.declared.Text.{Text}
+use Rattle.features.specs.declared.Piece.{Piece}
 use Rattle.schema.specs.declared.Text.TheVariants as texts
 use Rattle.schema.specs.declared.Word.TheVariants as words
-use Rattle.schema.specs.Texts.{clip, or_text, or_number}
+use Rattle.schema.specs.Texts.{clip, or_text}
 use Rattle.features.specs.Pieces.{pieces, features_read}
-use Rattle.parse.specs.declared.file.Piece.{Piece}
-use Rattle.parse.specs.declared.file.Piece.TheVariants as found
 use Rattle.parse.specs.declared.component.Sources.{Sources}
 use Rattle.parse.specs.declared.component.HeadRead.{HeadRead}
 use Rattle.parse.specs.declared.component.Lists.{Lists}
@@ -21,9 +20,9 @@ use Rattle.parse.specs.File.{file_at}
 use Rattle.parse.specs.Fields.{first_fault, text_at, text_needed, number_at, flag_at, kind_at}
 
 -- a piece of a stored text
-abbrev pub piece_in : ℕ → Piece → Text
-piece_in from found.Nothing = texts.Absent
-piece_in from (found.At at len) = texts.Stored (from + at) len
+abbrev pub piece_in : ℕ → Option Piece → Text
+piece_in from None = texts.Absent
+piece_in from (Some p) = texts.Stored (from + p.from) p.len
 
 -- a file's name, where there is a file
 abbrev pub name_in : List ℕ → Text → Text
@@ -119,7 +118,7 @@ module _ (room store : List ℕ) where
           entry_offset = offset.number;
           header_version = version.number;
           with_ext = ext.flag;
-          ext_reserve = or_number reserve.number 0;
+          ext_reserve = unwrap_or reserve.number 0;
         };
       }
 

@@ -1,10 +1,8 @@
 -- Level 2 of the lists: where a list stands, an entry by the number of its value, and all entries in their order.
-use Rattle.std.specs.Prelude.{ℕ, zero, suc, ◌+◌, ◌-◌, ◌≤◌, false, List as Seq, [], ◌∷◌, ◌++◌, ◌≡◌, eqb, length, replicate}
+use Rattle.std.specs.Prelude.{ℕ, zero, suc, ◌+◌, ◌-◌, ◌≤◌, false, List as Seq, [], ◌∷◌, ◌++◌, ◌≡◌, eqb, length, replicate, Option, Some, None, unwrap_or}
 use Rattle.meaning.specs.Base.{pick, ascii}
 use Rattle.meaning.specs.Refusal.{R, ok, bad, Answer, accepted, refused, number_of, in_partition, in_component, in_application}
 use Rattle.meaning.specs.Fields.{each, listed}
-use Rattle.tree.specs.declared.Found.{Found}
-use Rattle.tree.specs.declared.Found.TheVariants.{At, Nothing}
 use Rattle.tree.specs.declared.Value.{Value}
 use Rattle.tree.specs.declared.Value.TheVariants as values
 use Rattle.tree.specs.declared.Fields.{Fields}
@@ -15,7 +13,7 @@ use Rattle.schema.specs.declared.Text.TheVariants as texts
 use Rattle.schema.specs.declared.Partition.{Partition}
 use Rattle.schema.specs.declared.Component.{Component}
 use Rattle.schema.specs.declared.Application.{Application}
-use Rattle.schema.specs.Texts.{start_of, length_of, or_number}
+use Rattle.schema.specs.Texts.{start_of, length_of}
 use Rattle.parse.specs.declared.Refusal.{Refusal}
 use Rattle.parse.specs.declared.front.TableRead.{TableRead}
 use Rattle.parse.specs.declared.entry.List.{List}
@@ -111,8 +109,8 @@ module _ (room store : Seq ℕ) where
         partition = record {
           from = start_of name.text;
           len = length_of name.text;
-          offset = or_number offset.number 0;
-          size = or_number size.number 0;
+          offset = unwrap_or offset.number 0;
+          size = unwrap_or size.number 0;
           locked = locked.flag;
         };
       }
@@ -161,17 +159,17 @@ module _ (room store : Seq ℕ) where
     components l most limit = refusal_of (listed (component_r limit) in_component most (items room l.end l.place 0))
 
   -- a number found, and the numbers after it
-  abbrev pub onward : Found → (Found → Seq ℕ) → Seq ℕ
-  onward Nothing rest = []
-  onward (At n) rest = n ∷ rest (At n)
+  abbrev pub onward : Option ℕ → (Option ℕ → Seq ℕ) → Seq ℕ
+  onward None rest = []
+  onward (Some n) rest = n ∷ rest (Some n)
 
   -- the numbers that a walk in byte order of key meets after a value, at most k of them
-  abbrev pub walk : ℕ → ℕ → ℕ → Found → Seq ℕ
+  abbrev pub walk : ℕ → ℕ → ℕ → Option ℕ → Seq ℕ
   walk end place zero after = []
   walk end place (suc k) after = onward (next (slot_at room) store end place after) (walk end place k)
 
-  abbrev pub nth_key : List → ℕ → Found
-  nth_key l i = nth_of (walk l.end l.place (i + 1) Nothing) i
+  abbrev pub nth_key : List → ℕ → Option ℕ
+  nth_key l i = nth_of (walk l.end l.place (i + 1) None) i
 
   module _ (made : ℕ) where
     -- what the application that value number n is says at place i
@@ -184,11 +182,11 @@ module _ (room store : Seq ℕ) where
     earlier_fault limit e fault = earlier fault (application_fault limit e.place e.value)
 
     abbrev pub applications : List → ℕ → ℕ → Refusal
-    applications l most limit = refusal_of (listed (application_r made limit) in_application most (walk l.end l.place (most + 1) Nothing))
+    applications l most limit = refusal_of (listed (application_r made limit) in_application most (walk l.end l.place (most + 1) None))
 
 -- how many keys there are, as far as the limit and one more
 pub record Keyed (room store : Seq ℕ) (l : List) (most n : ℕ) : Type 0 where
-  pub is : n ≡ length (walk room store l.end l.place (most + 1) Nothing)
+  pub is : n ≡ length (walk room store l.end l.place (most + 1) None)
   pub fits : n ≤ most + 1
 
 -- ---- partitions by value

@@ -1,22 +1,25 @@
 -- Level 2 of a field: what each reader gives for a value of the rooms, with its fault, 0 for none.
-use Rattle.std.specs.Prelude.{ℕ, Bool, false, List, eqb, leb}
+use Rattle.std.specs.Prelude.{ℕ, Bool, false, List, Result, Ok, Err, eqb, leb, Some, None}
 use Rattle.meaning.specs.Base.{pick, ascii}
+use Rattle.meaning.specs.Numbered.{number}
+use Rattle.meaning.specs.declared.Refused.{Refused}
 use Rattle.tree.specs.declared.Value.{Value}
 use Rattle.tree.specs.declared.Value.TheVariants as values
 use Rattle.tree.specs.declared.Fields.{Fields}
 use Rattle.tree.specs.Doors as doors
 use Rattle.schema.specs.declared.Text.{Text}
 use Rattle.schema.specs.declared.Text.TheVariants as texts
-use Rattle.schema.specs.declared.Number.TheVariants as numbers
+use Rattle.schema.specs.declared.Kind.{Kind}
 use Rattle.schema.specs.declared.Kind.TheVariants.{Raw}
-use Rattle.schema.specs.declared.KindRead.{KindRead}
 use Rattle.schema.specs.declared.Media.{Media}
-use Rattle.schema.specs.declared.MediaRead.{MediaRead}
+use Rattle.schema.specs.declared.Media.TheVariants.{SpiNor}
 use Rattle.schema.specs.Words.{kind_read, media_read}
 use Rattle.schema.specs.Texts.{clip}
 use Rattle.parse.specs.declared.field.TextRead.{TextRead}
 use Rattle.parse.specs.declared.field.NumberRead.{NumberRead}
 use Rattle.parse.specs.declared.field.FlagRead.{FlagRead}
+use Rattle.parse.specs.declared.field.KindRead.{KindRead}
+use Rattle.parse.specs.declared.field.MediaRead.{MediaRead}
 
 -- the first fault of two
 abbrev pub first_fault : ℕ → ℕ → ℕ
@@ -36,10 +39,10 @@ text_read (values.Array p) = no_text 20
 text_read (values.Table p) = no_text 20
 
 abbrev pub no_number : ℕ → NumberRead
-no_number n = record { fault = n; number = numbers.Absent }
+no_number n = record { fault = n; number = None }
 
 unfoldable pub ranged : Bool → ℕ → NumberRead
-ranged negative magnitude = pick negative (no_number 21) (pick (leb magnitude 4294967295) (record { fault = 0; number = numbers.Of magnitude }) (no_number 21))
+ranged negative magnitude = pick negative (no_number 21) (pick (leb magnitude 4294967295) (record { fault = 0; number = Some magnitude }) (no_number 21))
 
 abbrev pub number_read : Value → NumberRead
 number_read values.Absent = no_number 0
@@ -69,16 +72,24 @@ missing (values.Array p) = 0
 missing (values.Table p) = 0
 
 -- a text, then one of some words
+abbrev pub kind_said : Result Kind Refused → KindRead
+kind_said (Ok k) = record { fault = 0; kind = k }
+kind_said (Err r) = record { fault = number r; kind = Raw }
+
 abbrev pub kind_of : List ℕ → TextRead → Text → KindRead
 kind_of store t texts.Absent = record { fault = t.fault; kind = Raw }
-kind_of store t (texts.Stored from len) = kind_read (clip from len store)
+kind_of store t (texts.Stored from len) = kind_said (kind_read (clip from len store))
 kind_of store t texts.Lent = record { fault = t.fault; kind = Raw }
 kind_of store t (texts.Fixed w) = record { fault = t.fault; kind = Raw }
 kind_of store t (texts.WithAic from len) = record { fault = t.fault; kind = Raw }
 
+abbrev pub media_said : Result Media Refused → MediaRead
+media_said (Ok m) = record { fault = 0; media = m }
+media_said (Err r) = record { fault = number r; media = SpiNor }
+
 abbrev pub media_of : List ℕ → Media → TextRead → Text → MediaRead
 media_of store d t texts.Absent = record { fault = t.fault; media = d }
-media_of store d t (texts.Stored from len) = media_read (clip from len store)
+media_of store d t (texts.Stored from len) = media_said (media_read (clip from len store))
 media_of store d t texts.Lent = record { fault = t.fault; media = d }
 media_of store d t (texts.Fixed w) = record { fault = t.fault; media = d }
 media_of store d t (texts.WithAic from len) = record { fault = t.fault; media = d }

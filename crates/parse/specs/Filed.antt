@@ -1,13 +1,12 @@
 -- A file's name lies in its path, and is the name that is meant.
-use Rattle.std.specs.Prelude.{ℕ, suc, ◌+◌, ◌-◌, ◌≤◌, List, [], ◌∷◌, ◌++◌, ◌≡◌, eqb, length, drop}
+use Rattle.std.specs.Prelude.{ℕ, suc, ◌+◌, ◌-◌, ◌≤◌, List, [], ◌∷◌, ◌++◌, ◌≡◌, eqb, length, drop, Option, Some, None}
 use Rattle.std.proofs.Common.{append-nil, append_assoc, ◌∙◌, arith, length-drop, drop-drop, take-add}
 use Rattle.std.proofs.Math.Option.{none, some}
 use Rattle.std.proofs.Math.Path.{refl, ap}
 use Rattle.meaning.specs.Base.{pick, ascii, same, part, cut, on_first}
 use Rattle.meaning.specs.Files.{piece?, last_piece, not_up, file_name}
 use Rattle.laws.specs.Cases.{on, picked}
-use Rattle.parse.specs.declared.file.Piece.{Piece}
-use Rattle.parse.specs.declared.file.Piece.TheVariants.{Nothing, At}
+use Rattle.features.specs.declared.Piece.{Piece}
 use Rattle.parse.specs.File.{piece_of, Inside, closed, last_at, not_up_at, file_at}
 
 -- bytes before the first of some pieces
@@ -41,12 +40,12 @@ module _ (s : List ℕ) where
   part_none : (from : ℕ) → part from (from + 0) s ≡ []
   part_none from = let k : from + 0 - from ≡ 0 = omega arith in rw k
 
-  closed_is : (best : Piece) (from len : ℕ) → piece_of s (closed s best from len)
+  closed_is : (best : Option Piece) (from len : ℕ) → piece_of s (closed s best from len)
       ≡ pick (piece? (part from (from + len) s)) (some (part from (from + len) s)) (piece_of s best)
   unfolding closed
   closed_is best from len = on (piece? (part from (from + len) s)) (λ p. rw p) (λ p. rw p)
 
-  last_is : (best : Piece) (from len : ℕ) (t : List ℕ) → t ≡ drop (from + len) s
+  last_is : (best : Option Piece) (from len : ℕ) (t : List ℕ) → t ≡ drop (from + len) s
       → piece_of s (last_at s best from len t) ≡ last_piece (piece_of s best) (onto (part from (from + len) s) (cut 47 t))
   last_is best from len [] e = rw append-nil (closed_is best from len)
   last_is best from len (b ∷ t) e =
@@ -59,11 +58,11 @@ module _ (s : List ℕ) where
       (λ p. rw p (last_is best from (len + 1) t (rw j (rest_more from len b t e)) ∙ rw (part_more from len b t e, onto_one)))
 
   -- ---- it lies in the path
-  closed_in : (best : Piece) (from len : ℕ) → Inside s best → from + len ≤ length s → Inside s (closed s best from len)
+  closed_in : (best : Option Piece) (from len : ℕ) → Inside s best → from + len ≤ length s → Inside s (closed s best from len)
   unfolding closed
   closed_in best from len i h = picked (Inside s) (piece? (part from (from + len) s)) (λ _. h) (λ _. i)
 
-  last_in : (best : Piece) (from len : ℕ) (t : List ℕ) → t ≡ drop (from + len) s → Inside s best → from + len ≤ length s → Inside s (last_at s best from len t)
+  last_in : (best : Option Piece) (from len : ℕ) (t : List ℕ) → t ≡ drop (from + len) s → Inside s best → from + len ≤ length s → Inside s (last_at s best from len t)
   last_in best from len [] e i h = closed_in best from len i h
   last_in best from len (b ∷ t) e i h =
       let l : suc (length t) ≡ length s - (from + len) = ap length e ∙ length-drop (from + len) s in
@@ -73,19 +72,19 @@ module _ (s : List ℕ) where
       (λ _. last_in (closed s best from len) (from + len + 1) 0 t (rw k (rest_more from len b t e)) (closed_in best from len i h) (omega arith))
       (λ _. last_in best from (len + 1) t (rw j (rest_more from len b t e)) i (omega arith))
 
-  up_in : (p : Piece) → Inside s p → Inside s (not_up_at s p)
+  up_in : (p : Option Piece) → Inside s p → Inside s (not_up_at s p)
   unfolding not_up_at
-  up_in Nothing i = tt
-  up_in (At from len) i = picked (Inside s) (same (part from (from + len) s) (ascii "..")) (λ _. tt) (λ _. i)
+  up_in None i = tt
+  up_in (Some p) i = picked (Inside s) (same (part p.from (p.from + p.len) s) (ascii "..")) (λ _. tt) (λ _. i)
 
-  up_is : (p : Piece) → piece_of s (not_up_at s p) ≡ not_up (piece_of s p)
+  up_is : (p : Option Piece) → piece_of s (not_up_at s p) ≡ not_up (piece_of s p)
   unfolding not_up_at not_up
-  up_is Nothing = refl
-  up_is (At from len) = on (same (part from (from + len) s) (ascii "..")) (λ p. rw p) (λ p. rw p)
+  up_is None = refl
+  up_is (Some p) = on (same (part p.from (p.from + p.len) s) (ascii "..")) (λ e. rw e) (λ e. rw e)
 
   pub file_inside : Inside s (file_at s)
-  file_inside = up_in (last_at s Nothing 0 0 s) (last_in Nothing 0 0 s refl tt (omega arith))
+  file_inside = up_in (last_at s None 0 0 s) (last_in None 0 0 s refl tt (omega arith))
 
   pub file_named : piece_of s (file_at s) ≡ file_name s
   unfolding file_name
-  file_named = up_is (last_at s Nothing 0 0 s) ∙ ap not_up (last_is Nothing 0 0 s refl ∙ ap (last_piece none) (onto_none s))
+  file_named = up_is (last_at s None 0 0 s) ∙ ap not_up (last_is None 0 0 s refl ∙ ap (last_piece none) (onto_none s))

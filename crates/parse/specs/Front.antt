@@ -1,6 +1,8 @@
 -- Level 2 of the board and the image.
-use Rattle.std.specs.Prelude.{ℕ, List}
+use Rattle.std.specs.Prelude.{ℕ, List, unwrap_or}
+use Rattle.std.specs.Result.{result_unwrap_or}
 use Rattle.meaning.specs.Base.{ascii}
+use Rattle.meaning.specs.Numbered.{told}
 use Rattle.tree.specs.declared.Value.{Value}
 use Rattle.tree.specs.declared.Value.TheVariants as values
 use Rattle.tree.specs.declared.Fields.{Fields}
@@ -11,7 +13,7 @@ use Rattle.schema.specs.declared.Chip.{Chip}
 use Rattle.schema.specs.declared.Chip.TheVariants.{D13x}
 use Rattle.schema.specs.declared.Word.TheVariants as words
 use Rattle.schema.specs.Words.{chip_read, chip_word as word_of, target_word, media_choice}
-use Rattle.schema.specs.Texts.{clip, or_text, or_number}
+use Rattle.schema.specs.Texts.{clip, or_text}
 use Rattle.parse.specs.declared.Refusal.{Refusal}
 use Rattle.parse.specs.declared.front.TableRead.{TableRead}
 use Rattle.parse.specs.declared.front.ChipFound.{ChipFound}
@@ -42,7 +44,7 @@ table_at room store made root key = table_of room made (field room store root ke
 -- ---- the chip
 
 abbrev pub chip_word : List ℕ → ℕ → ℕ → ℕ → ChipFound
-chip_word store from len section = record { fault = in_section section (chip_read (clip from len store)).fault; chip = (chip_read (clip from len store)).chip }
+chip_word store from len section = let r = chip_read (clip from len store) in record { fault = in_section section (told r); chip = result_unwrap_or r D13x }
 
 abbrev pub chosen_by : List ℕ → Text → ChipFound
 chosen_by store texts.Absent = record { fault = in_section 0 0; chip = D13x }
@@ -106,7 +108,7 @@ module _ (room store : List ℕ) where
       let app = text_at room store f (ascii "app") in
       record {
         fault = first_fault dev.fault (first_fault id.fault app.fault);
-        media_dev_id = or_number dev.number 0;
+        media_dev_id = unwrap_or dev.number 0;
         media_id = or_text id.text (texts.Stored 0 0);
         app = or_text app.text (texts.Stored 0 0);
       }

@@ -1,11 +1,9 @@
 -- Where nothing is refused: the entries of the lists by their number, and how many there are.
-use Rattle.std.specs.Prelude.{ℕ, zero, suc, ◌+◌, ◌≤◌, ◌<◌, List as Seq, [], ◌∷◌, map, ◌≡◌, refl, ltb, length}
+use Rattle.std.specs.Prelude.{ℕ, zero, suc, ◌+◌, ◌≤◌, ◌<◌, List as Seq, [], ◌∷◌, map, ◌≡◌, refl, ltb, length, Option as Maybe, Some, None}
 use Rattle.std.proofs.Math.Option.{Option, none, some}
 use Rattle.std.proofs.Common.{ap, ◌∙◌, arith, ltb-true, ltb-false}
 use Rattle.meaning.specs.declared.Limits.{Limits}
 use Rattle.meaning.specs.Refusal.{Answer, accepted, refused}
-use Rattle.tree.specs.declared.Found.{Found}
-use Rattle.tree.specs.declared.Found.TheVariants.{At, Nothing}
 use Rattle.laws.specs.Cases.{on}
 use Rattle.tree.specs.Room.{slot_at}
 use Rattle.tree.specs.Order.{next}
@@ -30,9 +28,9 @@ entry_at (y ∷ ys) zero = some y
 entry_at (y ∷ ys) (suc i) = entry_at ys i
 
 -- what a number found stands for
-abbrev pub standing : {X : Type 0} → (ℕ → X) → Found → Option X
-standing value Nothing = none
-standing value (At n) = some (value n)
+abbrev pub standing : {X : Type 0} → (ℕ → X) → Maybe ℕ → Option X
+standing value None = none
+standing value (Some n) = some (value n)
 
 pub map_at : {X : Type 0} (value : ℕ → X) (ns : Seq ℕ) (i : ℕ) → entry_at (map value ns) i ≡ standing value (nth_of ns i)
 map_at value [] i = refl
@@ -43,11 +41,11 @@ pub map_length : {X : Type 0} (value : ℕ → X) (ns : Seq ℕ) → length (map
 map_length value [] = refl
 map_length value (n ∷ ns) = ap suc (map_length value ns)
 
-none_at : {G : Type 0} (n : ℕ) → Nothing ≡ At n → G
+none_at : {G : Type 0} (n : ℕ) → None ≡ Some n → G
 none_at n e = let z : ◌≡◌ {A = ℕ} 0 1 = cc in absurd (omega arith)
 
 -- where no entry has a fault the one that is found has none
-pub clear_at : (fault : ℕ → ℕ) (ns : Seq ℕ) (i n : ℕ) → Clear fault ns → nth_of ns i ≡ At n → fault n ≡ 0
+pub clear_at : (fault : ℕ → ℕ) (ns : Seq ℕ) (i n : ℕ) → Clear fault ns → nth_of ns i ≡ Some n → fault n ≡ 0
 clear_at fault [] i n c e = none_at n e
 clear_at fault (m ∷ ns) zero n c e = let d : m ≡ n = cc in rw (← d) c.0
 clear_at fault (m ∷ ns) (suc i) n c e = clear_at fault ns i n c.1 e
@@ -56,33 +54,33 @@ clear_at fault (m ∷ ns) (suc i) n c e = clear_at fault ns i n c.1 e
 
 module _ (room store : Seq ℕ) (end place : ℕ) where
   -- a longer walk meets the same
-  walk_nth : (i k : ℕ) (after : Found) → i < k → nth_of (entries.walk room store end place (suc i) after) i ≡ nth_of (entries.walk room store end place k after) i
+  walk_nth : (i k : ℕ) (after : Maybe ℕ) → i < k → nth_of (entries.walk room store end place (suc i) after) i ≡ nth_of (entries.walk room store end place k after) i
   walk_nth zero zero after l = absurd (omega arith)
   walk_nth (suc i) zero after l = absurd (omega arith)
   walk_nth zero (suc k) after l = by (next (slot_at room) store end place after)
     where
-      by : (r : Found) → nth_of (entries.onward room store r (entries.walk room store end place 0)) 0 ≡ nth_of (entries.onward room store r (entries.walk room store end place k)) 0
-      by Nothing = refl
-      by (At n) = refl
-  walk_nth (suc i) (suc k) after l = by (λ n. walk_nth i k (At n) (omega arith)) (next (slot_at room) store end place after)
+      by : (r : Maybe ℕ) → nth_of (entries.onward room store r (entries.walk room store end place 0)) 0 ≡ nth_of (entries.onward room store r (entries.walk room store end place k)) 0
+      by None = refl
+      by (Some n) = refl
+  walk_nth (suc i) (suc k) after l = by (λ n. walk_nth i k (Some n) (omega arith)) (next (slot_at room) store end place after)
     where
-      by : ((n : ℕ) → nth_of (entries.walk room store end place (suc i) (At n)) i ≡ nth_of (entries.walk room store end place k (At n)) i)
-          → (r : Found) → nth_of (entries.onward room store r (entries.walk room store end place (suc i))) (suc i) ≡ nth_of (entries.onward room store r (entries.walk room store end place k)) (suc i)
-      by g Nothing = refl
-      by g (At n) = g n
+      by : ((n : ℕ) → nth_of (entries.walk room store end place (suc i) (Some n)) i ≡ nth_of (entries.walk room store end place k (Some n)) i)
+          → (r : Maybe ℕ) → nth_of (entries.onward room store r (entries.walk room store end place (suc i))) (suc i) ≡ nth_of (entries.onward room store r (entries.walk room store end place k)) (suc i)
+      by g None = refl
+      by g (Some n) = g n
 
   -- a walk that ended meets nothing more
-  walk_ends : (k j : ℕ) (after : Found) → length (entries.walk room store end place k after) < k → k ≤ j
+  walk_ends : (k j : ℕ) (after : Maybe ℕ) → length (entries.walk room store end place k after) < k → k ≤ j
       → entries.walk room store end place j after ≡ entries.walk room store end place k after
   walk_ends zero j after l h = absurd (omega arith)
   walk_ends (suc k) zero after l h = absurd (omega arith)
-  walk_ends (suc k) (suc j) after l h = by (λ n m. walk_ends k j (At n) m (omega arith)) (next (slot_at room) store end place after) l
+  walk_ends (suc k) (suc j) after l h = by (λ n m. walk_ends k j (Some n) m (omega arith)) (next (slot_at room) store end place after) l
     where
-      by : ((n : ℕ) → length (entries.walk room store end place k (At n)) < k → entries.walk room store end place j (At n) ≡ entries.walk room store end place k (At n))
-          → (r : Found) → length (entries.onward room store r (entries.walk room store end place k)) < suc k
+      by : ((n : ℕ) → length (entries.walk room store end place k (Some n)) < k → entries.walk room store end place j (Some n) ≡ entries.walk room store end place k (Some n))
+          → (r : Maybe ℕ) → length (entries.onward room store r (entries.walk room store end place k)) < suc k
           → entries.onward room store r (entries.walk room store end place j) ≡ entries.onward room store r (entries.walk room store end place k)
-      by g Nothing m = refl
-      by g (At n) m = ap (λ (ns : Seq ℕ). n ∷ ns) (g n (omega arith))
+      by g None m = refl
+      by g (Some n) m = ap (λ (ns : Seq ℕ). n ∷ ns) (g n (omega arith))
 
 -- ---- by the verdict
 
@@ -167,7 +165,7 @@ module _ (room store : Seq ℕ) (made : ℕ) where
         let most : ℕ = lim.applications in
         let a : i + 1 ≡ suc i = omega arith in
         on (ltb i (most + 1))
-        (λ e. rw a (walk_nth room store l.end l.place i (most + 1) Nothing (ltb-true i (most + 1) e)))
+        (λ e. rw a (walk_nth room store l.end l.place i (most + 1) None (ltb-true i (most + 1) e)))
         (λ e.
         ap (λ (ns : Seq ℕ). nth_of ns i)
-        (walk_ends room store l.end l.place (most + 1) (i + 1) Nothing (omega (arith, applications_few)) (omega (arith, ltb-false i (most + 1) e))))
+        (walk_ends room store l.end l.place (most + 1) (i + 1) None (omega (arith, applications_few)) (omega (arith, ltb-false i (most + 1) e))))

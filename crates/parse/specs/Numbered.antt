@@ -1,25 +1,20 @@
 -- Where nothing is refused: the records that the views give by their entry number are the preset's.
-use Rattle.std.specs.Prelude.{ℕ, List as Seq, map, ◌≡◌}
+use Rattle.std.specs.Prelude.{ℕ, List as Seq, map, ◌≡◌, Option as Maybe, Some, None}
 use Rattle.std.proofs.Math.Option.{Option, none, some}
 use Rattle.std.proofs.Math.Path.{refl, sym, ap}
 use Rattle.std.proofs.Common.{◌∙◌}
 use Rattle.std.proofs.Math.ListN.{length}
 use Rattle.meaning.specs.declared.Limits.{Limits}
 use Rattle.meaning.specs.Schema as meant
-use Rattle.tree.specs.declared.Found.{Found}
-use Rattle.tree.specs.declared.Found.TheVariants.{At, Nothing}
 use Rattle.tree.specs.declared.Fields.{Fields}
 use Rattle.tree.specs.Doors.{fields_of, nth_of}
 use Rattle.tree.specs.Spans.{items_count}
 use Rattle.schema.specs.declared.Text.{Text}
 use Rattle.schema.specs.declared.Text.TheVariants as texts
 use Rattle.schema.specs.Words.{chip_meant, media_meant}
-use Rattle.parse.specs.declared.view.PartitionFound.{PartitionFound}
-use Rattle.parse.specs.declared.view.PartitionFound.TheVariants as partitions
-use Rattle.parse.specs.declared.view.ComponentFound.{ComponentFound}
-use Rattle.parse.specs.declared.view.ComponentFound.TheVariants as components
-use Rattle.parse.specs.declared.view.ApplicationFound.{ApplicationFound}
-use Rattle.parse.specs.declared.view.ApplicationFound.TheVariants as applications
+use Rattle.schema.specs.declared.Partition.{Partition}
+use Rattle.schema.specs.declared.Component.{Component}
+use Rattle.schema.specs.declared.Application.{Application}
 use Rattle.parse.specs.Front.{front_of, board_read, front_read}
 use Rattle.parse.specs.Entries.{partition_at, component_at, application_at}
 use Rattle.parse.specs.Refused.{partition_list, component_list, partition_numbers, component_numbers, application_numbers, verdict}
@@ -31,25 +26,25 @@ use Rattle.parse.specs.Given.{entry_at, standing, map_at, map_length, clear_at, 
 -- ---- what a view gives stands for 01's record, or for none
 
 module _ (room store : Seq ℕ) (made : ℕ) (name : Seq ℕ) where
-  abbrev pub partition_seen : PartitionFound → Option meant.Partition
-  partition_seen partitions.Nothing = none
-  partition_seen (partitions.At p) = some (partition_meant room store made name p)
+  abbrev pub partition_seen : Maybe Partition → Option meant.Partition
+  partition_seen None = none
+  partition_seen (Some p) = some (partition_meant room store made name p)
 
-  abbrev pub component_seen : ComponentFound → Option meant.Component
-  component_seen components.Nothing = none
-  component_seen (components.At c) = some (component_meant room store made name c)
+  abbrev pub component_seen : Maybe Component → Option meant.Component
+  component_seen None = none
+  component_seen (Some c) = some (component_meant room store made name c)
 
-  abbrev pub application_seen : ApplicationFound → Option meant.Application
-  application_seen applications.Nothing = none
-  application_seen (applications.At a) = some (application_meant room store made name a)
+  abbrev pub application_seen : Maybe Application → Option meant.Application
+  application_seen None = none
+  application_seen (Some a) = some (application_meant room store made name a)
 
 -- ---- one law for the three lists
 
-module _ {X Y : Type 0} (fault : ℕ → ℕ) (given : Found → Y) (seen : Y → Option X) (value : ℕ → X) (nothing : seen (given Nothing) ≡ none)
-    (good : (n : ℕ) → fault n ≡ 0 → seen (given (At n)) ≡ some (value n)) where
-  found_stands : (r : Found) → ((n : ℕ) → r ≡ At n → fault n ≡ 0) → seen (given r) ≡ standing value r
-  found_stands Nothing c = nothing
-  found_stands (At n) c = good n (c n refl)
+module _ {X Y : Type 0} (fault : ℕ → ℕ) (given : Maybe ℕ → Y) (seen : Y → Option X) (value : ℕ → X) (nothing : seen (given None) ≡ none)
+    (good : (n : ℕ) → fault n ≡ 0 → seen (given (Some n)) ≡ some (value n)) where
+  found_stands : (r : Maybe ℕ) → ((n : ℕ) → r ≡ Some n → fault n ≡ 0) → seen (given r) ≡ standing value r
+  found_stands None c = nothing
+  found_stands (Some n) c = good n (c n refl)
 
   -- where no entry has a fault, number i is given as it stands
   numbered_is : (ns : Seq ℕ) (i : ℕ) → Clear fault ns → seen (given (nth_of ns i)) ≡ entry_at (map value ns) i
@@ -104,7 +99,7 @@ module _ (room store : Seq ℕ) (made : ℕ) (name : Seq ℕ) (lim : Limits) (le
     pub application_numbered : (i : ℕ) → application_seen room store made name (views.application room store made i lim.features)
         ≡ entry_at (preset_meant room store made name (fields_of room made 1) lim lent).applications i
     application_numbered i =
-        ap (λ (r : Found). application_seen room store made name (views.application_of room store made lim.features r))
+        ap (λ (r : Maybe ℕ). application_seen room store made name (views.application_of room store made lim.features r))
         (nth_key_is room store made (fields_of room made 1) lim lent v i)
         ∙ numbered_is (λ n. (application_at room store made n lim.features).fault) (views.application_of room store made lim.features) (application_seen room store made name)
         (application_of room store made name lim.features) refl (application_good room store made name lim.features)

@@ -1,13 +1,11 @@
 -- A refusal's place is an entry's number, so it is small.
-use Rattle.std.specs.Prelude.{ℕ, zero, suc, ◌+◌, ◌-◌, ◌≤◌, List as Seq, [], ◌∷◌, eqb, ltb, length}
+use Rattle.std.specs.Prelude.{ℕ, zero, suc, ◌+◌, ◌-◌, ◌≤◌, List as Seq, [], ◌∷◌, eqb, ltb, length, Option, Some, None}
 use Rattle.std.proofs.Common.{arith}
 use Rattle.meaning.specs.declared.Limits.{Limits}
 use Rattle.meaning.specs.Base.{ascii}
 use Rattle.meaning.specs.Refusal.{R, ok, bad, Answer, accepted, refused, accepted_then, told}
 use Rattle.meaning.specs.Fields.{each, listed}
 use Rattle.laws.specs.Cases.{on}
-use Rattle.tree.specs.declared.Found.{Found}
-use Rattle.tree.specs.declared.Found.TheVariants.{At, Nothing}
 use Rattle.tree.specs.declared.Fields.{Fields}
 use Rattle.tree.specs.Room.{slot_at, under}
 use Rattle.tree.specs.Order.{next}
@@ -55,13 +53,13 @@ pub items_long : (room : Seq ℕ) (end place : ℕ) → length (items room end p
 unfolding items
 items_long room end place = omega (arith, items_in_lem room place (end - 0) 0)
 
-pub walk_long : (room store : Seq ℕ) (end place k : ℕ) (after : Found) → length (walk room store end place k after) ≤ k
+pub walk_long : (room store : Seq ℕ) (end place k : ℕ) (after : Option ℕ) → length (walk room store end place k after) ≤ k
 walk_long room store end place zero after = omega arith
 walk_long room store end place (suc k) after = go (walk_long room store end place k) (next (slot_at room) store end place after)
   where
-    go : ((f : Found) → length (walk room store end place k f) ≤ k) → (r : Found) → length (onward room store r (walk room store end place k)) ≤ suc k
-    go h Nothing = omega arith
-    go h (At n) = omega (arith, h (At n))
+    go : ((f : Option ℕ) → length (walk room store end place k f) ≤ k) → (r : Option ℕ) → length (onward room store r (walk room store end place k)) ≤ suc k
+    go h None = omega arith
+    go h (Some n) = omega (arith, h (Some n))
 
 -- ---- the board and the image are no entries
 
@@ -120,4 +118,4 @@ module _ (room store : Seq ℕ) where
       (earlier_place (in_section 4 c.fault) (components room store made c lim.components lim.features) n (omega arith)
       (omega (arith, listed_place (component_r room store made lim.features) 4 (items room c.end c.place 0) lim.components, items_long room c.end c.place)))
       (earlier_place (in_section 5 k.fault) (applications room store made k lim.applications lim.features) n (omega arith)
-      (omega (arith, listed_place (application_r room store made lim.features) 5 (walk room store k.end k.place (lim.applications + 1) Nothing) lim.applications, walk_long room store k.end k.place (lim.applications + 1) Nothing)))))
+      (omega (arith, listed_place (application_r room store made lim.features) 5 (walk room store k.end k.place (lim.applications + 1) None) lim.applications, walk_long room store k.end k.place (lim.applications + 1) None)))))

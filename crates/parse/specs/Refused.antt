@@ -1,9 +1,8 @@
 -- Level 2 of a preset's lists, and the first refusal of its records in 01's order.
-use Rattle.std.specs.Prelude.{ℕ, ◌+◌, List as Seq}
+use Rattle.std.specs.Prelude.{ℕ, ◌+◌, List as Seq, None}
 use Rattle.meaning.specs.declared.Limits.{Limits}
 use Rattle.meaning.specs.Base.{pick, ascii}
 use Rattle.meaning.specs.Utf8.{valid}
-use Rattle.tree.specs.declared.Found.TheVariants.{Nothing}
 use Rattle.tree.specs.declared.Fields.{Fields}
 use Rattle.tree.specs.Doors as doors
 use Rattle.schema.specs.declared.Text.{Text}
@@ -39,7 +38,7 @@ module _ (room store : Seq ℕ) (made : ℕ) (root : Fields) where
   component_numbers = doors.items room component_list.end component_list.place 0
 
   abbrev pub application_numbers : ℕ → Seq ℕ
-  application_numbers most = entries.walk room store application_list.end application_list.place (most + 1) Nothing
+  application_numbers most = entries.walk room store application_list.end application_list.place (most + 1) None
 
   module _ (lim : Limits) where
     -- the list itself is told before its entries

@@ -1,18 +1,13 @@
 -- Level 2 of a record by its entry number.
-use Rattle.std.specs.Prelude.{ℕ, ◌/◌, Bool, true, false, List as Seq, eqb, ltb, length}
+use Rattle.std.specs.Prelude.{ℕ, ◌/◌, Bool, true, false, List as Seq, eqb, ltb, length, Option, Some, None}
 use Rattle.meaning.specs.Base.{pick}
-use Rattle.tree.specs.declared.Found.{Found}
-use Rattle.tree.specs.declared.Found.TheVariants as founds
 use Rattle.tree.specs.Room.{count}
 use Rattle.tree.specs.Doors.{fields_of, items, nth_of}
 use Rattle.schema.specs.declared.Text.TheVariants.{Lent}
+use Rattle.schema.specs.declared.Partition.{Partition}
+use Rattle.schema.specs.declared.Component.{Component}
+use Rattle.schema.specs.declared.Application.{Application}
 use Rattle.parse.specs.declared.entry.List.{List}
-use Rattle.parse.specs.declared.view.PartitionFound.{PartitionFound}
-use Rattle.parse.specs.declared.view.PartitionFound.TheVariants as partitions
-use Rattle.parse.specs.declared.view.ComponentFound.{ComponentFound}
-use Rattle.parse.specs.declared.view.ComponentFound.TheVariants as components
-use Rattle.parse.specs.declared.view.ApplicationFound.{ApplicationFound}
-use Rattle.parse.specs.declared.view.ApplicationFound.TheVariants as applications
 use Rattle.parse.specs.declared.view.Lists.{Lists}
 use Rattle.parse.specs.declared.view.Counts.{Counts}
 use Rattle.parse.specs.declared.view.Device.{Device}
@@ -32,36 +27,36 @@ module _ (room store : Seq ℕ) (made : ℕ) where
   application_list = refused.application_list room store made (fields_of room made 1)
 
   -- an entry without fault
-  unfoldable pub good_partition : ℕ → PartitionFound
-  good_partition n = pick (eqb (partition_at room store made n).fault 0) (partitions.At (partition_at room store made n).partition) partitions.Nothing
+  unfoldable pub good_partition : ℕ → Option Partition
+  good_partition n = pick (eqb (partition_at room store made n).fault 0) (Some (partition_at room store made n).partition) None
 
-  unfoldable pub good_component : ℕ → ℕ → ComponentFound
-  good_component n limit = pick (eqb (component_at room store made n limit).fault 0) (components.At (component_at room store made n limit).component) components.Nothing
+  unfoldable pub good_component : ℕ → ℕ → Option Component
+  good_component n limit = pick (eqb (component_at room store made n limit).fault 0) (Some (component_at room store made n limit).component) None
 
-  unfoldable pub good_application : ℕ → ℕ → ApplicationFound
-  good_application n limit = pick (eqb (application_at room store made n limit).fault 0) (applications.At (application_at room store made n limit).application) applications.Nothing
+  unfoldable pub good_application : ℕ → ℕ → Option Application
+  good_application n limit = pick (eqb (application_at room store made n limit).fault 0) (Some (application_at room store made n limit).application) None
 
   -- of what was found
-  abbrev pub partition_of : Found → PartitionFound
-  partition_of (founds.At n) = good_partition n
-  partition_of founds.Nothing = partitions.Nothing
+  abbrev pub partition_of : Option ℕ → Option Partition
+  partition_of (Some n) = good_partition n
+  partition_of None = None
 
-  abbrev pub component_of : ℕ → Found → ComponentFound
-  component_of limit (founds.At n) = good_component n limit
-  component_of limit founds.Nothing = components.Nothing
+  abbrev pub component_of : ℕ → Option ℕ → Option Component
+  component_of limit (Some n) = good_component n limit
+  component_of limit None = None
 
-  abbrev pub application_of : ℕ → Found → ApplicationFound
-  application_of limit (founds.At n) = good_application n limit
-  application_of limit founds.Nothing = applications.Nothing
+  abbrev pub application_of : ℕ → Option ℕ → Option Application
+  application_of limit (Some n) = good_application n limit
+  application_of limit None = None
 
   -- entry number i
-  abbrev pub partition : ℕ → PartitionFound
+  abbrev pub partition : ℕ → Option Partition
   partition i = partition_of (nth_of (items room partition_list.end partition_list.place 0) i)
 
-  abbrev pub component : ℕ → ℕ → ComponentFound
+  abbrev pub component : ℕ → ℕ → Option Component
   component i limit = component_of limit (nth_of (items room component_list.end component_list.place 0) i)
 
-  abbrev pub application : ℕ → ℕ → ApplicationFound
+  abbrev pub application : ℕ → ℕ → Option Application
   application i limit = application_of limit (nth_key room store application_list i)
 
   -- ---- how many entries there are, and what the preset is for
@@ -74,7 +69,7 @@ module _ (room store : Seq ℕ) (made : ℕ) where
       record {
         partitions = count room partition_list.end partition_list.place;
         components = count room component_list.end component_list.place;
-        applications = length (walk room store application_list.end application_list.place 65 founds.Nothing);
+        applications = length (walk room store application_list.end application_list.place 65 None);
       }
 
   unfoldable pub device_of : Device

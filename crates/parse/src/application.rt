@@ -1,12 +1,13 @@
 // An application's fields in 01's order.
 
 ghost use Rattle.std.specs.Prelude.{◌≡◌};
-ghost use Rattle.tree.specs.Doors.{Rooms, Spread};
+ghost use Rattle.tree.specs.Doors.{Spread};
 ghost use Rattle.parse.specs.Application as apps;
+ghost use Rattle.tree.specs.Both.{on};
 
 use crate::field::{first_fault, number, text};
-use schema::{Application, Features, Number, Text, Word};
-use tree::Fields;
+use schema::{Application, Features, Text, Word};
+use tree::{Fields, Rooms};
 
 #[derive(Clone, Copy)]
 pub struct Names {
@@ -21,8 +22,8 @@ pub struct Names {
 pub struct Loading {
     pub fault: u32,
     pub features: Features,
-    pub load_address: Number,
-    pub entry_offset: Number,
+    pub load_address: Option<u32>,
+    pub entry_offset: Option<u32>,
 }
 
 #[derive(Clone, Copy)]
@@ -55,19 +56,13 @@ fn read_names(tree: &[u8], store: &[u8], f: Fields, key: Text) -> Names
 }
 
 // `features`, `load_address`, `entry_offset`.
-fn read_loading(tree: &[u8], store: &[u8], made: usize, f: Fields, limit: usize) -> Loading
-    requires { Rooms tree.now made × Spread tree.now f }
-    ensures { result ≡ apps.loading tree.now store.now made f limit }
+fn read_loading(rooms: Rooms<'_>, f: Fields, limit: usize) -> Loading
+    requires { Spread rooms.tree.now f }
+    ensures { result ≡ on apps.loading rooms.entry f limit }
 {
-    let l = features::read(
-        tree,
-        store,
-        made,
-        tree::field(tree, store, f, b"features"),
-        limit,
-    );
-    let a = number(tree, store, f, b"load_address");
-    let o = number(tree, store, f, b"entry_offset");
+    let l = features::read(rooms, rooms.field(f, b"features"), limit);
+    let a = number(rooms.tree, rooms.store, f, b"load_address");
+    let o = number(rooms.tree, rooms.store, f, b"entry_offset");
     let features = l.features;
     let load_address = a.number;
     let entry_offset = o.number;
@@ -79,19 +74,12 @@ fn read_loading(tree: &[u8], store: &[u8], made: usize, f: Fields, limit: usize)
     }
 }
 
-pub fn read_application(
-    tree: &[u8],
-    store: &[u8],
-    made: usize,
-    f: Fields,
-    key: Text,
-    limit: usize,
-) -> ApplicationRead
-    requires { Rooms tree.now made × Spread tree.now f }
-    ensures { result ≡ apps.application_read tree.now store.now made f key limit }
+pub fn read_application(rooms: Rooms<'_>, f: Fields, key: Text, limit: usize) -> ApplicationRead
+    requires { Spread rooms.tree.now f }
+    ensures { result ≡ on apps.application_read rooms.entry f key limit }
 {
-    let n = read_names(tree, store, f, key);
-    let l = read_loading(tree, store, made, f, limit);
+    let n = read_names(rooms.tree, rooms.store, f, key);
+    let l = read_loading(rooms, f, limit);
     let name = n.name;
     let partition = n.partition;
     let filename = n.filename;

@@ -1,13 +1,13 @@
 // A component's fields, in four groups that follow 01's order.
 
 ghost use Rattle.std.specs.Prelude.{◌≡◌};
-ghost use Rattle.tree.specs.Doors.{Rooms, Spread};
+ghost use Rattle.tree.specs.Doors.{Spread};
 ghost use Rattle.parse.specs.Component as comps;
+ghost use Rattle.tree.specs.Both.{on};
 
 use crate::field::{first_fault, flag, kind, number, text, text_needed};
-use crate::file::Piece;
 use schema::{Boot, Component, Features, Head, Load, Role, Text, Word};
-use tree::Fields;
+use tree::{Fields, Rooms};
 
 #[derive(Clone, Copy)]
 pub struct Sources {
@@ -61,13 +61,12 @@ pub fn name_in(store: &[u8], file: Text) -> Text
     match file {
         Text::Stored { from, len } => {
             let s = schema::stored(store, from, len);
-            let p = crate::file::file_name(s);
-            match p {
-                Piece::Nothing => Text::Absent,
-                Piece::At { from: at, len: n } => Text::Stored {
-                    from: from + at,
-                    len: n,
+            match crate::file::file_name(s) {
+                Some(p) => Text::Stored {
+                    from: from + p.from,
+                    len: p.len,
                 },
+                None => Text::Absent,
             }
         }
         _ => Text::Absent,
@@ -135,28 +134,16 @@ pub fn read_head(tree: &[u8], store: &[u8], f: Fields) -> HeadRead
 }
 
 // `features`, `pbp_features`: an empty one takes `features`.
-pub fn read_lists(tree: &[u8], store: &[u8], made: usize, f: Fields, limit: usize) -> Lists
-    requires { Rooms tree.now made × Spread tree.now f }
-    ensures { result ≡ comps.lists tree.now store.now made f limit }
+pub fn read_lists(rooms: Rooms<'_>, f: Fields, limit: usize) -> Lists
+    requires { Spread rooms.tree.now f }
+    ensures { result ≡ on comps.lists rooms.entry f limit }
 {
-    let all = features::read(
-        tree,
-        store,
-        made,
-        tree::field(tree, store, f, b"features"),
-        limit,
-    );
-    let own = features::read(
-        tree,
-        store,
-        made,
-        tree::field(tree, store, f, b"pbp_features"),
-        limit,
-    );
+    let all = features::read(rooms, rooms.field(f, b"features"), limit);
+    let own = features::read(rooms, rooms.field(f, b"pbp_features"), limit);
     let fault = first_fault(all.fault, own.fault);
     let features = all.features;
     let pbp_features = own.features;
-    if features::is_empty(tree, store, made, pbp_features) {
+    if features::is_empty(rooms, pbp_features) {
         return Lists {
             fault,
             features,
@@ -171,15 +158,15 @@ pub fn read_lists(tree: &[u8], store: &[u8], made: usize, f: Fields, limit: usiz
 }
 
 // The lists, then `partition`, `attr`, `target_attr`, `target_filename`.
-pub fn read_role(tree: &[u8], store: &[u8], made: usize, f: Fields, limit: usize) -> RoleRead
-    requires { Rooms tree.now made × Spread tree.now f }
-    ensures { result ≡ comps.role_read tree.now store.now made f limit }
+pub fn read_role(rooms: Rooms<'_>, f: Fields, limit: usize) -> RoleRead
+    requires { Spread rooms.tree.now f }
+    ensures { result ≡ on comps.role_read rooms.entry f limit }
 {
-    let l = read_lists(tree, store, made, f, limit);
-    let p = text(tree, store, f, b"partition");
-    let a = text(tree, store, f, b"attr");
-    let t = text(tree, store, f, b"target_attr");
-    let n = text(tree, store, f, b"target_filename");
+    let l = read_lists(rooms, f, limit);
+    let p = text(rooms.tree, rooms.store, f, b"partition");
+    let a = text(rooms.tree, rooms.store, f, b"attr");
+    let t = text(rooms.tree, rooms.store, f, b"target_attr");
+    let n = text(rooms.tree, rooms.store, f, b"target_filename");
     let late = first_fault(a.fault, first_fault(t.fault, n.fault));
     let features = l.features;
     let pbp_features = l.pbp_features;
@@ -252,25 +239,19 @@ pub fn read_load(tree: &[u8], store: &[u8], f: Fields) -> LoadRead
             entry_offset,
             header_version,
             with_ext: e.flag,
-            ext_reserve: ext_reserve.or(0),
+            ext_reserve: ext_reserve.unwrap_or(0),
         },
     }
 }
 
-pub fn read_component(
-    tree: &[u8],
-    store: &[u8],
-    made: usize,
-    f: Fields,
-    limit: usize,
-) -> ComponentRead
-    requires { Rooms tree.now made × Spread tree.now f }
-    ensures { result ≡ comps.component_read tree.now store.now made f limit }
+pub fn read_component(rooms: Rooms<'_>, f: Fields, limit: usize) -> ComponentRead
+    requires { Spread rooms.tree.now f }
+    ensures { result ≡ on comps.component_read rooms.entry f limit }
 {
-    let h = read_head(tree, store, f);
-    let r = read_role(tree, store, made, f, limit);
-    let b = read_boot(tree, store, f);
-    let l = read_load(tree, store, f);
+    let h = read_head(rooms.tree, rooms.store, f);
+    let r = read_role(rooms, f, limit);
+    let b = read_boot(rooms.tree, rooms.store, f);
+    let l = read_load(rooms.tree, rooms.store, f);
     let late = first_fault(b.fault, l.fault);
     let head = h.head;
     let role = r.role;

@@ -3,10 +3,11 @@
 
 ghost use Rattle.std.specs.Prelude.{◌≡◌, ◌≤◌};
 ghost use Rattle.tree.specs.Room.{Holds, Finds};
-ghost use Rattle.tree.specs.Doors.{Rooms, Stood, Spread};
+ghost use Rattle.tree.specs.Doors.{Stood, Spread};
 ghost use Rattle.parse.specs.Entries as entries;
 ghost use Rattle.parse.specs.Entries.{Among, Few, NoPartitions, Partitioned, Keyed};
 ghost use Rattle.parse.specs.Refusals as refusals;
+ghost use Rattle.tree.specs.Both.{on};
 
 use crate::Refusal;
 use crate::application::ApplicationRead;
@@ -14,7 +15,7 @@ use crate::component::ComponentRead;
 use crate::field::first_fault;
 use features::{TOO_MANY, WRONG_KIND};
 use schema::{Partition, Text};
-use tree::{Fields, Found, Item, Key, Value};
+use tree::{Fields, Rooms, Value};
 
 // The refusal of an entry that is no table.
 const NO_TABLE: u32 = 23;
@@ -94,14 +95,13 @@ pub fn list_at(
 }
 
 // The table that an entry is, or a refusal.
-pub fn entry_table(tree: &[u8], made: usize, v: Value) -> crate::front::TableRead
-    requires { Rooms tree.now made }
-    ensures { result ≡ entries.entry_table tree.now made v }
+pub fn entry_table(rooms: Rooms<'_>, v: Value) -> crate::front::TableRead
+    ensures { result ≡ entries.entry_table rooms.entry.tree.now rooms.entry.made v }
 {
     match v {
         Value::Table(place) => crate::front::TableRead {
             fault: 0,
-            fields: tree::fields_at(tree, made, place),
+            fields: rooms.fields_at(place),
         },
         _ => crate::front::no_table(NO_TABLE),
     }
@@ -117,28 +117,26 @@ fn read_partition(tree: &[u8], store: &[u8], f: Fields) -> PartitionRead
     let s = crate::field::number_needed(tree, store, f, b"size");
     let l = crate::field::flag(tree, store, f, b"locked");
     let name = n.text;
-    let offset = o.number;
-    let size = s.number;
     PartitionRead {
         fault: first_fault(n.fault, first_fault(o.fault, first_fault(s.fault, l.fault))),
         partition: Partition {
             from: name.start(),
             len: name.length(),
-            offset: offset.or(0),
-            size: size.or(0),
+            offset: o.number.unwrap_or(0),
+            size: s.number.unwrap_or(0),
             locked: l.flag,
         },
     }
 }
 
 // The partition that value number n is.
-pub fn partition_at(tree: &[u8], store: &[u8], made: usize, n: usize) -> PartitionRead
-    requires { Rooms tree.now made × Stood tree.now n }
-    ensures { result ≡ entries.partition_at tree.now store.now made n }
+pub fn partition_at(rooms: Rooms<'_>, n: usize) -> PartitionRead
+    requires { Stood rooms.tree.now n }
+    ensures { result ≡ on entries.partition_at rooms.entry n }
 {
-    let t = entry_table(tree, made, tree::value_at(tree, store, n));
+    let t = entry_table(rooms, rooms.value_at(n));
     let f = t.fields;
-    let p = read_partition(tree, store, f);
+    let p = read_partition(rooms.tree, rooms.store, f);
     let partition = p.partition;
     PartitionRead {
         fault: first_fault(t.fault, p.fault),
@@ -146,13 +144,13 @@ pub fn partition_at(tree: &[u8], store: &[u8], made: usize, n: usize) -> Partiti
     }
 }
 
-pub fn component_at(tree: &[u8], store: &[u8], made: usize, n: usize, limit: usize) -> ComponentRead
-    requires { Rooms tree.now made × Stood tree.now n }
-    ensures { result ≡ entries.component_at tree.now store.now made n limit }
+pub fn component_at(rooms: Rooms<'_>, n: usize, limit: usize) -> ComponentRead
+    requires { Stood rooms.tree.now n }
+    ensures { result ≡ on entries.component_at rooms.entry n limit }
 {
-    let t = entry_table(tree, made, tree::value_at(tree, store, n));
+    let t = entry_table(rooms, rooms.value_at(n));
     let f = t.fields;
-    let c = crate::component::read_component(tree, store, made, f, limit);
+    let c = crate::component::read_component(rooms, f, limit);
     let component = c.component;
     ComponentRead {
         fault: first_fault(t.fault, c.fault),
@@ -160,24 +158,18 @@ pub fn component_at(tree: &[u8], store: &[u8], made: usize, n: usize, limit: usi
     }
 }
 
-pub fn application_at(
-    tree: &[u8],
-    store: &[u8],
-    made: usize,
-    n: usize,
-    limit: usize,
-) -> ApplicationRead
-    requires { Rooms tree.now made × Stood tree.now n }
-    ensures { result ≡ entries.application_at tree.now store.now made n limit }
+pub fn application_at(rooms: Rooms<'_>, n: usize, limit: usize) -> ApplicationRead
+    requires { Stood rooms.tree.now n }
+    ensures { result ≡ on entries.application_at rooms.entry n limit }
 {
-    let t = entry_table(tree, made, tree::value_at(tree, store, n));
+    let t = entry_table(rooms, rooms.value_at(n));
     let f = t.fields;
-    let k = tree::key_at(tree, n);
+    let k = tree::key_at(rooms.tree, n);
     let key = Text::Stored {
         from: k.from,
         len: k.len,
     };
-    let a = crate::application::read_application(tree, store, made, f, key, limit);
+    let a = crate::application::read_application(rooms, f, key, limit);
     let application = a.application;
     ApplicationRead {
         fault: first_fault(t.fault, a.fault),
@@ -203,9 +195,9 @@ fn no_partitions(number: u32, place: usize) -> Partitions
 }
 
 // All partitions of a list that has no more than the limit.
-fn each_partition(tree: &[u8], store: &[u8], made: usize, place: u16, end: usize) -> Partitions
-    requires { Few tree.now made place end }
-    ensures { Partitioned (entries.each_partition tree.now store.now made place end) result }
+fn each_partition(rooms: Rooms<'_>, place: u16, end: usize) -> Partitions
+    requires { Few rooms.tree.now rooms.made place end }
+    ensures { Partitioned (on entries.each_partition rooms.entry place end) result }
 {
     let blank = Partition {
         from: 0,
@@ -217,94 +209,61 @@ fn each_partition(tree: &[u8], store: &[u8], made: usize, place: u16, end: usize
     let mut items = [blank; meaning::PARTITIONS];
     let mut i = 0;
     let mut w = tree::items_of(place, end);
-    loop {
-        let step = tree::next_item(tree, w);
-        match step {
-            Item::End => {
-                return Partitions {
-                    fault: crate::refusal_at(0, 0, 0),
-                    count: i,
-                    items,
-                };
-            }
-            Item::At { value, rest } => {
-                let r = partition_at(tree, store, made, value);
-                if r.fault != 0 {
-                    return no_partitions(r.fault, i);
-                }
-                let p = r.partition;
-                items[i] = p;
-                i += 1;
-                w = rest;
-            }
+    while let Some(step) = tree::next_item(rooms.tree, w) {
+        let r = partition_at(rooms, step.value);
+        if r.fault != 0 {
+            return no_partitions(r.fault, i);
         }
+        items[i] = r.partition;
+        i += 1;
+        w = step.rest;
+    }
+    Partitions {
+        fault: crate::refusal_at(0, 0, 0),
+        count: i,
+        items,
     }
 }
 
 // A list's length is judged before its entries.
-pub fn read_partitions(
-    tree: &[u8],
-    store: &[u8],
-    made: usize,
-    list: List,
-    limit: usize,
-) -> Partitions
-    requires { Among tree.now made list × (limit ≤ 32) }
-    ensures { Partitioned (entries.partitions tree.now store.now made list limit) result }
+pub fn read_partitions(rooms: Rooms<'_>, list: List, limit: usize) -> Partitions
+    requires { Among rooms.tree.now rooms.made list × (limit ≤ 32) }
+    ensures { Partitioned (on entries.partitions rooms.entry list limit) result }
 {
-    let n = tree::count_items(tree, list.end, list.place);
+    let n = tree::count_items(rooms.tree, list.end, list.place);
     if limit < n {
         return no_partitions(TOO_MANY, limit);
     }
-    each_partition(tree, store, made, list.place, list.end)
+    each_partition(rooms, list.place, list.end)
 }
 
 // The first refusal among all components of a list.
-fn each_component(
-    tree: &[u8],
-    store: &[u8],
-    made: usize,
-    place: u16,
-    end: usize,
-    limit: usize,
-) -> Refusal
-    requires { Rooms tree.now made × (end ≤ made) }
-    ensures { result ≡ entries.each_component tree.now store.now made place end limit }
+fn each_component(rooms: Rooms<'_>, place: u16, end: usize, limit: usize) -> Refusal
+    requires { end ≤ rooms.made }
+    ensures { result ≡ on entries.each_component rooms.entry place end limit }
 {
     let mut i = 0;
     let mut w = tree::items_of(place, end);
-    loop {
-        let step = tree::next_item(tree, w);
-        match step {
-            Item::End => return crate::refusal_at(0, 0, 0),
-            Item::At { value, rest } => {
-                let r = component_at(tree, store, made, value, limit);
-                if r.fault != 0 {
-                    return crate::refusal_at(crate::IN_COMPONENT, r.fault, i);
-                }
-                i += 1;
-                w = rest;
-            }
+    while let Some(step) = tree::next_item(rooms.tree, w) {
+        let r = component_at(rooms, step.value, limit);
+        if r.fault != 0 {
+            return crate::refusal_at(crate::IN_COMPONENT, r.fault, i);
         }
+        i += 1;
+        w = step.rest;
     }
+    crate::refusal_at(0, 0, 0)
 }
 
-pub fn check_components(
-    tree: &[u8],
-    store: &[u8],
-    made: usize,
-    list: List,
-    most: usize,
-    limit: usize,
-) -> Refusal
-    requires { Among tree.now made list }
-    ensures { result ≡ entries.components tree.now store.now made list most limit }
+pub fn check_components(rooms: Rooms<'_>, list: List, most: usize, limit: usize) -> Refusal
+    requires { Among rooms.tree.now rooms.made list }
+    ensures { result ≡ on entries.components rooms.entry list most limit }
 {
-    let n = tree::count_items(tree, list.end, list.place);
+    let n = tree::count_items(rooms.tree, list.end, list.place);
     if most < n {
         return crate::refusal_at(crate::IN_COMPONENT, TOO_MANY, most);
     }
-    each_component(tree, store, made, list.place, list.end, limit)
+    each_component(rooms, list.place, list.end, limit)
 }
 
 // The table that `apps` is, as a list of its keys in byte order.
@@ -337,56 +296,41 @@ pub fn count_keys(tree: &[u8], store: &[u8], list: List, most: usize) -> usize
     let mut w = tree::keys_of(tree, list.place, list.end);
     let mut n: usize = 0;
     while n <= most {
-        let step = tree::next_key(tree, store, w);
-        match step {
-            Key::End => return n,
-            Key::At { value: _, rest } => {
-                w = rest;
-                n += 1;
-            }
-        }
+        let Some(step) = tree::next_key(tree, store, w) else {
+            return n;
+        };
+        w = step.rest;
+        n += 1;
     }
     n
 }
 
 // Value number i of a table in byte order of key.
-pub fn nth_key(tree: &[u8], store: &[u8], list: List, i: usize) -> Found
+pub fn nth_key(tree: &[u8], store: &[u8], list: List, i: usize) -> Option<usize>
     requires { Holds tree.now list.end }
     ensures { Finds 0 list.end (entries.nth_key tree.now store.now list i) result }
 {
     let mut w = tree::keys_of(tree, list.place, list.end);
     let mut left = i;
-    loop {
-        let step = tree::next_key(tree, store, w);
-        match step {
-            Key::End => return Found::Nothing,
-            Key::At { value, rest } => {
-                if left == 0 {
-                    return Found::At(value);
-                }
-                w = rest;
-                left -= 1;
-            }
+    while let Some(step) = tree::next_key(tree, store, w) {
+        if left == 0 {
+            return Some(step.value);
         }
+        w = step.rest;
+        left -= 1;
     }
+    None
 }
 
 // The refusal so far; where there is none, that of the application that an entry is.
-fn earlier_application(
-    tree: &[u8],
-    store: &[u8],
-    made: usize,
-    e: Entry,
-    limit: usize,
-    fault: Refusal,
-) -> Refusal
-    requires { Rooms tree.now made × Stood tree.now e.value }
-    ensures { result ≡ entries.earlier_fault tree.now store.now made limit e fault }
+fn earlier_application(rooms: Rooms<'_>, e: Entry, limit: usize, fault: Refusal) -> Refusal
+    requires { Stood rooms.tree.now e.value }
+    ensures { result ≡ on entries.earlier_fault rooms.entry limit e fault }
 {
     if fault.number != 0 {
         return fault;
     }
-    let a = application_at(tree, store, made, e.value, limit);
+    let a = application_at(rooms, e.value, limit);
     if a.fault != 0 {
         return crate::refusal_at(crate::IN_APPLICATION, a.fault, e.place);
     }
@@ -395,31 +339,24 @@ fn earlier_application(
 
 // The list's length is told before its entries, so the first refusal waits for the last key; a second walk would
 // cost as much again.
-pub fn check_applications(
-    tree: &[u8],
-    store: &[u8],
-    made: usize,
-    list: List,
-    most: usize,
-    limit: usize,
-) -> Refusal
-    requires { Among tree.now made list × (most ≤ 65000) }
-    ensures { result ≡ entries.applications tree.now store.now made list most limit }
+pub fn check_applications(rooms: Rooms<'_>, list: List, most: usize, limit: usize) -> Refusal
+    requires { Among rooms.tree.now rooms.made list × (most ≤ 65000) }
+    ensures { result ≡ on entries.applications rooms.entry list most limit }
 {
-    let mut w = tree::keys_of(tree, list.place, list.end);
+    let mut w = tree::keys_of(rooms.tree, list.place, list.end);
     let mut fault = crate::refusal_at(0, 0, 0);
     let mut i = 0;
     while i <= most {
-        let step = tree::next_key(tree, store, w);
-        match step {
-            Key::End => return fault,
-            Key::At { value, rest } => {
-                let e = Entry { value, place: i };
-                fault = earlier_application(tree, store, made, e, limit, fault);
-                w = rest;
-                i += 1;
-            }
-        }
+        let Some(step) = tree::next_key(rooms.tree, rooms.store, w) else {
+            return fault;
+        };
+        let e = Entry {
+            value: step.value,
+            place: i,
+        };
+        fault = earlier_application(rooms, e, limit, fault);
+        w = step.rest;
+        i += 1;
     }
     crate::refusal_at(crate::IN_APPLICATION, TOO_MANY, most)
 }

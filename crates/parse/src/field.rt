@@ -1,12 +1,13 @@
 // One field of a table, read in one way. Every reader gives its fault, 0 for none, beside what it read.
 
-ghost use Rattle.std.specs.Prelude.{◌≡◌};
+ghost use Rattle.std.specs.Prelude.{◌≡◌, unwrap_or};
 ghost use Rattle.tree.specs.Doors.{Spread};
-ghost use Rattle.schema.specs.Texts.{or_text, or_number};
+ghost use Rattle.schema.specs.Texts.{or_text};
 ghost use Rattle.parse.specs.Fields as fields;
 
 use features::WRONG_KIND;
-use schema::{Kind, KindRead, Media, MediaRead, Number, Text};
+use meaning::Refused;
+use schema::{Kind, Media, Text};
 use tree::{Fields, Value};
 
 // The refusal of a number out of range.
@@ -37,16 +38,15 @@ impl TextRead {
 #[derive(Clone, Copy)]
 pub struct NumberRead {
     pub fault: u32,
-    pub number: Number,
+    pub number: Option<u32>,
 }
 
 impl NumberRead {
     // The number, or d where it is absent.
     pub fn or(self, d: u32) -> u32
-        ensures { result ≡ or_number self.number d }
+        ensures { result ≡ unwrap_or self.number d }
     {
-        let n = self.number;
-        n.or(d)
+        self.number.unwrap_or(d)
     }
 }
 
@@ -54,6 +54,18 @@ impl NumberRead {
 pub struct FlagRead {
     pub fault: u32,
     pub flag: bool,
+}
+
+#[derive(Clone, Copy)]
+pub struct KindRead {
+    pub fault: u32,
+    pub kind: Kind,
+}
+
+#[derive(Clone, Copy)]
+pub struct MediaRead {
+    pub fault: u32,
+    pub media: Media,
 }
 
 // The first fault of two.
@@ -93,7 +105,7 @@ fn no_number(fault: u32) -> NumberRead
 {
     NumberRead {
         fault,
-        number: Number::Absent,
+        number: None,
     }
 }
 
@@ -109,7 +121,7 @@ fn ranged(negative: bool, magnitude: u64) -> NumberRead
     }
     NumberRead {
         fault: 0,
-        number: Number::Of(magnitude as u32),
+        number: Some(magnitude as u32),
     }
 }
 
@@ -202,18 +214,43 @@ pub fn number_needed(tree: &[u8], store: &[u8], f: Fields, key: &[u8]) -> Number
     }
 }
 
+// A kind by its word, `raw` where that is none.
+fn kind_said(r: Result<Kind, Refused>) -> KindRead
+    ensures { result ≡ fields.kind_said r }
+{
+    match r {
+        Ok(kind) => KindRead { fault: 0, kind },
+        Err(e) => KindRead {
+            fault: e.number(),
+            kind: Kind::Raw,
+        },
+    }
+}
+
 // A component's kind, `raw` where it has none.
 pub fn kind(tree: &[u8], store: &[u8], f: Fields) -> KindRead
     requires { Spread tree.now f }
     ensures { result ≡ fields.kind_at tree.now store.now f }
 {
     let t = text(tree, store, f, b"kind");
-    let place = t.text;
-    match place {
-        Text::Stored { from, len } => schema::Kind::parse(schema::stored(store, from, len)),
+    match t.text {
+        Text::Stored { from, len } => kind_said(Kind::parse(schema::stored(store, from, len))),
         _ => KindRead {
             fault: t.fault,
             kind: Kind::Raw,
+        },
+    }
+}
+
+// A medium by its word, `spi-nor` where that is none.
+fn media_said(r: Result<Media, Refused>) -> MediaRead
+    ensures { result ≡ fields.media_said r }
+{
+    match r {
+        Ok(media) => MediaRead { fault: 0, media },
+        Err(e) => MediaRead {
+            fault: e.number(),
+            media: Media::SpiNor,
         },
     }
 }
@@ -224,9 +261,8 @@ pub fn media(tree: &[u8], store: &[u8], f: Fields, d: Media) -> MediaRead
     ensures { result ≡ fields.media_at tree.now store.now f d }
 {
     let t = text(tree, store, f, b"media");
-    let place = t.text;
-    match place {
-        Text::Stored { from, len } => schema::Media::parse(schema::stored(store, from, len)),
+    match t.text {
+        Text::Stored { from, len } => media_said(Media::parse(schema::stored(store, from, len))),
         _ => MediaRead {
             fault: t.fault,
             media: d,

@@ -1,13 +1,14 @@
 // The board and the image, which share the chip.
 
 ghost use Rattle.std.specs.Prelude.{◌≡◌};
-ghost use Rattle.tree.specs.Doors.{Rooms, Spread};
+ghost use Rattle.tree.specs.Doors.{Spread};
 ghost use Rattle.parse.specs.Front as fronts;
+ghost use Rattle.tree.specs.Both.{on};
 
 use crate::Refusal;
 use features::WRONG_KIND;
 use schema::{Board, Chip, Image, Text, Word};
-use tree::{Fields, Value};
+use tree::{Fields, Rooms, Value};
 
 // A table of the root; without fields where it is absent.
 #[derive(Clone, Copy)]
@@ -70,16 +71,16 @@ pub fn no_table(fault: u32) -> TableRead
     }
 }
 
-pub fn table_at(tree: &[u8], store: &[u8], made: usize, root: Fields, key: &[u8]) -> TableRead
-    requires { Rooms tree.now made × Spread tree.now root }
-    ensures { result ≡ fronts.table_at tree.now store.now made root key.now }
+pub fn table_at(rooms: Rooms<'_>, root: Fields, key: &[u8]) -> TableRead
+    requires { Spread rooms.tree.now root }
+    ensures { result ≡ on fronts.table_at rooms.entry root key.now }
 {
-    let v = tree::field(tree, store, root, key);
+    let v = rooms.field(root, key);
     match v {
         Value::Absent => no_table(0),
         Value::Table(place) => TableRead {
             fault: 0,
-            fields: tree::fields_at(tree, made, place),
+            fields: rooms.fields_at(place),
         },
         _ => no_table(WRONG_KIND),
     }
@@ -99,11 +100,15 @@ fn sections(board: u32, image: u32) -> Refusal
 fn chip_word(store: &[u8], from: usize, len: usize, section: u32) -> ChipFound
     ensures { result ≡ fronts.chip_word store.now from len section }
 {
-    let r = schema::Chip::parse(schema::stored(store, from, len));
-    let chip = r.chip;
-    ChipFound {
-        fault: crate::in_section(section, r.fault),
-        chip,
+    match Chip::parse(schema::stored(store, from, len)) {
+        Ok(chip) => ChipFound {
+            fault: crate::in_section(section, 0),
+            chip,
+        },
+        Err(e) => ChipFound {
+            fault: crate::in_section(section, e.number()),
+            chip: Chip::D13x,
+        },
     }
 }
 
@@ -247,11 +252,11 @@ fn front_of(tree: &[u8], store: &[u8], b: TableRead, i: TableRead, lent: Text) -
     }
 }
 
-pub fn read_front(tree: &[u8], store: &[u8], made: usize, root: Fields, lent: Text) -> Front
-    requires { Rooms tree.now made × Spread tree.now root }
-    ensures { result ≡ fronts.front_read tree.now store.now made root lent }
+pub fn read_front(rooms: Rooms<'_>, root: Fields, lent: Text) -> Front
+    requires { Spread rooms.tree.now root }
+    ensures { result ≡ on fronts.front_read rooms.entry root lent }
 {
-    let b = table_at(tree, store, made, root, b"board");
-    let i = table_at(tree, store, made, root, b"image");
-    front_of(tree, store, b, i, lent)
+    let b = table_at(rooms, root, b"board");
+    let i = table_at(rooms, root, b"image");
+    front_of(rooms.tree, rooms.store, b, i, lent)
 }

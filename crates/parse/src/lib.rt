@@ -11,14 +11,15 @@ pub mod front;
 pub mod view;
 
 ghost use Rattle.std.specs.Prelude.{◌≡◌, ◌≤◌, length};
-ghost use Rattle.tree.specs.Doors.{Rooms};
 ghost use Rattle.parse.specs.Verdict as verdicts;
 ghost use Rattle.parse.specs.Verdict.{Judging, Told};
 ghost use Rattle.parse.specs.Refused as refused;
 ghost use Rattle.parse.specs.Refusals as refusals;
+ghost use Rattle.tree.specs.Both.{on};
 
 use meaning::Limits;
 use schema::{Text, Word};
+use tree::Rooms;
 
 // The sections of a preset that a refusal names.
 pub const IN_BOARD: u32 = 1;
@@ -80,66 +81,64 @@ pub fn lent_name(name: &[u8]) -> Text
     Text::Fixed(Word::Board)
 }
 
-fn front_refusal(tree: &[u8], store: &[u8], made: usize, name: &[u8]) -> Refusal
-    requires { Rooms tree.now made }
-    ensures { result ≡ verdicts.front_fault tree.now store.now made name.now }
+fn front_refusal(rooms: Rooms<'_>, name: &[u8]) -> Refusal
+    ensures { result ≡ on verdicts.front_fault rooms.entry name.now }
 {
-    let root = tree::fields_at(tree, made, tree::ROOT);
-    let f = front::read_front(tree, store, made, root, lent_name(name));
+    let root = rooms.fields_at(tree::ROOT);
+    let f = front::read_front(rooms, root, lent_name(name));
     f.fault
 }
 
-fn partition_refusal(tree: &[u8], store: &[u8], made: usize, limits: Limits) -> Refusal
-    requires { Judging tree.now made limits }
-    ensures { result ≡ verdicts.partition_fault tree.now store.now made limits }
+fn partition_refusal(rooms: Rooms<'_>, limits: Limits) -> Refusal
+    requires { Judging rooms.tree.now rooms.made limits }
+    ensures { result ≡ on verdicts.partition_fault rooms.entry limits }
 {
-    let l = view::partition_list(tree, store, made);
-    let r = entry::read_partitions(tree, store, made, l, limits.partitions);
+    let l = view::partition_list(rooms);
+    let r = entry::read_partitions(rooms, l, limits.partitions);
     earlier(in_section(IN_PARTITION, l.fault), r.fault)
 }
 
-fn component_refusal(tree: &[u8], store: &[u8], made: usize, limits: Limits) -> Refusal
-    requires { Judging tree.now made limits }
-    ensures { result ≡ verdicts.component_fault tree.now store.now made limits }
+fn component_refusal(rooms: Rooms<'_>, limits: Limits) -> Refusal
+    requires { Judging rooms.tree.now rooms.made limits }
+    ensures { result ≡ on verdicts.component_fault rooms.entry limits }
 {
-    let l = view::component_list(tree, store, made);
-    let r = entry::check_components(tree, store, made, l, limits.components, limits.features);
+    let l = view::component_list(rooms);
+    let r = entry::check_components(rooms, l, limits.components, limits.features);
     earlier(in_section(IN_COMPONENT, l.fault), r)
 }
 
-fn application_refusal(tree: &[u8], store: &[u8], made: usize, limits: Limits) -> Refusal
-    requires { Judging tree.now made limits }
-    ensures { result ≡ verdicts.application_fault tree.now store.now made limits }
+fn application_refusal(rooms: Rooms<'_>, limits: Limits) -> Refusal
+    requires { Judging rooms.tree.now rooms.made limits }
+    ensures { result ≡ on verdicts.application_fault rooms.entry limits }
 {
-    let l = view::application_list(tree, store, made);
-    let r = entry::check_applications(tree, store, made, l, limits.applications, limits.features);
+    let l = view::application_list(rooms);
+    let r = entry::check_applications(rooms, l, limits.applications, limits.features);
     earlier(in_section(IN_APPLICATION, l.fault), r)
 }
 
 // The first refusal of the records, in 01's order.
-pub fn check_records(tree: &[u8], store: &[u8], made: usize, name: &[u8], limits: Limits) -> Refusal
-    requires { Judging tree.now made limits }
-    ensures { result ≡ verdicts.verdict tree.now store.now made name.now limits }
+pub fn check_records(rooms: Rooms<'_>, name: &[u8], limits: Limits) -> Refusal
+    requires { Judging rooms.tree.now rooms.made limits }
+    ensures { result ≡ on verdicts.verdict rooms.entry name.now limits }
 {
-    let a = front_refusal(tree, store, made, name);
+    let a = front_refusal(rooms, name);
     if a.number != 0 {
         return a;
     }
-    let b = partition_refusal(tree, store, made, limits);
+    let b = partition_refusal(rooms, limits);
     if b.number != 0 {
         return b;
     }
-    let c = component_refusal(tree, store, made, limits);
+    let c = component_refusal(rooms, limits);
     if c.number != 0 {
         return c;
     }
-    application_refusal(tree, store, made, limits)
+    application_refusal(rooms, limits)
 }
 
 // The same within 01's limits: the judge of records.
-pub fn judge_records(tree: &[u8], store: &[u8], made: usize, name: &[u8]) -> Refusal
-    requires { Rooms tree.now made }
-    ensures { Told (verdicts.reading name.now tree.now store.now made) result }
+pub fn judge_records(rooms: Rooms<'_>, name: &[u8]) -> Refusal
+    ensures { Told (on (verdicts.reading name.now) rooms.entry) result }
 {
-    check_records(tree, store, made, name, meaning::of01())
+    check_records(rooms, name, meaning::of01())
 }

@@ -1,152 +1,97 @@
 // A record by its entry number, read from the rooms when it is wanted.
 
 ghost use Rattle.std.specs.Prelude.{◌≡◌, ◌≤◌};
-ghost use Rattle.tree.specs.Doors.{Rooms, Stood};
+ghost use Rattle.tree.specs.Doors.{Stood};
 ghost use Rattle.parse.specs.Views as views;
+ghost use Rattle.tree.specs.Both.{on};
 
 use crate::entry::List;
 use schema::{Application, Chip, Component, Media, Partition};
-use tree::Found;
-
-#[derive(Clone, Copy)]
-pub enum PartitionFound {
-    Nothing,
-    At(Partition),
-}
-
-#[derive(Clone, Copy)]
-pub enum ComponentFound {
-    Nothing,
-    At(Component),
-}
-
-#[derive(Clone, Copy)]
-pub enum ApplicationFound {
-    Nothing,
-    At(Application),
-}
+use tree::Rooms;
 
 // Where the three lists stand.
-pub fn partition_list(tree: &[u8], store: &[u8], made: usize) -> List
-    requires { Rooms tree.now made }
-    ensures { result ≡ views.partition_list tree.now store.now made }
+pub fn partition_list(rooms: Rooms<'_>) -> List
+    ensures { result ≡ on views.partition_list rooms.entry }
 {
-    let root = tree::fields_at(tree, made, tree::ROOT);
-    crate::entry::list_at(tree, store, made, root, b"partition", b"partitions")
+    let root = rooms.fields_at(tree::ROOT);
+    crate::entry::list_at(
+        rooms.tree,
+        rooms.store,
+        rooms.made,
+        root,
+        b"partition",
+        b"partitions",
+    )
 }
 
-pub fn component_list(tree: &[u8], store: &[u8], made: usize) -> List
-    requires { Rooms tree.now made }
-    ensures { result ≡ views.component_list tree.now store.now made }
+pub fn component_list(rooms: Rooms<'_>) -> List
+    ensures { result ≡ on views.component_list rooms.entry }
 {
-    let root = tree::fields_at(tree, made, tree::ROOT);
-    crate::entry::list_at(tree, store, made, root, b"component", b"components")
+    let root = rooms.fields_at(tree::ROOT);
+    crate::entry::list_at(
+        rooms.tree,
+        rooms.store,
+        rooms.made,
+        root,
+        b"component",
+        b"components",
+    )
 }
 
-pub fn application_list(tree: &[u8], store: &[u8], made: usize) -> List
-    requires { Rooms tree.now made }
-    ensures { result ≡ views.application_list tree.now store.now made }
+pub fn application_list(rooms: Rooms<'_>) -> List
+    ensures { result ≡ on views.application_list rooms.entry }
 {
-    let root = tree::fields_at(tree, made, tree::ROOT);
-    crate::entry::keys_at(tree, store, made, root)
+    let root = rooms.fields_at(tree::ROOT);
+    crate::entry::keys_at(rooms.tree, rooms.store, rooms.made, root)
 }
 
 // A record without fault.
-fn good_partition(tree: &[u8], store: &[u8], made: usize, n: usize) -> PartitionFound
-    requires { Rooms tree.now made × Stood tree.now n }
-    ensures { result ≡ views.good_partition tree.now store.now made n }
+fn good_partition(rooms: Rooms<'_>, n: usize) -> Option<Partition>
+    requires { Stood rooms.tree.now n }
+    ensures { result ≡ on views.good_partition rooms.entry n }
 {
-    let r = crate::entry::partition_at(tree, store, made, n);
-    if r.fault == 0 {
-        let it = r.partition;
-        return PartitionFound::At(it);
-    }
-    PartitionFound::Nothing
+    let r = crate::entry::partition_at(rooms, n);
+    (r.fault == 0).then_some(r.partition)
 }
 
-fn good_component(tree: &[u8], store: &[u8], made: usize, n: usize, limit: usize) -> ComponentFound
-    requires { Rooms tree.now made × Stood tree.now n }
-    ensures { result ≡ views.good_component tree.now store.now made n limit }
+fn good_component(rooms: Rooms<'_>, n: usize, limit: usize) -> Option<Component>
+    requires { Stood rooms.tree.now n }
+    ensures { result ≡ on views.good_component rooms.entry n limit }
 {
-    let r = crate::entry::component_at(tree, store, made, n, limit);
-    if r.fault == 0 {
-        let it = r.component;
-        return ComponentFound::At(it);
-    }
-    ComponentFound::Nothing
+    let r = crate::entry::component_at(rooms, n, limit);
+    (r.fault == 0).then_some(r.component)
 }
 
-fn good_application(
-    tree: &[u8],
-    store: &[u8],
-    made: usize,
-    n: usize,
-    limit: usize,
-) -> ApplicationFound
-    requires { Rooms tree.now made × Stood tree.now n }
-    ensures { result ≡ views.good_application tree.now store.now made n limit }
+fn good_application(rooms: Rooms<'_>, n: usize, limit: usize) -> Option<Application>
+    requires { Stood rooms.tree.now n }
+    ensures { result ≡ on views.good_application rooms.entry n limit }
 {
-    let r = crate::entry::application_at(tree, store, made, n, limit);
-    if r.fault == 0 {
-        let it = r.application;
-        return ApplicationFound::At(it);
-    }
-    ApplicationFound::Nothing
+    let r = crate::entry::application_at(rooms, n, limit);
+    (r.fault == 0).then_some(r.application)
 }
 
-pub fn partition(tree: &[u8], store: &[u8], made: usize, i: usize) -> PartitionFound
-    requires { Rooms tree.now made }
-    ensures { result ≡ views.partition tree.now store.now made i }
+pub fn partition(rooms: Rooms<'_>, i: usize) -> Option<Partition>
+    ensures { result ≡ on views.partition rooms.entry i }
 {
-    let l = partition_list(tree, store, made);
-    let found = tree::nth_item(tree, l.end, l.place, i);
-    match found {
-        Found::At(n) => good_partition(tree, store, made, n),
-        Found::Nothing => PartitionFound::Nothing,
-    }
+    let l = partition_list(rooms);
+    let n = tree::nth_item(rooms.tree, l.end, l.place, i)?;
+    good_partition(rooms, n)
 }
 
-pub fn component(tree: &[u8], store: &[u8], made: usize, i: usize, limit: usize) -> ComponentFound
-    requires { Rooms tree.now made }
-    ensures { result ≡ views.component tree.now store.now made i limit }
+pub fn component(rooms: Rooms<'_>, i: usize, limit: usize) -> Option<Component>
+    ensures { result ≡ on views.component rooms.entry i limit }
 {
-    let l = component_list(tree, store, made);
-    let found = tree::nth_item(tree, l.end, l.place, i);
-    match found {
-        Found::At(n) => good_component(tree, store, made, n, limit),
-        Found::Nothing => ComponentFound::Nothing,
-    }
+    let l = component_list(rooms);
+    let n = tree::nth_item(rooms.tree, l.end, l.place, i)?;
+    good_component(rooms, n, limit)
 }
 
-pub fn application(
-    tree: &[u8],
-    store: &[u8],
-    made: usize,
-    i: usize,
-    limit: usize,
-) -> ApplicationFound
-    requires { Rooms tree.now made }
-    ensures { result ≡ views.application tree.now store.now made i limit }
+pub fn application(rooms: Rooms<'_>, i: usize, limit: usize) -> Option<Application>
+    ensures { result ≡ on views.application rooms.entry i limit }
 {
-    let l = application_list(tree, store, made);
-    let found = crate::entry::nth_key(tree, store, l, i);
-    match found {
-        Found::At(n) => good_application(tree, store, made, n, limit),
-        Found::Nothing => ApplicationFound::Nothing,
-    }
-}
-
-// Whether the room has so many values, and not more than reading ever makes.
-pub fn holds_values(tree: &[u8], made: usize) -> bool
-    ensures { result ≡ views.holds_values tree.now made }
-{
-    if tree::capacity(tree) < made {
-        return false;
-    }
-    if tree::MOST_VALUES < made {
-        return false;
-    }
-    true
+    let l = application_list(rooms);
+    let n = crate::entry::nth_key(rooms.tree, rooms.store, l, i)?;
+    good_application(rooms, n, limit)
 }
 
 // Where all three stand.
@@ -157,14 +102,13 @@ pub struct Lists {
     pub applications: List,
 }
 
-pub fn lists_of(tree: &[u8], store: &[u8], made: usize) -> Lists
-    requires { Rooms tree.now made }
-    ensures { result ≡ views.lists_of tree.now store.now made }
+pub fn lists_of(rooms: Rooms<'_>) -> Lists
+    ensures { result ≡ on views.lists_of rooms.entry }
 {
     Lists {
-        partitions: partition_list(tree, store, made),
-        components: component_list(tree, store, made),
-        applications: application_list(tree, store, made),
+        partitions: partition_list(rooms),
+        components: component_list(rooms),
+        applications: application_list(rooms),
     }
 }
 
@@ -177,39 +121,38 @@ pub struct Counts {
 }
 
 // Of lists that are looked up already.
-pub fn counts_in(tree: &[u8], store: &[u8], made: usize, l: Lists) -> Counts
-    requires { Rooms tree.now made × (l ≡ views.lists_of tree.now store.now made) }
-    ensures { result ≡ views.counts_of tree.now store.now made }
+pub fn counts_in(rooms: Rooms<'_>, l: Lists) -> Counts
+    requires { l ≡ on views.lists_of rooms }
+    ensures { result ≡ on views.counts_of rooms.entry }
 {
     let p = l.partitions;
     let c = l.components;
     let a = l.applications;
     Counts {
-        partitions: tree::count_items(tree, p.end, p.place),
-        components: tree::count_items(tree, c.end, c.place),
-        applications: crate::entry::count_keys(tree, store, a, meaning::APPLICATIONS),
+        partitions: tree::count_items(rooms.tree, p.end, p.place),
+        components: tree::count_items(rooms.tree, c.end, c.place),
+        applications: crate::entry::count_keys(rooms.tree, rooms.store, a, meaning::APPLICATIONS),
     }
 }
 
-pub fn counts_of(tree: &[u8], store: &[u8], made: usize) -> Counts
-    requires { Rooms tree.now made }
-    ensures { result ≡ views.counts_of tree.now store.now made }
+pub fn counts_of(rooms: Rooms<'_>) -> Counts
+    ensures { result ≡ on views.counts_of rooms.entry }
 {
-    let l = lists_of(tree, store, made);
-    counts_in(tree, store, made, l)
+    let l = lists_of(rooms);
+    counts_in(rooms, l)
 }
 
 // The same of any rooms: nothing where they do not hold the values.
 pub fn counts_at(tree: &[u8], store: &[u8], made: usize) -> Counts
     ensures { result ≡ views.counts_at tree.now store.now made }
 {
-    if holds_values(tree, made) {
-        return counts_of(tree, store, made);
-    }
-    Counts {
-        partitions: 0,
-        components: 0,
-        applications: 0,
+    match Rooms::of(tree, store, made) {
+        Some(rooms) => counts_of(rooms),
+        None => Counts {
+            partitions: 0,
+            components: 0,
+            applications: 0,
+        },
     }
 }
 
@@ -221,17 +164,16 @@ pub struct Device {
 }
 
 // Of board and image only what says it is read.
-pub fn device_of(tree: &[u8], store: &[u8], made: usize) -> Device
-    requires { Rooms tree.now made }
-    ensures { result ≡ views.device_of tree.now store.now made }
+pub fn device_of(rooms: Rooms<'_>) -> Device
+    ensures { result ≡ on views.device_of rooms.entry }
 {
-    let root = tree::fields_at(tree, made, tree::ROOT);
-    let b = crate::front::table_at(tree, store, made, root, b"board");
-    let i = crate::front::table_at(tree, store, made, root, b"image");
+    let root = rooms.fields_at(tree::ROOT);
+    let b = crate::front::table_at(rooms, root, b"board");
+    let i = crate::front::table_at(rooms, root, b"image");
     let f = i.fields;
-    let c = crate::front::chip_of(tree, store, b.fields, f);
+    let c = crate::front::chip_of(rooms.tree, rooms.store, b.fields, f);
     let chip = c.chip;
-    let m = crate::field::media(tree, store, f, chip.default_media());
+    let m = crate::field::media(rooms.tree, rooms.store, f, chip.default_media());
     let media = m.media;
     Device { chip, media }
 }

@@ -5,18 +5,17 @@ use mathlib.Core.List.{List as Seq, [], ◌∷◌, ◌++◌, map, append_assoc, 
 use mathlib.Core.Path.{◌≡◌, refl, sym, ap, ◌∙◌}
 use native.Mathlib.Omega.{arith}
 use native.Mathlib.Numerals.{add-one}
-use borrow.Author.Tests.{lt-ltb, le-ltb, ne_eqb}
-use lib.Dec.{eqb, ltb}
+use borrow.Author.Tests.{lt-ltb, le-ltb}
+use lib.Dec.{ltb}
 use lib.ListN.{length, take, get_or, set, replicate, length-set, length-map, length-append, get_or-map}
 use lib.Seq.{length-take-le, get_or-take, take-nil, take-suc, take-suc-set, slice, slice-cons, slice_empty}
 use Rattle.meaning.specs.Base.{pick, ascii}
 use Rattle.meaning.specs.Rules.{twice}
-use Rattle.laws.specs.Cases.{on}
 use Rattle.tree.specs.declared.Value.{Value}
 use Rattle.tree.specs.declared.Span.{Span}
+use Rattle.tree.specs.declared.Step.{Step}
 use Rattle.tree.specs.declared.Items.{Items}
-use Rattle.tree.specs.declared.Item.{Item}
-use Rattle.tree.specs.declared.Item.TheVariants as given
+use Rattle.std.specs.Prelude.{Option, Some, None}
 use Rattle.tree.specs.Steps.{items_from, to_come, Gives, KeyIs, item_room, item_ended, item_given, item_stands}
 use Rattle.validate.proofs.Pairing.{key_spot_lem}
 use Rattle.tree.specs.Room.{Holds}
@@ -40,6 +39,7 @@ use Rattle.parse.specs.Views.{component_list}
 use Rattle.parse.proofs.Judging.{components_among}
 use Rattle.turns.specs.Marks.{any_of}
 use Rattle.schema.specs.declared.spot.Spot.{Spot}
+use Rattle.schema.specs.declared.spot.Spot.TheVariants as named
 use Rattle.schema.specs.Spots as spots
 use Rattle.schema.specs.Spots.{packed, no_spot, text_spot, list_spot, spotted, list_at}
 use Rattle.schema.specs.Spots.{Short, ShortList, stored_short, list_short}
@@ -49,26 +49,12 @@ use Rattle.plan.specs.declared.builds.Use.{Use}
 use Rattle.plan.specs.declared.builds.BuildList.{BuildList}
 use Rattle.plan.specs.declared.builds.Wanted.{Wanted}
 use Rattle.plan.specs.Planned.{built}
-use Rattle.plan.specs.declared.builds.BuildFound.TheVariants as results
 use Rattle.plan.specs.declared.choice.Choice.{Choice}
 use Rattle.plan.specs.declared.choice.Choice.TheVariants as choices
 use Rattle.plan.specs.Choices.{Standing}
 use Rattle.plan.specs.Builds.{blank, no_use, use_of, build_at, both_at, wanted, Used, Wanting, Room, fresh, first_uses, wanted_at, uses_of, each_component, application_use, Followed, own_uses, uses, builds_of, build}
 
 -- ---- one use
-
-pub use_made : (p bin last : Text) (fs : Features) (x y z : Spot) → x ≡ text_spot p → last ≡ or_text bin p → y ≡ text_spot last → z ≡ list_spot fs
-    → record { «package» = x; bin = y; features = z } ≡ use_of p bin fs
-unfolding use_of
-use_made p bin last fs x y z e1 e2 e3 e4 = rw (e1, e3, e2, e4)
-
-pub build_made : (u : Use) (p bin : Text) (fs : Features) → p ≡ spots.text_at u.«package» → bin ≡ spots.text_at u.bin → fs ≡ list_at u.features
-    → record { «package» = p; bin = bin; features = fs } ≡ build_at u
-unfolding build_at
-build_made u p bin fs e1 e2 e3 = rw (e1, e2, e3)
-
-pub no_uses : (s : Spot) → s ≡ no_spot → replicate 129 (record { «package» = s; bin = s; features = s }) ≡ replicate 129 no_use
-no_uses s e = rw e
 
 short_or : (bin p : Text) → Short bin → Short p → Short (or_text bin p)
 short_or texts.Absent p h k = k
@@ -101,7 +87,7 @@ wanted_read room store made n v t s l o own pbp e1 e2 e3 e4 e5 e6 e7 =
 -- an application's package and bin are its key
 pub application_read_lem : (room store : Seq ℕ) (made n : ℕ) (r : ApplicationRead) (k : Span) (key list : Spot) → r ≡ application_at room store made n 32 → KeyIs room n k
     → key ≡ spots.bytes_spot k.from k.len → list ≡ list_spot r.application.features → build_at (record { «package» = key; bin = key; features = list }) ≡ application_use room store made n
-unfolding build_at spots.text_at application_use application_at application_read loading
+unfolding build_at application_use application_at application_read loading
 application_read_lem room store made n r k key list e1 e2 e3 e4 =
     let fs = (application_at room store made n 32).application.features in
     rw (key_spot_lem room n k key e2 e3, e4, e1, list_short fs (field_list_short room store (table_at room store made n).fields made 32 (ascii "features")))
@@ -150,28 +136,28 @@ module _ (room store : Seq ℕ) (made place end : ℕ) where
     pub comps_full : 128 ≤ i → Used 128 (each_component room store made place end) (record { count = i; items = xs })
     comps_full l = let d : k.more ≡ 0 = omega (arith, k.few) in comps_done (rw d)
 
-    module _ (step : Item) (h : Gives room w step) where
-      pub comps_none : step ≡ given.End → Used 128 (each_component room store made place end) (record { count = i; items = xs })
+    module _ (step : Option (Step Items)) (h : Gives room w step) where
+      pub comps_none : step ≡ None → Used 128 (each_component room store made place end) (record { count = i; items = xs })
       comps_none g = comps_done (rw (item_ended room w step h g) (take-nil k.more))
 
-      module _ (n : ℕ) (rest : Items) (g : step ≡ given.At n rest) where
-        pub comps_stood : Wanting room made end → Stood room n
-        comps_stood q = item_stands room w step h n rest g made q.rooms (comps_within q)
+      module _ (given : Step Items) (g : step ≡ Some given) where
+        pub comps_stood : Wanting room made end → Stood room given.value
+        comps_stood q = item_stands room w step h given g made q.rooms (comps_within q)
 
         module _ (l : i < 128) where
           pub comps_room : i + 1 < 129
           comps_room = omega arith
 
-          pub comps_on : (u : Wanted) → both_at u ≡ wanted_at room store made n
-              → Gathering room store made place end (set (set xs i u.own) (i + 1) u.pbp) (i + 2) rest
+          pub comps_on : (u : Wanted) → both_at u ≡ wanted_at room store made given.value
+              → Gathering room store made place end (set (set xs i u.own) (i + 1) u.pbp) (i + 2) given.rest
           comps_on u e = by k.more k.few k.left
             where
               by : (m : ℕ) → i + m + m ≡ 128 → each_component room store made place end ≡ map build_at (take i xs) ++ uses_of room store made (take m (to_come room w))
-                  → Gathering room store made place end (set (set xs i u.own) (i + 1) u.pbp) (i + 2) rest
+                  → Gathering room store made place end (set (set xs i u.own) (i + 1) u.pbp) (i + 2) given.rest
               by zero f z = absurd (omega (arith, f))
               by (suc m) f z =
-                  let s = item_given room w step h n rest g in
-                  let y : each_component room store made place end ≡ map build_at (take i xs) ++ (build_at u.own ∷ build_at u.pbp ∷ uses_of room store made (take m (to_come room rest))) = rw (s.come, ← e) at z in
+                  let s = item_given room w step h given g in
+                  let y : each_component room store made place end ≡ map build_at (take i xs) ++ (build_at u.own ∷ build_at u.pbp ∷ uses_of room store made (take m (to_come room given.rest))) = rw (s.come, ← e) at z in
                   record {
                     among = s.end ∙ k.among;
                     long = length-set (set xs i u.own) (i + 1) u.pbp ∙ length-set xs i u.own ∙ k.long;
@@ -196,12 +182,9 @@ same_package store u v = twice (spotted store u.«package») (spotted store v.«
 
 module _ (store : Seq ℕ) where
   packed_at : (s : Spot) → packed store (spots.text_at s) ≡ spotted store s
-  unfolding spots.text_at spotted
-  packed_at s = on (eqb s.kind 1) (λ e. rw e) (λ e. rw e)
-
-  given_at : (s : Spot) → is_given (spots.text_at s) ≡ eqb s.kind 1
-  unfolding spots.text_at
-  given_at s = on (eqb s.kind 1) (λ e. rw e) (λ e. rw e)
+  packed_at named.Nothing = refl
+  packed_at (named.Bytes from len) = refl
+  packed_at (named.Items place) = refl
 
   any_at : (u : Use) (es : Seq Use) → any_of (λ (v : Build). twice (packed store (spots.text_at u.«package»)) (packed store v.«package»)) (map build_at es) ≡ any_of (same_package store u) es
   unfolding build_at
@@ -209,9 +192,9 @@ module _ (store : Seq ℕ) where
   any_at u (e ∷ es) = rw (any_at u es, packed_at u.«package», packed_at e.«package»)
 
   -- a use of a package that none of the earlier ones is of, by spots
-  fresh_at : (es : Seq Use) (u : Use) → fresh store (map build_at es) (build_at u) ≡ pick (eqb u.«package».kind 1) (pick (any_of (same_package store u) es) false true) false
+  fresh_at : (es : Seq Use) (u : Use) → fresh store (map build_at es) (build_at u) ≡ pick (is_given (spots.text_at u.«package»)) (pick (any_of (same_package store u) es) false true) false
   unfolding fresh build_at
-  fresh_at es u = rw (any_at u es, given_at u.«package»)
+  fresh_at es u = rw (any_at u es)
 
 -- the first uses among those before number i stand in the array
 pub record Firsts (store : Seq ℕ) (uses : Seq Use) (count : ℕ) (xs : Seq Use) (n i : ℕ) : Type 0 where
@@ -227,7 +210,7 @@ pub record Unused (store : Seq ℕ) (uses : Seq Use) (u : Use) (i₀ i j : ℕ) 
   pub is : i ≡ i₀
   pub high : j ≤ i₀
   pub whole : i₀ ≤ length uses
-  pub yes : u.«package».kind ≡ 1
+  pub yes : is_given (spots.text_at u.«package») ≡ true
   pub left : any_of (same_package store u) (take i₀ uses) ≡ any_of (same_package store u) (slice j i₀ uses)
 
 module _ (store : Seq ℕ) (uses : Seq Use) (i i' j : ℕ) (h : Unused store uses (get_or uses i no_use) i i' j) (m : j < i') where
@@ -266,11 +249,11 @@ module _ (store : Seq ℕ) (uses : Seq Use) (count : ℕ) where
       skipped e =
           record { high = omega arith; fits = k.fits; whole = k.whole; long = k.long; few = omega (arith, k.few); left = rw e at firsts_head }
 
-      pub firsts_absent : ((get_or uses i no_use).«package».kind ≡ 1 → ⊥) → Firsts store uses count xs n (i + 1)
-      firsts_absent e = skipped (rw (fresh_at store (take i uses) (get_or uses i no_use), ne_eqb (get_or uses i no_use).«package».kind 1 e))
+      pub firsts_absent : (t : Text) (b : Bool) → t ≡ spots.text_at (get_or uses i no_use).«package» → b ≡ is_given t → b ≡ false → Firsts store uses count xs n (i + 1)
+      firsts_absent t b d g e = skipped (rw (fresh_at store (take i uses) (get_or uses i no_use), ← d, ← g, e))
 
-      pub unused_start : (get_or uses i no_use).«package».kind ≡ 1 → Unused store uses (get_or uses i no_use) i i 0
-      unused_start e = record { is = refl; high = omega arith; whole = omega (arith, k.fits, k.whole); yes = e; left = refl }
+      pub unused_start : (t : Text) (b : Bool) → t ≡ spots.text_at (get_or uses i no_use).«package» → b ≡ is_given t → b ≡ true → Unused store uses (get_or uses i no_use) i i 0
+      unused_start t b d g e = record { is = refl; high = omega arith; whole = omega (arith, k.fits, k.whole); yes = rw (← d, ← g, e); left = refl }
 
       module _ (i' j : ℕ) (h : Unused store uses (get_or uses i no_use) i i' j) where
         pub unused_low : j ≤ 129
@@ -343,7 +326,7 @@ unfolding builds_of
 builds_used room store made c u r h k = let a : map build_at (take u.count u.items) ≡ uses room store made c = rw h.count h.items in rw a at k
 
 blank_at : build_at no_use ≡ blank
-unfolding build_at spots.text_at list_at
+unfolding build_at
 blank_at = refl
 
 -- number i of those that an array's uses are
@@ -353,13 +336,13 @@ used_at most us b i h l =
     a ∙ get_or-map build_at (take (length us) b.items) i no_use ∙ ap build_at (get_or-take (length us) b.items i no_use (omega (arith, l, h.count)))
 
 module _ (room store : Seq ℕ) (made : ℕ) (c : Choice) (i : ℕ) (b : BuildList) (h : Used 129 (builds_of room store made c) b) where
-  pub build_found : (u : Use) (r : Build) → i < b.count → u ≡ get_or b.items i no_use → r ≡ build_at u → results.At r ≡ build room store made c i
+  pub build_found : (u : Use) (r : Build) → i < b.count → u ≡ get_or b.items i no_use → r ≡ build_at u → Some r ≡ build room store made c i
   unfolding build
   build_found u r l e k =
       let t : ltb i (length (builds_of room store made c)) ≡ true = lt-ltb i (length (builds_of room store made c)) (omega (arith, l, h.count)) in
       rw (t, used_at 129 (builds_of room store made c) b i h l, k, e)
 
-  pub build_none : b.count ≤ i → results.Nothing ≡ build room store made c i
+  pub build_none : b.count ≤ i → None ≡ build room store made c i
   unfolding build
   build_none l =
       let t : ltb i (length (builds_of room store made c)) ≡ false = le-ltb i (length (builds_of room store made c)) (omega (arith, l, h.count)) in

@@ -7,16 +7,12 @@ use native.Mathlib.Omega.{arith}
 use borrow.Author.Tests.{ne_eqb}
 use Rattle.meaning.specs.Base.{ascii, same}
 use Rattle.tree.specs.declared.Span.{Span}
-use Rattle.tree.specs.declared.Items.{Items}
-use Rattle.tree.specs.declared.Item.{Item}
-use Rattle.tree.specs.declared.Item.TheVariants as given
+use Rattle.tree.specs.declared.Step.{Step}
+use Rattle.std.specs.Prelude.{Option, Some, None}
 use Rattle.tree.specs.declared.Keys.{Keys}
-use Rattle.tree.specs.declared.Key.{Key}
-use Rattle.tree.specs.declared.Key.TheVariants as keys
-use Rattle.tree.specs.Steps.{items_from, to_come, Gives, KeyIs, Over, Begins, KeyGives, key_given, key_stands}
+use Rattle.tree.specs.Steps.{KeyIs, Over, Begins, KeyGives, key_given, key_stands}
 use Rattle.parse.proofs.Entering.{walk_ended, walk_given}
 use Rattle.tree.specs.declared.Value.{Value}
-use Rattle.tree.specs.declared.Found.TheVariants as founds
 use Rattle.tree.specs.Doors.{Stood, value_at}
 use Rattle.schema.specs.Texts.{clip, start_of, length_of}
 use Rattle.parse.specs.declared.Refusal.{Refusal}
@@ -27,12 +23,10 @@ use Rattle.parse.specs.declared.application.ApplicationRead.{ApplicationRead}
 use Rattle.parse.specs.Fields.{text_needed}
 use Rattle.parse.specs.Component.{component_read, head_read}
 use Rattle.parse.specs.Entries.{Among, entry_table, refusal_at, walk, component_at, application_at}
-use Rattle.parse.specs.Views.{component_list, application_list}
-use Rattle.turns.specs.Marks.{any_of}
+use Rattle.parse.specs.Views.{application_list}
 use Rattle.plan.specs.declared.choice.Choice.{Choice}
 use Rattle.plan.specs.declared.choice.Choice.TheVariants.{BootChain, Undeclared, At}
 use Rattle.plan.specs.Choices.{Chosen, keyed, declared_in, declared, choice, named, taken, name_fault, fault}
-use Rattle.plan.proofs.Walking.{Left, left_none, left_at, left_on}
 
 -- ---- the application of a key
 
@@ -44,42 +38,42 @@ key_is_lem room store key n v b r e1 e2 e3 = rw (e3, e2, e1.is)
 pub record Seeking (room store key : Seq ℕ) (v w : Keys) (i : ℕ) : Type 0 where
   pub high : i ≤ 65
   pub over : Over room v.place v.end w
-  pub left : declared_in room store key 0 (walk room store v.end v.place 65 founds.Nothing)
+  pub left : declared_in room store key 0 (walk room store v.end v.place 65 None)
       ≡ declared_in room store key i (walk room store v.end v.place (65 - i) w.after)
 
-pub seek_start : (room store key : Seq ℕ) (place end : ℕ) (v : Keys) → Begins room place end founds.Nothing v → Seeking room store key v v 0
+pub seek_start : (room store key : Seq ℕ) (place end : ℕ) (v : Keys) → Begins room place end None v → Seeking room store key v v 0
 seek_start room store key place end v b = record { high = omega arith; over = record { ready = b.over.ready; place = refl; end = refl }; left = rw b.after }
 
-pub seek_on : (room store key : Seq ℕ) (v w : Keys) (i : ℕ) → Seeking room store key v w i → i ≤ 64 → (step : Key) → KeyGives room store w step → (n : ℕ) (rest : Keys) → step ≡ keys.At n rest
-    → (b : Bool) → b ≡ keyed room store key n → b ≡ false → Seeking room store key v rest (i + 1)
-seek_on room store key v w i k l step h n rest g b e f =
-    let q : keyed room store key n ≡ false = sym e ∙ f in
+pub seek_on : (room store key : Seq ℕ) (v w : Keys) (i : ℕ) → Seeking room store key v w i → i ≤ 64 → (step : Option (Step Keys)) → KeyGives room store w step → (given : Step Keys) → step ≡ Some given
+    → (b : Bool) → b ≡ keyed room store key given.value → b ≡ false → Seeking room store key v given.rest (i + 1)
+seek_on room store key v w i k l step h given g b e f =
+    let q : keyed room store key given.value ≡ false = sym e ∙ f in
     let d : 65 - i ≡ suc (65 - (i + 1)) = omega arith in
-    let s = walk_given room store v.place v.end w k.over step h (65 - (i + 1)) n rest g in
-    record { high = omega arith; over = (key_given room store v.place v.end w k.over step h n rest g).over; left = rw (d, s, q) at k.left }
+    let s = walk_given room store v.place v.end w k.over step h (65 - (i + 1)) given g in
+    record { high = omega arith; over = (key_given room store v.place v.end w k.over step h given g).over; left = rw (d, s, q) at k.left }
 
-module _ (room store key : Seq ℕ) (list : List) (v : Keys) (b : Begins room list.place list.end founds.Nothing v) (w : Keys) (i : ℕ) (c : Seeking room store key v w i) where
+module _ (room store key : Seq ℕ) (list : List) (v : Keys) (b : Begins room list.place list.end None v) (w : Keys) (i : ℕ) (c : Seeking room store key v w i) where
   seeking : Seeking room store key (record { place = list.place; low = v.low; end = list.end; after = v.after }) w i
   seeking = rw (b.over.place, b.over.end) at c
 
   pub seek_end : 64 < i → Chosen room (declared room store key list) Undeclared
   seek_end l = let d : 65 - i ≡ 0 = omega (arith, c.high) in record { is = sym (rw d at seeking.left); stands = tt }
 
-  module _ (l : i ≤ 64) (step : Key) (h : KeyGives room store w step) where
-    pub seek_none : step ≡ keys.End → Chosen room (declared room store key list) Undeclared
+  module _ (l : i ≤ 64) (step : Option (Step Keys)) (h : KeyGives room store w step) where
+    pub seek_none : step ≡ None → Chosen room (declared room store key list) Undeclared
     seek_none g =
         let s = walk_ended room store list.place list.end w seeking.over step h (65 - i) g in
         record { is = sym (rw s at seeking.left); stands = tt }
 
-    module _ (n : ℕ) (rest : Keys) (g : step ≡ keys.At n rest) (made : ℕ) (a : Among room made list) where
-      pub seek_stood : Stood room n
-      seek_stood = key_stands room store list.place list.end w seeking.over step h n rest g made a.rooms a.end
+    module _ (given : Step Keys) (g : step ≡ Some given) (made : ℕ) (a : Among room made list) where
+      pub seek_stood : Stood room given.value
+      seek_stood = key_stands room store list.place list.end w seeking.over step h given g made a.rooms a.end
 
-      pub seek_hit : (b : Bool) → b ≡ keyed room store key n → b ≡ true → Chosen room (declared room store key list) (At i n)
+      pub seek_hit : (b : Bool) → b ≡ keyed room store key given.value → b ≡ true → Chosen room (declared room store key list) (At i given.value)
       seek_hit b e t =
-          let q : keyed room store key n ≡ true = sym e ∙ t in
+          let q : keyed room store key given.value ≡ true = sym e ∙ t in
           let d : 65 - i ≡ suc (65 - (i + 1)) = omega arith in
-          let s = walk_given room store list.place list.end w seeking.over step h (65 - (i + 1)) n rest g in
+          let s = walk_given room store list.place list.end w seeking.over step h (65 - (i + 1)) given g in
           record { is = sym (rw (d, s, q) at seeking.left); stands = seek_stood }
 
 -- ---- a selection
@@ -99,25 +93,6 @@ module _ (room store : Seq ℕ) (made : ℕ) (name : Seq ℕ) where
       → r ≡ named room store made name n
   unfolding named component_at component_read head_read
   name_is n v t own from len b r e1 e2 e3 e4 e5 e6 e7 = rw (e7, e6, e4, e5, e3, e2, e1)
-
-  pub ask_on : (v w : Items) (step : Item) (n : ℕ) (rest : Items) (b : Bool) → Left (any_of (named room store made name)) room v w → Gives room w step
-      → step ≡ given.At n rest → b ≡ named room store made name n → b ≡ false → Left (any_of (named room store made name)) room v rest
-  ask_on v w step n rest b k h g e f =
-      let q : named room store made name n ≡ false = sym e ∙ f in
-      left_on (any_of (named room store made name)) room v w k step h n rest g (λ (ns : Seq ℕ). rw q)
-
-  module _ (l : List) (el : l ≡ component_list room store made) (v : Items) (ev : v ≡ items_from l.place 0 l.end) (w : Items)
-      (k : Left (any_of (named room store made name)) room v w) (step : Item) (h : Gives room w step) where
-    ask_all : (b : Bool) → any_of (named room store made name) (to_come room v) ≡ b → b ≡ taken room store made name
-    ask_all b e = sym e ∙ rw (ev, el)
-
-    pub ask_none : step ≡ given.End → false ≡ taken room store made name
-    ask_none g = ask_all false (left_none (any_of (named room store made name)) room v w k step h g)
-
-    pub ask_hit : (n : ℕ) (rest : Items) (b : Bool) → step ≡ given.At n rest → b ≡ named room store made name n → b ≡ true → true ≡ taken room store made name
-    ask_hit n rest b g e t =
-        let q : named room store made name n ≡ true = sym e ∙ t in
-        ask_all true (left_at (any_of (named room store made name)) room v w k step h n rest g ∙ rw q)
 
 -- ---- 80, 81
 

@@ -1,5 +1,5 @@
 -- A planned component, and all of them in composition order: one law for each way on and out.
-use Prim.Native.Nat.{ℕ, suc, ◌+◌, ◌-◌, ◌≤◌, ◌<◌}
+use Prim.Native.Nat.{ℕ, ◌+◌, ◌-◌, ◌≤◌, ◌<◌}
 use mathlib.Core.Bool.{Bool, true, false, not}
 use mathlib.Core.List.{List as Seq, [], ◌∷◌}
 use mathlib.Core.Path.{◌≡◌, refl, sym, ◌∙◌}
@@ -11,9 +11,8 @@ use lib.Dec.{eqb}
 use lib.ListN.{length}
 use Rattle.meaning.specs.Base.{pick, ascii, nil?}
 use Rattle.tree.specs.declared.Items.{Items}
-use Rattle.tree.specs.declared.Item.{Item}
-use Rattle.tree.specs.declared.Item.TheVariants as given
-use Rattle.tree.specs.Steps.{items_from, to_come, Gives, item_ended, item_given}
+use Rattle.std.specs.Prelude.{Option, Some, None}
+use Rattle.tree.specs.Steps.{to_come}
 use Rattle.tree.specs.declared.Value.{Value}
 use Rattle.tree.specs.Room.{Counts}
 use Rattle.tree.specs.Doors.{Rooms, Stood, value_at}
@@ -32,11 +31,8 @@ use Rattle.schema.specs.Texts.{clip, start_of, length_of, or_text, is_given}
 use Rattle.parse.specs.declared.field.TextRead.{TextRead}
 use Rattle.parse.specs.declared.front.TableRead.{TableRead}
 use Rattle.parse.specs.declared.entry.List.{List}
-use Rattle.parse.specs.declared.application.ApplicationRead.{ApplicationRead}
-use Rattle.parse.specs.declared.view.ComponentFound.{ComponentFound}
-use Rattle.parse.specs.declared.view.ComponentFound.TheVariants as founds
 use Rattle.parse.specs.Fields.{text_at}
-use Rattle.parse.specs.Entries.{entry_table, table_at, application_at}
+use Rattle.parse.specs.Entries.{entry_table, table_at}
 use Rattle.parse.specs.Views as views
 use Rattle.parse.proofs.Judging.{components_among}
 use Rattle.validate.specs.Entries.{kept}
@@ -47,8 +43,6 @@ use Rattle.plan.specs.declared.component.Build.{Build}
 use Rattle.plan.specs.declared.component.Source.{Source}
 use Rattle.plan.specs.declared.component.Source.TheVariants as sources
 use Rattle.plan.specs.declared.component.Planned.{Planned}
-use Rattle.plan.specs.declared.component.PlannedFound.{PlannedFound}
-use Rattle.plan.specs.declared.component.PlannedFound.TheVariants as results
 use Rattle.plan.specs.Choices.{Standing}
 use Rattle.plan.specs.Planned as plans
 use Rattle.plan.specs.PlannedSaid.{partition_read_lem}
@@ -69,16 +63,16 @@ module _ (h : Head) (fs : Features) (t : Bool) (e : t ≡ is_given h.«package»
   payload_file r y f = rw (← e, y, f)
 
 module _ (b : Boot) (fs : Features) (t : Bool) (e : t ≡ is_given b.pbp) where
-  pub pbp_file : t ≡ true → sources.File b.pbp ≡ pbp_payload b fs
+  pub pbp_file : t ≡ true → Some (sources.File b.pbp) ≡ pbp_payload b fs
   unfolding pbp_payload
   pbp_file y = rw (← e, y)
 
   module _ (y : t ≡ false) (u : Bool) (f : u ≡ is_given b.pbp_package) where
-    pub pbp_built : (r : Build) → u ≡ true → r ≡ built b.pbp_package texts.Absent fs → sources.Package r ≡ pbp_payload b fs
+    pub pbp_built : (r : Build) → u ≡ true → r ≡ built b.pbp_package texts.Absent fs → Some (sources.Package r) ≡ pbp_payload b fs
     unfolding pbp_payload
     pbp_built r z g = rw (← e, y, ← f, z, g)
 
-    pub pbp_none : u ≡ false → sources.Nothing ≡ pbp_payload b fs
+    pub pbp_none : u ≡ false → None ≡ pbp_payload b fs
     unfolding pbp_payload
     pbp_none z = rw (← e, y, ← f, z)
 
@@ -91,7 +85,7 @@ module _ (h : Head) (t : Bool) (e : t ≡ is_given h.«package») where
   unfolding head_left
   left_without y = rw (← e, y)
 
-pub planned_is : (c : Component) (h : Head) (b : Boot) (s p : Source)
+pub planned_is : (c : Component) (h : Head) (b : Boot) (s : Source) (p : Option Source)
     → h ≡ head_left c.head → b ≡ boot_left c.boot → s ≡ payload c.head c.role.features → p ≡ pbp_payload c.boot c.role.pbp_features
     → record { spec = record { head = h; role = c.role; boot = b; load = c.load }; source = s; pbp_source = p } ≡ planned c
 unfolding planned
@@ -150,73 +144,28 @@ pub record Counting (room store : Seq ℕ) (made : ℕ) (v : Items) (i : ℕ) (w
   pub among : w.end ≡ v.end
   pub left : before (placed room store made) (to_come room v) ≡ i + before (placed room store made) (to_come room w)
 
-pub count_start : (room store : Seq ℕ) (made : ℕ) (l : List) (v : Items) → Rooms room made → l ≡ views.component_list room store made → v ≡ items_from l.place 0 l.end
-    → Counting room store made v 0 v
-count_start room store made l v h e d =
-    rw d (record { low = omega arith; high = omega arith; within = (components_among room store made l h e).end; among = refl; left = omega arith })
-
-module _ (room store : Seq ℕ) (made : ℕ) (v : Items) (i : ℕ) (w : Items) (k : Counting room store made v i w) where
-  pub count_fits : Rooms room made → Fits w64 (i + 1)
-  count_fits r = record { fits = omega (arith, r.low, k.low, k.high) }
-
-  module _ (step : Item) (h : Gives room w step) where
-    pub count_on : (n : ℕ) (rest : Items) (p : Bool) → step ≡ given.At n rest → p ≡ placed room store made n → p ≡ false → Counting room store made v (i + 1) rest
-    count_on n rest p g f y =
-        let s = item_given room w step h n rest g in
-        let z : before (placed room store made) (to_come room v) ≡ i + suc (before (placed room store made) (to_come room rest)) = rw (s.come, ← f, y) at k.left in
-        record {
-          low = omega (arith, k.low, s.on);
-          high = omega (arith, s.within, k.among, k.within);
-          within = k.within;
-          among = s.end ∙ k.among;
-          left = omega (arith, z);
-        }
-
-    module _ (l : List) (e : l ≡ views.component_list room store made) (ev : v ≡ items_from l.place 0 l.end) where
-      count_left : ahead room store made ≡ i + before (placed room store made) (to_come room w)
-      count_left = let z : ahead room store made ≡ before (placed room store made) (to_come room v) = rw (ev, e) in z ∙ k.left
-
-      pub count_out : step ≡ given.End → i ≡ ahead room store made
-      count_out g = let z : ahead room store made ≡ i + 0 = rw (item_ended room w step h g) at count_left in omega (arith, z)
-
-      pub count_hit : (n : ℕ) (rest : Items) (p : Bool) → step ≡ given.At n rest → p ≡ placed room store made n → p ≡ true → i ≡ ahead room store made
-      count_hit n rest p g f y =
-          let z : ahead room store made ≡ i + 0 = rw ((item_given room w step h n rest g).come, ← f, y) at count_left in
-          omega (arith, z)
-
 -- ---- by number
 
-module _ (room store : Seq ℕ) (made i : ℕ) (found : ComponentFound) (e : found ≡ views.component room store made i 32) where
-  pub own_none : found ≡ founds.Nothing → results.Nothing ≡ own room store made i
-  own_none g = rw (← e, g)
-
-  pub own_some : (c : Component) (p : Planned) → found ≡ founds.At c → p ≡ planned c → results.At p ≡ own room store made i
-  own_some c p g f = rw (← e, g, f)
-
-pub selected_is : (room store : Seq ℕ) (made n : ℕ) (r : ApplicationRead) (c : Component) (p : Planned)
-    → r ≡ application_at room store made n 32 → c ≡ component_of r.application → p ≡ planned c → results.At p ≡ planned_application room store made n
-selected_is room store made n r c p e f g = rw (g, f, e)
-
-module _ (room store : Seq ℕ) (made n i at : ℕ) (r : PlannedFound) (e : at ≡ ahead room store made) where
+module _ (room store : Seq ℕ) (made n i at : ℕ) (r : Option Planned) (e : at ≡ ahead room store made) where
   pub composed_before : i < at → r ≡ own room store made i → r ≡ composed room store made n i
   unfolding composed
   composed_before h f = rw (← e, lt-ltb i at h) f
 
   module _ (h : at ≤ i) where
-    pub composed_here : i ≡ at → r ≡ planned_application room store made n → r ≡ composed room store made n i
+    pub composed_here : (p : Planned) → i ≡ at → p ≡ planned_application room store made n → Some p ≡ composed room store made n i
     unfolding composed
-    composed_here k f = rw (← e, le-ltb i at h, eq-eqb i at k) f
+    composed_here p k f = rw (← e, le-ltb i at h, eq-eqb i at k, f)
 
     pub composed_after : (i ≡ at → ⊥) → r ≡ own room store made (i - 1) → r ≡ composed room store made n i
     unfolding composed
     composed_after k f = rw (← e, le-ltb i at h, ne_eqb i at k) f
 
 module _ (room store : Seq ℕ) (made : ℕ) (c : Choice) (i : ℕ) where
-  pub chain_is : (r : PlannedFound) → c ≡ choices.BootChain → r ≡ own room store made i → r ≡ component room store made c i
+  pub chain_is : (r : Option Planned) → c ≡ choices.BootChain → r ≡ own room store made i → r ≡ component room store made c i
   chain_is r e f = rw e f
 
   module _ (place n : ℕ) (e : c ≡ choices.At place n) where
-    pub chosen_is : (r : PlannedFound) → r ≡ composed room store made n i → r ≡ component room store made c i
+    pub chosen_is : (r : Option Planned) → r ≡ composed room store made n i → r ≡ component room store made c i
     chosen_is r f = rw e f
 
 pub chosen_stood : (room : Seq ℕ) (c : Choice) (place n : ℕ) → c ≡ choices.At place n → Standing room c → Stood room n

@@ -7,8 +7,7 @@ use borrow.Author.Tests.{eq-eqb, ne_eqb}
 use lib.Dec.{eqb}
 use lib.ListN.{length}
 use Rattle.laws.specs.Cases.{on}
-use Rattle.tree.specs.declared.Found.{Found}
-use Rattle.tree.specs.declared.Found.TheVariants as founds
+use Rattle.std.specs.Prelude.{Option, Some, None}
 use Rattle.tree.specs.Room.{slot_at}
 use Rattle.tree.specs.Order.{next}
 use Rattle.parse.specs.declared.Refusal.{Refusal}
@@ -32,12 +31,12 @@ Low most Undeclared = Unit {0}
 Low most (At place n) = place < most
 
 module _ (room store : Seq ℕ) where
-  onward_few : (k : ℕ) (f : Found) (rest : Found → Seq ℕ) → ((g : Found) → length (rest g) ≤ k) → length (onward room store f rest) ≤ suc k
-  onward_few k founds.Nothing rest h = omega arith
-  onward_few k (founds.At n) rest h = omega (arith, h (founds.At n))
+  onward_few : (k : ℕ) (f : Option ℕ) (rest : Option ℕ → Seq ℕ) → ((g : Option ℕ) → length (rest g) ≤ k) → length (onward room store f rest) ≤ suc k
+  onward_few k None rest h = omega arith
+  onward_few k (Some n) rest h = omega (arith, h (Some n))
 
   -- a walk meets no more than it may
-  walk_few : (end place k : ℕ) (after : Found) → length (walk room store end place k after) ≤ k
+  walk_few : (end place k : ℕ) (after : Option ℕ) → length (walk room store end place k after) ≤ k
   walk_few end place zero after = omega arith
   walk_few end place (suc k) after = onward_few k (next (slot_at room) store end place after) (walk room store end place k) (walk_few end place k)
 
@@ -48,7 +47,7 @@ module _ (room store : Seq ℕ) where
         on (keyed room store key n) (λ e. rw e (omega arith)) (λ e. rw e (declared_low most (i + 1) ns (omega arith)))
 
     list_low : (l : List) → Low 65 (declared room store key l)
-    list_low l = declared_low 65 0 (walk room store l.end l.place 65 founds.Nothing) (omega (arith, walk_few l.end l.place 65 founds.Nothing))
+    list_low l = declared_low 65 0 (walk room store l.end l.place 65 None) (omega (arith, walk_few l.end l.place 65 None))
 
     choice_low : (made app : ℕ) → Low 65 (choice room store made app key)
     choice_low made app = on (eqb app 0) (λ e. rw e tt) (λ e. rw e (list_low (application_list room store made)))

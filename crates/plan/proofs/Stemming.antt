@@ -11,41 +11,36 @@ use lib.Seq.{take-length, take-suc, length-take-le}
 use Rattle.meaning.specs.Base.{pick}
 use Rattle.meaning.specs.Files.{last_dot}
 use Rattle.tree.specs.declared.Span.{Span}
-use Rattle.tree.specs.declared.Items.{Items}
-use Rattle.tree.specs.declared.Item.{Item}
-use Rattle.tree.specs.declared.Item.TheVariants as given
-use Rattle.tree.specs.Steps.{items_from, to_come, Gives, KeyIs}
+use Rattle.std.specs.Prelude.{Option, Some, None}
+use Rattle.tree.specs.Steps.{KeyIs}
 use Rattle.tree.specs.declared.Value.{Value}
 use Rattle.tree.specs.declared.Fields.{Fields}
-use Rattle.tree.specs.declared.Found.{Found}
-use Rattle.tree.specs.declared.Found.TheVariants as founds
 use Rattle.tree.specs.Room.{Finds}
 use Rattle.tree.specs.Doors.{Rooms, Stood, value_at, fields_of}
 use Rattle.tree.specs.Laws.{found_below}
 use Rattle.laws.specs.Variants as variants
-use Rattle.schema.specs.contracts.Kind.{enum}
+use denote.Enum.Bare.{sameb}
+use Rattle.schema.specs.contracts.Kind.{the_type}
 use Rattle.schema.specs.contracts.Text as text
 use Rattle.schema.specs.declared.Kind.{Kind}
-use Rattle.schema.specs.declared.KindRead.{KindRead}
+use Rattle.schema.specs.declared.Kind.TheVariants as kinds
+use Rattle.parse.specs.declared.field.KindRead.{KindRead}
 use Rattle.schema.specs.declared.Text.{Text}
 use Rattle.schema.specs.declared.Text.TheVariants as texts
 use Rattle.schema.specs.Texts.{clip, or_text, is_given}
 use Rattle.parse.specs.declared.front.TableRead.{TableRead}
 use Rattle.parse.specs.declared.front.Front.{Front}
-use Rattle.parse.specs.declared.entry.List.{List}
 use Rattle.parse.specs.declared.component.Sources.{Sources}
 use Rattle.parse.specs.Fields.{kind_at}
 use Rattle.parse.specs.Component.{name_in, sources, component_read, head_read}
 use Rattle.parse.specs.Entries.{entry_table, component_at}
 use Rattle.parse.specs.Front.{front_read}
 use Rattle.parse.specs.Refused.{lent_text}
-use Rattle.parse.specs.Views.{component_list}
 use Rattle.plan.specs.declared.choice.Choice.{Choice}
 use Rattle.plan.specs.declared.choice.Choice.TheVariants as choices
 use Rattle.plan.specs.Choices.{Standing}
 use Rattle.plan.specs.Planned.{placed}
-use Rattle.plan.specs.Stems.{Dotted, stopped, shortened, stem_of, own_stem, is_app, first_with, key_of, leads, leader, leading, boot_stem, stem}
-use Rattle.plan.proofs.Walking.{Left, left_none, left_at, left_on, component_below}
+use Rattle.plan.specs.Stems.{Dotted, stopped, shortened, stem_of, own_stem, is_app, key_of, leads, leader, leading, boot_stem, stem}
 
 -- ---- the last dot
 
@@ -109,9 +104,10 @@ or_given (texts.WithAic from len) d = refl
 
 -- ---- the first `app` component with a partition
 
--- the kinds but number 0
-pub app_not : (k : Kind) → variants.Left enum (1 ∷ 2 ∷ []) k → false ≡ is_app k
-app_not = variants.others enum (λ k. false ≡ is_app k) (1 ∷ 2 ∷ []) (λ _. refl) (λ _. refl)
+app_same : (k : Kind) → sameb the_type k kinds.App ≡ is_app k
+app_same kinds.App = refl
+app_same kinds.Pbp = refl
+app_same kinds.Raw = refl
 
 module _ (room store : Seq ℕ) (made : ℕ) where
   module _ (n : ℕ) (b : Bool) (e : b ≡ placed room store made n) where
@@ -120,38 +116,15 @@ module _ (room store : Seq ℕ) (made : ℕ) where
     lead_not f = rw (← e, f)
 
     pub lead_is : b ≡ true → (v : Value) (t : TableRead) (k : KindRead) (r : Bool) → v ≡ value_at room store n → t ≡ entry_table room made v → k ≡ kind_at room store t.fields
-        → r ≡ is_app k.kind → r ≡ leads room store made n
+        → r ≡ sameb the_type k.kind kinds.App → r ≡ leads room store made n
     unfolding leads component_at component_read head_read
-    lead_is f v t k r e1 e2 e3 e4 = rw (← e, f, e4, e3, e2, e1)
+    lead_is f v t k r e1 e2 e3 e4 = e4 ∙ app_same k.kind ∙ rw (← e, f, e3, e2, e1)
 
-  pub lead_on : (v w : Items) (step : Item) (n : ℕ) (rest : Items) (b : Bool) → Left (first_with (leads room store made)) room v w → Gives room w step
-      → step ≡ given.At n rest → b ≡ leads room store made n → b ≡ false → Left (first_with (leads room store made)) room v rest
-  lead_on v w step n rest b k h g e f =
-      let q : leads room store made n ≡ false = sym e ∙ f in
-      left_on (first_with (leads room store made)) room v w k step h n rest g (λ (ns : Seq ℕ). rw q)
-
-  module _ (l : List) (el : l ≡ component_list room store made) (v : Items) (ev : v ≡ items_from l.place 0 l.end) (w : Items)
-      (k : Left (first_with (leads room store made)) room v w) (step : Item) (h : Gives room w step) where
-    lead_all : (r : Found) → first_with (leads room store made) (to_come room v) ≡ r → r ≡ leader room store made
-    lead_all r e = sym e ∙ rw (ev, el)
-
-    pub lead_none : step ≡ given.End → Finds 0 made (leader room store made) founds.Nothing
-    lead_none g = record { is = lead_all founds.Nothing (left_none (first_with (leads room store made)) room v w k step h g); from = tt; below = tt }
-
-    pub lead_hit : (n : ℕ) (rest : Items) (b : Bool) → Rooms room made → step ≡ given.At n rest → b ≡ leads room store made n → b ≡ true → Finds 0 made (leader room store made) (founds.At n)
-    lead_hit n rest b r g e t =
-        let q : leads room store made n ≡ true = sym e ∙ t in
-        record {
-          is = lead_all (founds.At n) (left_at (first_with (leads room store made)) room v w k step h n rest g ∙ rw q);
-          from = omega arith;
-          below = component_below room store made l el r v ev w k.among step h n rest g;
-        }
-
-  module _ (found : Found) (h : Finds 0 made (leader room store made) found) where
-    pub leading_none : found ≡ founds.Nothing → texts.Absent ≡ leading room store made
+  module _ (found : Option ℕ) (h : Finds 0 made (leader room store made) found) where
+    pub leading_none : found ≡ None → texts.Absent ≡ leading room store made
     leading_none g = rw (← h.is, g)
 
-    module _ (n : ℕ) (g : found ≡ founds.At n) where
+    module _ (n : ℕ) (g : found ≡ Some n) where
       pub leader_stood : Rooms room made → Stood room n
       leader_stood r =
           let b : n < made = found_below found made n h.below g in

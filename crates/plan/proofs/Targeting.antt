@@ -1,16 +1,16 @@
 -- The partition that a reference finds: one law for each way out.
-use Prim.Native.Nat.{ℕ, zero, suc, ◌+◌, ◌-◌, ◌*◌, ◌≤◌, ◌<◌}
+use Prim.Native.Nat.{ℕ, zero, suc, ◌+◌, ◌-◌, ◌≤◌}
 use mathlib.Core.Bool.{true}
 use mathlib.Core.List.{List as Seq, [], ◌∷◌, map}
-use mathlib.Core.Path.{◌≡◌, refl, ap, ◌∙◌}
+use mathlib.Core.Path.{◌≡◌, refl, sym, ap, ◌∙◌}
 use native.Mathlib.Omega.{arith}
-use native.Mathlib.Nat.{le_of_suc-le-suc, not-suc-le-zero}
-use mir.Syntax.{w64}
-use mir.Val.{Fits}
 use borrow.Author.Tests.{lt-ltb, le-ltb, eqb-false}
 use lib.Dec.{eqb, ltb}
 use lib.ListN.{length, take, get_or, replicate}
-use lib.Seq.{get_or-take, take-append_seam}
+use lib.Seq.{take-append_seam}
+use Rattle.std.proofs.Common.{Option, None, Some}
+use Rattle.std.specs.List.{slice_get}
+use Rattle.std.proofs.lemmas.Option.{slice_get_within, get_or_from_slice_get}
 use Rattle.meaning.specs.Refusal.{Answer, accepted, refused, accepted_then, number_of}
 use Rattle.meaning.specs.Fields.{each, listed}
 use Rattle.laws.specs.Cases.{on}
@@ -20,7 +20,7 @@ use Rattle.schema.specs.declared.Partition.{Partition}
 use Rattle.parse.specs.declared.Refusal.{Refusal}
 use Rattle.parse.specs.declared.entry.List.{List}
 use Rattle.parse.specs.declared.entry.Partitions.{Partitions}
-use Rattle.parse.specs.declared.view.PartitionFound.TheVariants as results
+use Rattle.std.specs.Prelude.{Some, None}
 use Rattle.parse.specs.Entries.{blank, partitions, partition_at, partition_r, Partitioned}
 use Rattle.parse.specs.Views.{partition_list}
 use Rattle.layout.specs.Parts.{part_name, aim}
@@ -68,14 +68,14 @@ module _ (p : Partitions) where
   none_by (accepted ps) q z = absurd (z (ap (λ (r : Refusal). r.number) q.0))
   none_by (refused f s n) q z = refl
 
--- an item that is there is the same whatever stands for one that is not
-any_other : {X : Type 0} (xs : Seq X) (i : ℕ) (d e : X) → i < length xs → get_or xs i d ≡ get_or xs i e
-any_other [] i d e h = absurd (not-suc-le-zero h)
-any_other (x ∷ xs) zero d e h = refl
-any_other (x ∷ xs) (suc i) d e h = any_other xs i d e (le_of_suc-le-suc h)
+-- where there is no item, as many stand before the place
+past : (ps : Seq Partition) (at : ℕ) → slice_get ps at ≡ None → length ps ≤ at
+past [] at e = omega arith
+past (p ∷ ps) zero e = cc
+past (p ∷ ps) (suc at) e = omega (arith, past ps at e)
 
 module _ (room store : Seq ℕ) (made : ℕ) (t : Text) (l : List) (e : l ≡ partition_list room store made) (p : Partitions) (q : Partitioned (partitions room store made l 32) p) where
-  pub target_none : (p.fault.number ≡ 0 → ⊥) → results.Nothing ≡ partition room store made t
+  pub target_none : (p.fault.number ≡ 0 → ⊥) → None ≡ partition room store made t
   unfolding found
   target_none z =
       let n : given (partitions room store made (partition_list room store made) 32) ≡ [] = none_by p (partitions room store made (partition_list room store made) 32) (rw e at q) z in
@@ -88,20 +88,23 @@ module _ (room store : Seq ℕ) (made : ℕ) (t : Text) (l : List) (e : l ≡ pa
     pub target_fits : p.count ≤ 32
     target_fits = taken.fits
 
-    module _ (at : ℕ) (f : at ≡ aim true store (map (part_name store) (take p.count p.items)) t) where
-      pub target_low : at < p.count → at < 32
-      target_low h = omega (arith, taken.fits)
+    module _ (r : Option Partition) (f : r ≡ slice_get (take p.count p.items) (aim true store (map (part_name store) (take p.count p.items)) t)) where
+      place : ℕ
+      place = aim true store (map (part_name store) (take p.count p.items)) t
 
-      pub target_scaled : at < p.count → Fits w64 (at * 32)
-      target_scaled h = record { fits = omega (arith, taken.fits) }
+      pub target_found : (x : Partition) → r ≡ Some x → Some x ≡ partition room store made t
+      unfolding found place
+      target_found x h =
+          let g : slice_get (take p.count p.items) place ≡ Some x = sym f ∙ h in
+          let d : get_or (take p.count p.items) place none ≡ x = get_or_from_slice_get (take p.count p.items) place x none g in
+          rw (← taken.are, lt-ltb place (length (take p.count p.items)) (slice_get_within (take p.count p.items) place x g), d)
 
-      pub target_found : (d : Partition) → at < p.count → results.At (get_or p.items at d) ≡ partition room store made t
-      unfolding found
-      target_found d h =
-          let g : get_or (take p.count p.items) at none ≡ get_or p.items at d
-          = any_other (take p.count p.items) at none d (omega (arith, taken.long, ap length taken.are)) ∙ get_or-take p.count p.items at d h in
-          rw (← taken.are, ← f, taken.are, ← taken.long, lt-ltb at p.count h, ← taken.are, g)
+      pub target_not : r ≡ None → None ≡ partition room store made t
+      unfolding found place
+      target_not h =
+          let g : slice_get (take p.count p.items) place ≡ None = sym f ∙ h in
+          rw (← taken.are, le-ltb place (length (take p.count p.items)) (past (take p.count p.items) place g))
 
-      pub target_not : p.count ≤ at → results.Nothing ≡ partition room store made t
-      unfolding found
-      target_not h = rw (← taken.are, ← f, taken.are, ← taken.long, le-ltb at p.count h)
+      pub target_is : (q : Option Partition) → r ≡ q → q ≡ partition room store made t
+      target_is None h = target_not h
+      target_is (Some x) h = target_found x h

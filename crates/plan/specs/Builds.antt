@@ -1,5 +1,5 @@
 -- Level 2 of builds: the uses of packages in their order, and the first of each package.
-use Rattle.std.specs.Prelude.{ℕ, ◌+◌, ◌≤◌, Bool, true, false, List as Seq, [], ◌∷◌, ◌++◌, map, ◌≡◌, ltb, length, take, get_or}
+use Rattle.std.specs.Prelude.{ℕ, ◌+◌, ◌≤◌, Bool, true, false, List as Seq, [], ◌∷◌, ◌++◌, map, ◌≡◌, ltb, length, take, get_or, Option, Some, None}
 use Rattle.meaning.specs.Base.{pick}
 use Rattle.meaning.specs.Rules.{twice}
 use Rattle.tree.specs.Doors.{Rooms, items}
@@ -19,8 +19,6 @@ use Rattle.plan.specs.declared.component.Build.{Build}
 use Rattle.plan.specs.declared.builds.BuildList.{BuildList}
 use Rattle.plan.specs.declared.builds.Use.{Use}
 use Rattle.plan.specs.declared.builds.Wanted.{Wanted}
-use Rattle.plan.specs.declared.builds.BuildFound.{BuildFound}
-use Rattle.plan.specs.declared.builds.BuildFound.TheVariants as results
 use Rattle.plan.specs.Planned.{built}
 
 abbrev pub blank : Build
@@ -121,5 +119,5 @@ module _ (room store : Seq ℕ) (made : ℕ) where
   unfoldable pub builds_of : Choice → Seq Build
   builds_of c = first_uses store [] (uses c)
 
-  unfoldable pub build : Choice → ℕ → BuildFound
-  build c i = pick (ltb i (length (builds_of c))) (results.At (get_or (builds_of c) i blank)) results.Nothing
+  unfoldable pub build : Choice → ℕ → Option Build
+  build c i = pick (ltb i (length (builds_of c))) (Some (get_or (builds_of c) i blank)) None

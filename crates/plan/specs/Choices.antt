@@ -1,7 +1,6 @@
 -- Level 2 of a selection: the application of a key, 80 and 81.
-use Rattle.std.specs.Prelude.{ℕ, ◌+◌, Bool, List as Seq, [], ◌∷◌, ◌≡◌, eqb}
+use Rattle.std.specs.Prelude.{ℕ, ◌+◌, Bool, List as Seq, [], ◌∷◌, ◌≡◌, eqb, None}
 use Rattle.meaning.specs.Base.{pick, same}
-use Rattle.tree.specs.declared.Found.TheVariants.{Nothing}
 use Rattle.tree.specs.Room.{slot_at}
 use Rattle.tree.specs.Doors.{Stood}
 use Rattle.schema.specs.Texts.{clip}
@@ -36,7 +35,7 @@ module _ (room store : Seq ℕ) where
   declared_in key i (n ∷ ns) = pick (keyed key n) (At i n) (declared_in key (i + 1) ns)
 
   abbrev pub declared : Seq ℕ → List → Choice
-  declared key l = declared_in key 0 (walk room store l.end l.place 65 Nothing)
+  declared key l = declared_in key 0 (walk room store l.end l.place 65 None)
 
   module _ (made : ℕ) where
     abbrev pub choice : ℕ → Seq ℕ → Choice

@@ -1,12 +1,10 @@
 -- Level 2 of planned components: a component's record and sources, and all of them in composition order.
-use Rattle.std.specs.Prelude.{ℕ, suc, ◌+◌, ◌-◌, Bool, true, false, List as Seq, [], ◌∷◌, eqb, ltb, length}
+use Rattle.std.specs.Prelude.{ℕ, suc, ◌+◌, ◌-◌, Bool, true, false, List as Seq, [], ◌∷◌, eqb, ltb, length, Option, Some, None, option_map}
 use Rattle.meaning.specs.Base.{pick, nil?}
 use Rattle.schema.specs.declared.Text.{Text}
 use Rattle.schema.specs.declared.Text.TheVariants as texts
 use Rattle.schema.specs.declared.Features.{Features}
 use Rattle.schema.specs.declared.Features.TheVariants as lists
-use Rattle.schema.specs.declared.Number.{Number}
-use Rattle.schema.specs.declared.Number.TheVariants as numbers
 use Rattle.schema.specs.declared.Kind.TheVariants as kinds
 use Rattle.schema.specs.declared.Head.{Head}
 use Rattle.schema.specs.declared.Boot.{Boot}
@@ -14,8 +12,6 @@ use Rattle.schema.specs.declared.Load.{Load}
 use Rattle.schema.specs.declared.Component.{Component}
 use Rattle.schema.specs.declared.Application.{Application}
 use Rattle.schema.specs.Texts.{or_text, is_given}
-use Rattle.parse.specs.declared.view.ComponentFound.{ComponentFound}
-use Rattle.parse.specs.declared.view.ComponentFound.TheVariants as founds
 use Rattle.parse.specs.Entries.{component_at, application_at}
 use Rattle.parse.specs.Views as views
 use Rattle.validate.specs.Entries.{kept}
@@ -26,8 +22,6 @@ use Rattle.plan.specs.declared.component.Build.{Build}
 use Rattle.plan.specs.declared.component.Source.{Source}
 use Rattle.plan.specs.declared.component.Source.TheVariants as sources
 use Rattle.plan.specs.declared.component.Planned.{Planned}
-use Rattle.plan.specs.declared.component.PlannedFound.{PlannedFound}
-use Rattle.plan.specs.declared.component.PlannedFound.TheVariants as results
 
 -- ---- a component
 
@@ -38,9 +32,9 @@ unfoldable pub payload : Head → Features → Source
 payload h fs =
     pick (is_given h.«package») (sources.Package (built h.«package» h.bin fs)) (sources.File (or_text h.file (texts.Stored 0 0)))
 
-unfoldable pub pbp_payload : Boot → Features → Source
+unfoldable pub pbp_payload : Boot → Features → Option Source
 pbp_payload b fs =
-    pick (is_given b.pbp) (sources.File b.pbp) (pick (is_given b.pbp_package) (sources.Package (built b.pbp_package texts.Absent fs)) sources.Nothing)
+    pick (is_given b.pbp) (Some (sources.File b.pbp)) (pick (is_given b.pbp_package) (Some (sources.Package (built b.pbp_package texts.Absent fs))) None)
 
 unfoldable pub head_left : Head → Head
 head_left h =
@@ -67,15 +61,15 @@ planned c =
 -- ---- the application
 
 abbrev pub no_boot : Boot
-no_boot = record { updater = false; ram = numbers.Absent; pbp = texts.Absent; pbp_package = texts.Absent; private = texts.Absent }
+no_boot = record { updater = false; ram = None; pbp = texts.Absent; pbp_package = texts.Absent; private = texts.Absent }
 
-abbrev pub loads : Number → Number → Load
+abbrev pub loads : Option ℕ → Option ℕ → Load
 loads address offset =
     record {
       load_address = address;
-      entry_point = numbers.Absent;
+      entry_point = None;
       entry_offset = offset;
-      header_version = numbers.Absent;
+      header_version = None;
       with_ext = false;
       ext_reserve = 0;
     }
@@ -103,9 +97,8 @@ abbrev pub before : (ℕ → Bool) → Seq ℕ → ℕ
 before p [] = 0
 before p (n ∷ ns) = pick (p n) 0 (suc (before p ns))
 
-abbrev pub planned_found : ComponentFound → PlannedFound
-planned_found founds.Nothing = results.Nothing
-planned_found (founds.At c) = results.At (planned c)
+abbrev pub planned_found : Option Component → Option Planned
+planned_found found = option_map planned found
 
 module _ (room store : Seq ℕ) (made : ℕ) where
   -- the component that value number n is has a partition
@@ -115,22 +108,22 @@ module _ (room store : Seq ℕ) (made : ℕ) where
   abbrev pub ahead : ℕ
   ahead = before placed (components room store made)
 
-  abbrev pub own : ℕ → PlannedFound
+  abbrev pub own : ℕ → Option Planned
   own i = planned_found (views.component room store made i 32)
 
-  abbrev pub planned_application : ℕ → PlannedFound
-  planned_application n = results.At (planned (component_of (application_at room store made n 32).application))
+  abbrev pub planned_application : ℕ → Planned
+  planned_application n = planned (component_of (application_at room store made n 32).application)
 
   -- the application stands directly before the first component with a partition
-  unfoldable pub composed : ℕ → ℕ → PlannedFound
-  composed n i = pick (ltb i ahead) (own i) (pick (eqb i ahead) (planned_application n) (own (i - 1)))
+  unfoldable pub composed : ℕ → ℕ → Option Planned
+  composed n i = pick (ltb i ahead) (own i) (pick (eqb i ahead) (Some (planned_application n)) (own (i - 1)))
 
   abbrev pub count : Choice → ℕ
   count choices.BootChain = length (components room store made)
   count choices.Undeclared = 0
   count (choices.At place n) = length (components room store made) + 1
 
-  abbrev pub component : Choice → ℕ → PlannedFound
+  abbrev pub component : Choice → ℕ → Option Planned
   component choices.BootChain i = own i
-  component choices.Undeclared i = results.Nothing
+  component choices.Undeclared i = None
   component (choices.At place n) i = composed n i

@@ -1,12 +1,12 @@
 -- Planned components say what 01 says of what they mean: each of them, the application as one, and all in composition order.
 use Prim.Native.Nat.{ℕ, zero, suc, ◌-◌, ◌≤◌, ◌<◌}
-use Rattle.std.specs.Prelude.{true, false, ◌≡◌, eqb, ltb, length}
+use Rattle.std.specs.Prelude.{true, false, ◌≡◌, eqb, ltb, length, Option as Maybe, Some, None}
 use mathlib.Core.List.{List as Seq, [], ◌∷◌, map}
 use Rattle.std.proofs.Math.Option.{Option, none, some}
 use Rattle.std.proofs.Math.Path.{refl, sym}
 use Rattle.std.proofs.Common.{ap, ◌∙◌, arith}
 use borrow.Author.Tests.{ltb-true, ltb-false, eqb-true, eqb-false}
-use Rattle.meaning.specs.Base.{pick, nil?, ascii, or_default}
+use Rattle.meaning.specs.Base.{pick, nil?, ascii}
 use Rattle.meaning.specs.Schema as schemas
 use Rattle.meaning.specs.Plan as meant
 use Rattle.laws.specs.Cases.{on}
@@ -38,8 +38,6 @@ use Rattle.plan.specs.declared.component.Build.{Build}
 use Rattle.plan.specs.declared.component.Source.{Source}
 use Rattle.plan.specs.declared.component.Source.TheVariants as sources
 use Rattle.plan.specs.declared.component.Planned.{Planned}
-use Rattle.plan.specs.declared.component.PlannedFound.{PlannedFound}
-use Rattle.plan.specs.declared.component.PlannedFound.TheVariants as results
 use Rattle.plan.specs.Planned.{built, payload, pbp_payload, head_left, planned, component_of, before, planned_found, placed, ahead, own, composed, component}
 use Rattle.plan.specs.Planned as plans
 use Rattle.plan.specs.ChoiceSaid.{selected, Met}
@@ -59,23 +57,25 @@ module _ (room store : Seq ℕ) (made : ℕ) (name : Seq ℕ) where
   abbrev pub build_meant : Build → meant.Build
   build_meant b = record { pack = spelled store name b.«package»; bin = spelled store name b.bin; features = feature_list room store made b.features }
 
-  abbrev pub source_meant : Source → Option meant.Source
-  source_meant sources.Nothing = none
-  source_meant (sources.Package b) = some (meant.from_package (build_meant b))
-  source_meant (sources.File t) = some (meant.from_file (spelled store name t))
+  abbrev pub source_meant : Source → meant.Source
+  source_meant (sources.Package b) = meant.from_package (build_meant b)
+  source_meant (sources.File t) = meant.from_file (spelled store name t)
 
-  -- the source of a planned component is isGiven: `planned_sourced`
+  abbrev pub source_if : Maybe Source → Option meant.Source
+  source_if None = none
+  source_if (Some s) = some (source_meant s)
+
   abbrev pub planned_meant : Planned → meant.PlannedComponent
   planned_meant p =
       record {
         spec = component_meant room store made name p.spec;
-        source = or_default (source_meant p.source) (meant.from_file []);
-        pbp_source = source_meant p.pbp_source;
+        source = source_meant p.source;
+        pbp_source = source_if p.pbp_source;
       }
 
-  abbrev pub found_meant : PlannedFound → Option meant.PlannedComponent
-  found_meant results.Nothing = none
-  found_meant (results.At p) = some (planned_meant p)
+  abbrev pub found_meant : Maybe Planned → Option meant.PlannedComponent
+  found_meant None = none
+  found_meant (Some p) = some (planned_meant p)
 
   -- ---- a component
 
@@ -85,16 +85,16 @@ module _ (room store : Seq ℕ) (made : ℕ) (name : Seq ℕ) where
 
   payload_by : (p bin file : Text) (fs : Features)
       → source_meant (pick (is_given p) (sources.Package (built p bin fs)) (sources.File (or_text file (texts.Stored 0 0))))
-      ≡ some (meant.payload (optional store name p) (optional store name bin) (feature_list room store made fs) (optional store name file))
+      ≡ meant.payload (optional store name p) (optional store name bin) (feature_list room store made fs) (optional store name file)
   payload_by texts.Absent bin file fs = rw (else_spelled store name file (texts.Stored 0 0), clip_none store)
-  payload_by (texts.Stored from len) bin file fs = ap (λ (b : meant.Build). some (meant.from_package b)) (built_means (texts.Stored from len) bin fs (clip from len store) refl)
-  payload_by texts.Lent bin file fs = ap (λ (b : meant.Build). some (meant.from_package b)) (built_means texts.Lent bin fs name refl)
-  payload_by (texts.Fixed w) bin file fs = ap (λ (b : meant.Build). some (meant.from_package b)) (built_means (texts.Fixed w) bin fs (spelled store name (texts.Fixed w)) refl)
+  payload_by (texts.Stored from len) bin file fs = ap meant.from_package (built_means (texts.Stored from len) bin fs (clip from len store) refl)
+  payload_by texts.Lent bin file fs = ap meant.from_package (built_means texts.Lent bin fs name refl)
+  payload_by (texts.Fixed w) bin file fs = ap meant.from_package (built_means (texts.Fixed w) bin fs (spelled store name (texts.Fixed w)) refl)
   payload_by (texts.WithAic from len) bin file fs =
-      ap (λ (b : meant.Build). some (meant.from_package b)) (built_means (texts.WithAic from len) bin fs (spelled store name (texts.WithAic from len)) refl)
+      ap meant.from_package (built_means (texts.WithAic from len) bin fs (spelled store name (texts.WithAic from len)) refl)
 
   pbp_package_lem : (p : Text) (fs : Features)
-      → source_meant (pick (is_given p) (sources.Package (built p texts.Absent fs)) sources.Nothing) ≡ meant.pbp_payload none (optional store name p) (feature_list room store made fs)
+      → source_if (pick (is_given p) (Some (sources.Package (built p texts.Absent fs))) None) ≡ meant.pbp_payload none (optional store name p) (feature_list room store made fs)
   pbp_package_lem texts.Absent fs = refl
   pbp_package_lem (texts.Stored from len) fs = refl
   pbp_package_lem texts.Lent fs = refl
@@ -102,7 +102,7 @@ module _ (room store : Seq ℕ) (made : ℕ) (name : Seq ℕ) where
   pbp_package_lem (texts.WithAic from len) fs = refl
 
   pbp_by : (f p : Text) (fs : Features)
-      → source_meant (pick (is_given f) (sources.File f) (pick (is_given p) (sources.Package (built p texts.Absent fs)) sources.Nothing))
+      → source_if (pick (is_given f) (Some (sources.File f)) (pick (is_given p) (Some (sources.Package (built p texts.Absent fs))) None))
       ≡ meant.pbp_payload (optional store name f) (optional store name p) (feature_list room store made fs)
   pbp_by texts.Absent p fs = pbp_package_lem p fs
   pbp_by (texts.Stored from len) p fs = refl
@@ -121,12 +121,6 @@ module _ (room store : Seq ℕ) (made : ℕ) (name : Seq ℕ) where
   unfolding head_left
   head_means h = rw (file_by h.«package» h.file)
 
-  source_means : (c : Component)
-      → source_meant (planned c).source
-      ≡ some (meant.payload (optional store name c.head.«package») (optional store name c.head.bin) (feature_list room store made c.role.features) (optional store name c.head.file))
-  unfolding planned payload
-  source_means c = payload_by c.head.«package» c.head.bin c.head.file c.role.features
-
   -- a planned component is 01's
   pub planned_means : (c : Component) → planned_meant (planned c) ≡ meant.planned (component_meant room store made name c)
   unfolding planned payload pbp_payload meant.planned
@@ -137,9 +131,9 @@ module _ (room store : Seq ℕ) (made : ℕ) (name : Seq ℕ) where
         pbp_by c.boot.pbp c.boot.pbp_package c.role.pbp_features,
       )
 
-  -- its source is isGiven
-  pub planned_sourced : (c : Component) → source_meant (planned c).source ≡ some (planned_meant (planned c)).source
-  planned_sourced c = rw (source_means c)
+  -- a payload always has a source
+  pub planned_sourced : (c : Component) → source_meant (planned c).source ≡ (planned_meant (planned c)).source
+  planned_sourced c = refl
 
   -- ---- the application
 
@@ -155,7 +149,7 @@ unfolding application_at application_read
 package_stored room store made n limit = refl
 
 pub selected_means : (room store : Seq ℕ) (made : ℕ) (name : Seq ℕ) (n : ℕ)
-    → found_meant room store made name (plans.planned_application room store made n) ≡ some (meant.planned (meant.component_of (whole.application_of room store made name 32 n)))
+    → found_meant room store made name (Some (plans.planned_application room store made n)) ≡ some (meant.planned (meant.component_of (whole.application_of room store made name 32 n)))
 selected_means room store made name n =
     let a = (application_at room store made n 32).application in
     ap (λ (p : meant.PlannedComponent). some p)
@@ -264,13 +258,13 @@ entry_none (x ∷ xs) zero h = absurd (omega arith)
 entry_none (x ∷ xs) (suc i) h = entry_none xs i (omega arith)
 
 module _ (room store : Seq ℕ) (made : ℕ) (name : Seq ℕ) where
-  found_there : (f : PlannedFound) (p : meant.PlannedComponent) → found_meant room store made name f ≡ some p → (q : Planned) × (f ≡ results.At q) × (planned_meant room store made name q ≡ p)
-  found_there results.Nothing p e = let z : ◌≡◌ {A = ℕ} 0 1 = cc in absurd (omega arith)
-  found_there (results.At q) p e = (q, refl, cc)
+  found_there : (f : Maybe Planned) (p : meant.PlannedComponent) → found_meant room store made name f ≡ some p → (q : Planned) × (f ≡ Some q) × (planned_meant room store made name q ≡ p)
+  found_there None p e = let z : ◌≡◌ {A = ℕ} 0 1 = cc in absurd (omega arith)
+  found_there (Some q) p e = (q, refl, cc)
 
-  found_none : (f : PlannedFound) → found_meant room store made name f ≡ none → f ≡ results.Nothing
-  found_none results.Nothing e = refl
-  found_none (results.At q) e = let z : ◌≡◌ {A = ℕ} 0 1 = cc in absurd (omega arith)
+  found_none : (f : Maybe Planned) → found_meant room store made name f ≡ none → f ≡ None
+  found_none None e = refl
+  found_none (Some q) e = let z : ◌≡◌ {A = ℕ} 0 1 = cc in absurd (omega arith)
 
   -- all components of 01's plan
   abbrev pub composition : Choice → Seq meant.PlannedComponent
@@ -285,17 +279,17 @@ module _ (room store : Seq ℕ) (made : ℕ) (name : Seq ℕ) where
     composition_means (choices.At place n) h i = composed_means room store made name clear n i
 
     module _ (c : Choice) (h : Met room store made name c) (i : ℕ) where
-      pub composition_there : i < length (composition c) → (q : Planned) × (component room store made c i ≡ results.At q) × (entry_at (composition c) i ≡ some (planned_meant room store made name q))
+      pub composition_there : i < length (composition c) → (q : Planned) × (component room store made c i ≡ Some q) × (entry_at (composition c) i ≡ some (planned_meant room store made name q))
       composition_there l =
           let e = entry_there (composition c) i l in
           let f = found_there (component room store made c i) e.0 (composition_means c h i ∙ e.1) in
           (f.0, f.1, e.1 ∙ ap (λ (p : meant.PlannedComponent). some p) (sym f.2))
 
-      pub composition_none : length (composition c) ≤ i → component room store made c i ≡ results.Nothing
+      pub composition_none : length (composition c) ≤ i → component room store made c i ≡ None
       composition_none l = found_none (component room store made c i) (composition_means c h i ∙ entry_none (composition c) i l)
 
-      pub composition_end : component room store made c i ≡ results.Nothing → length (composition c) ≤ i
+      pub composition_end : component room store made c i ≡ None → length (composition c) ≤ i
       composition_end e =
           on (ltb i (length (composition c)))
-          (λ t. let f = composition_there (ltb-true i (length (composition c)) t) in let g : results.Nothing ≡ results.At f.0 = sym e ∙ f.1 in let z : ◌≡◌ {A = ℕ} 0 1 = cc in absurd (omega arith))
+          (λ t. let f = composition_there (ltb-true i (length (composition c)) t) in let g : None ≡ Some f.0 = sym e ∙ f.1 in let z : ◌≡◌ {A = ℕ} 0 1 = cc in absurd (omega arith))
           (λ t. ltb-false i (length (composition c)) t)

@@ -1,5 +1,6 @@
 -- The stem says what 01 says: of the boot chain, and of an application.
-use Rattle.std.specs.Prelude.{ℕ, ◌+◌, ◌-◌, ◌≤◌, Bool, true, false, ◌≡◌, eqb, leb, length, take, drop}
+use Rattle.std.specs.Prelude.{ℕ, ◌+◌, ◌-◌, ◌≤◌, Bool, true, false, ◌≡◌, eqb, leb, length, take, drop, Option as Maybe, Some, None}
+use Rattle.features.specs.declared.Piece.{Piece}
 use mathlib.Core.List.{List as Seq, [], ◌∷◌, ◌++◌, map}
 use Rattle.std.proofs.Math.Option.{Option, none, some}
 use Rattle.std.proofs.Math.Path.{refl, ap}
@@ -13,8 +14,6 @@ use Rattle.meaning.specs.Schema as schemas
 use Rattle.meaning.specs.Plan as meant
 use Rattle.laws.specs.Cases.{on}
 use Rattle.laws.specs.Order.{same_eq}
-use Rattle.tree.specs.declared.Found.{Found}
-use Rattle.tree.specs.declared.Found.TheVariants as founds
 use Rattle.tree.specs.Doors.{field, fields_of}
 use Rattle.schema.specs.declared.Text.{Text}
 use Rattle.schema.specs.declared.Text.TheVariants as texts
@@ -23,8 +22,6 @@ use Rattle.schema.specs.declared.Kind.TheVariants as kinds
 use Rattle.schema.specs.declared.Component.{Component}
 use Rattle.schema.specs.Words.{kind_meant}
 use Rattle.schema.specs.Texts.{clip, spelled, optional, or_text}
-use Rattle.parse.specs.declared.file.Piece.{Piece}
-use Rattle.parse.specs.declared.file.Piece.TheVariants as pieces
 use Rattle.parse.specs.File.{piece_of, Inside, file_at}
 use Rattle.parse.specs.Filed.{file_inside, file_named}
 use Rattle.parse.specs.Component as parsed
@@ -95,9 +92,9 @@ unfolding stopped files.stem_of
 stopped_is s = on (eqb (files.last_dot 0 0 s) 0) (λ e. rw e (take-length s)) (λ e. rw e)
 
 module _ (store name : Seq ℕ) where
-  piece_in_lem : (from n : ℕ) (p : Piece) → Inside (clip from n store) p → optional store name (piece_in from p) ≡ piece_of (clip from n store) p
-  piece_in_lem from n pieces.Nothing h = refl
-  piece_in_lem from n (pieces.At at len) h = ap some (clip_in store from n at len h)
+  piece_in_lem : (from n : ℕ) (p : Maybe Piece) → Inside (clip from n store) p → optional store name (piece_in from p) ≡ piece_of (clip from n store) p
+  piece_in_lem from n None h = refl
+  piece_in_lem from n (Some p) h = ap some (clip_in store from n p.from p.len h)
 
   -- the stem of a name
   shortened_means : (t : Text) → Kept t → optional store name (shortened store t) ≡ files.stemmed (optional store name t)
@@ -108,9 +105,9 @@ module _ (store name : Seq ℕ) where
   shortened_means (texts.Fixed w) h = absurd h
   shortened_means (texts.WithAic from len) h = absurd h
 
-  piece_kept : (from : ℕ) (p : Piece) → Kept (piece_in from p)
-  piece_kept from pieces.Nothing = tt
-  piece_kept from (pieces.At at len) = tt
+  piece_kept : (from : ℕ) (p : Maybe Piece) → Kept (piece_in from p)
+  piece_kept from None = tt
+  piece_kept from (Some p) = tt
 
   -- a file's stem is 01's
   pub stem_of_means : (file : Text) → Kept file → optional store name (stem_of store file) ≡ meant.stem_of_file (optional store name file)
@@ -158,9 +155,9 @@ module _ (room store : Seq ℕ) (made : ℕ) (name : Seq ℕ) where
   file_kept n = text_kept (field room store (table_at room store made n).fields (ascii "file"))
 
   -- the component that was found
-  abbrev component_found : Found → Option schemas.Component
-  component_found founds.Nothing = none
-  component_found (founds.At n) = some (component_of room store made name 32 n)
+  abbrev component_found : Maybe ℕ → Option schemas.Component
+  component_found None = none
+  component_found (Some n) = some (component_of room store made name 32 n)
 
   leads_is : (n : ℕ) → leads room store made n
       ≡ pick (nil? (component_of room store made name 32 n).role.partition) false (meant.app? (component_of room store made name 32 n).head.kind)
@@ -176,9 +173,9 @@ module _ (room store : Seq ℕ) (made : ℕ) (name : Seq ℕ) where
       rw (← leads_is n)
       (on (leads room store made n) (λ e. rw e) (λ e. rw e (first_means ns)))
 
-  found_means : (f : Found) → optional store name (stem_found room store made f) ≡ meant.own_stem (component_found f)
-  found_means founds.Nothing = refl
-  found_means (founds.At n) = own_stem_means (component_at room store made n 32).component (file_kept n)
+  found_means : (f : Maybe ℕ) → optional store name (stem_found room store made f) ≡ meant.own_stem (component_found f)
+  found_means None = refl
+  found_means (Some n) = own_stem_means (component_at room store made n 32).component (file_kept n)
 
   abbrev preset : schemas.Preset
   preset = preset_meant room store made name (fields_of room made 1) of01 (lent_text name)

@@ -1,9 +1,7 @@
 -- Level 2 of the stem: "The stem is the selected package; for the boot chain it is the package, else `bin`, else file stem of the first `app` component with a partition, else the board name."
-use Rattle.std.specs.Prelude.{ℕ, ◌≤◌, Bool, true, false, List as Seq, [], ◌∷◌, ◌≡◌, eqb, length}
+use Rattle.std.specs.Prelude.{ℕ, ◌≤◌, Bool, true, false, List as Seq, [], ◌∷◌, ◌≡◌, eqb, length, Option, Some, None}
 use Rattle.meaning.specs.Base.{pick}
 use Rattle.meaning.specs.Files.{last_dot}
-use Rattle.tree.specs.declared.Found.{Found}
-use Rattle.tree.specs.declared.Found.TheVariants as founds
 use Rattle.tree.specs.Room.{slot_at}
 use Rattle.tree.specs.Doors.{fields_of}
 use Rattle.schema.specs.declared.Text.{Text}
@@ -54,9 +52,9 @@ is_app kinds.App = true
 is_app kinds.Pbp = false
 is_app kinds.Raw = false
 
-abbrev pub first_with : (ℕ → Bool) → Seq ℕ → Found
-first_with p [] = founds.Nothing
-first_with p (n ∷ ns) = pick (p n) (founds.At n) (first_with p ns)
+abbrev pub first_with : (ℕ → Bool) → Seq ℕ → Option ℕ
+first_with p [] = None
+first_with p (n ∷ ns) = pick (p n) (Some n) (first_with p ns)
 
 -- the key of value number n
 abbrev pub key_of : Seq ℕ → ℕ → Text
@@ -66,12 +64,12 @@ module _ (room store : Seq ℕ) (made : ℕ) where
   unfoldable pub leads : ℕ → Bool
   leads n = pick (placed room store made n) (is_app (component_at room store made n 32).component.head.kind) false
 
-  abbrev pub leader : Found
+  abbrev pub leader : Option ℕ
   leader = first_with leads (components room store made)
 
-  abbrev pub stem_found : Found → Text
-  stem_found founds.Nothing = texts.Absent
-  stem_found (founds.At n) = own_stem store (component_at room store made n 32).component
+  abbrev pub stem_found : Option ℕ → Text
+  stem_found None = texts.Absent
+  stem_found (Some n) = own_stem store (component_at room store made n 32).component
 
   abbrev pub leading : Text
   leading = stem_found leader

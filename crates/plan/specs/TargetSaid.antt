@@ -1,5 +1,5 @@
 -- The partition that a reference finds is the one that 01 says.
-use Rattle.std.specs.Prelude.{ℕ, suc, ◌-◌, List as Seq, [], ◌∷◌, map, ◌≡◌, refl, eqb, ltb, length, get_or}
+use Rattle.std.specs.Prelude.{ℕ, suc, ◌-◌, List as Seq, [], ◌∷◌, map, ◌≡◌, refl, eqb, ltb, length, get_or, Option as Maybe, Some, None}
 use Rattle.std.proofs.Math.Option.{Option, none, some}
 use Rattle.std.proofs.Common.{ap, ◌∙◌, arith, lt-ltb}
 use Rattle.std.proofs.Math.Dec.{leb-suc-suc}
@@ -9,16 +9,12 @@ use Rattle.meaning.specs.Rules.{name_of, first_named}
 use Rattle.meaning.specs.Schema as schemas
 use Rattle.meaning.specs.Plan as meant
 use Rattle.laws.specs.Cases.{on}
-use Rattle.tree.specs.declared.Found.{Found}
-use Rattle.tree.specs.declared.Found.TheVariants as numbers
 use Rattle.tree.specs.Doors.{field, fields_of, nth_of}
 use Rattle.schema.specs.declared.Text.{Text}
 use Rattle.schema.specs.declared.Text.TheVariants as texts
 use Rattle.schema.specs.declared.Partition.{Partition}
 use Rattle.schema.specs.Words.{word}
 use Rattle.schema.specs.Texts.{clip, spelled, or_text}
-use Rattle.parse.specs.declared.view.PartitionFound.{PartitionFound}
-use Rattle.parse.specs.declared.view.PartitionFound.TheVariants as results
 use Rattle.parse.specs.Fields.{text_read}
 use Rattle.parse.specs.Entries.{table_at, component_at, application_at, partitions}
 use Rattle.parse.specs.Views as views
@@ -35,8 +31,6 @@ use Rattle.validate.specs.Gathered.{components}
 use Rattle.plan.specs.declared.choice.Choice.{Choice}
 use Rattle.plan.specs.declared.choice.Choice.TheVariants as choices
 use Rattle.plan.specs.declared.component.Planned.{Planned}
-use Rattle.plan.specs.declared.component.PlannedFound.{PlannedFound}
-use Rattle.plan.specs.declared.component.PlannedFound.TheVariants as founds
 use Rattle.plan.specs.Planned as plans
 use Rattle.plan.specs.PlannedSaid.{planned_meant, partition_read_lem}
 use Rattle.plan.specs.Targets as targets
@@ -62,22 +56,22 @@ module _ (room store : Seq ℕ) (made n : ℕ) where
 
 module _ (room store : Seq ℕ) (made : ℕ) where
   -- of a component that was planned, if there is one
-  abbrev NamedIn : PlannedFound → Type 0
-  NamedIn founds.Nothing = Unit {0}
-  NamedIn (founds.At q) = Named q.spec.role.partition
+  abbrev NamedIn : Maybe Planned → Type 0
+  NamedIn None = Unit {0}
+  NamedIn (Some q) = Named q.spec.role.partition
 
   good_named : (n : ℕ) → NamedIn (plans.planned_found (views.good_component room store made n 32))
   unfolding views.good_component plans.planned
   good_named n = on (eqb (component_at room store made n 32).fault 0) (λ e. rw e (component_named room store made n)) (λ e. rw e tt)
 
-  found_named : (f : Found) → NamedIn (plans.planned_found (views.component_of room store made 32 f))
-  found_named numbers.Nothing = tt
-  found_named (numbers.At n) = good_named n
+  found_named : (f : Maybe ℕ) → NamedIn (plans.planned_found (views.component_of room store made 32 f))
+  found_named None = tt
+  found_named (Some n) = good_named n
 
   own_named : (i : ℕ) → NamedIn (plans.own room store made i)
   own_named i = found_named (nth_of (components room store made) i)
 
-  selected_named : (n : ℕ) → NamedIn (plans.planned_application room store made n)
+  selected_named : (n : ℕ) → NamedIn (Some (plans.planned_application room store made n))
   unfolding plans.planned plans.component_of
   selected_named n = application_named room store made n
 
@@ -94,20 +88,20 @@ module _ (room store : Seq ℕ) (made : ℕ) where
   all_named (choices.At place n) i = composed_named n i
 
   -- the reference of a planned component
-  pub planned_named : (c : Choice) (i : ℕ) (q : Planned) → plans.component room store made c i ≡ founds.At q → Named q.spec.role.partition
+  pub planned_named : (c : Choice) (i : ℕ) (q : Planned) → plans.component room store made c i ≡ Some q → Named q.spec.role.partition
   planned_named c i q e = rw e at (all_named c i)
 
 -- ---- the first of a name
 
 module _ (room store : Seq ℕ) (made : ℕ) (name : Seq ℕ) where
   -- the partition that was found
-  abbrev pub target_meant : PartitionFound → Option schemas.Partition
-  target_meant results.Nothing = none
-  target_meant (results.At p) = some (partition_meant room store made name p)
+  abbrev pub target_meant : Maybe Partition → Option schemas.Partition
+  target_meant None = none
+  target_meant (Some p) = some (partition_meant room store made name p)
 
   -- the partition of a rank
-  abbrev ranked : Seq Partition → ℕ → PartitionFound
-  ranked ps at = pick (ltb at (length ps)) (results.At (get_or ps at targets.none)) results.Nothing
+  abbrev ranked : Seq Partition → ℕ → Maybe Partition
+  ranked ps at = pick (ltb at (length ps)) (Some (get_or ps at targets.none)) None
 
   ranked_means : (x : Seq ℕ) (ps : Seq Partition)
       → target_meant (ranked ps (rank x (map (part_name store) ps))) ≡ first_named x (map (partition_meant room store made name) ps)
@@ -150,7 +144,7 @@ module _ (room store : Seq ℕ) (made : ℕ) (name : Seq ℕ) where
     application_target n = target_means (application_at room store made n 32).application.partition (application_named room store made n)
 
     -- of a planned component
-    pub planned_target : (c : Choice) (i : ℕ) (q : Planned) → plans.component room store made c i ≡ founds.At q
+    pub planned_target : (c : Choice) (i : ℕ) (q : Planned) → plans.component room store made c i ≡ Some q
         → target_meant (partition room store made q.spec.role.partition)
         ≡ meant.partition_for partitions_meant (planned_meant room store made name q).spec.role.partition
     planned_target c i q d = target_means q.spec.role.partition (planned_named room store made c i q d)

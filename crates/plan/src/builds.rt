@@ -1,17 +1,18 @@
 // What is to be built: one build for each package, in first use.
 
 ghost use Rattle.std.specs.Prelude.{[], map, ◌≡◌, ◌≤◌, take, replicate};
-ghost use Rattle.tree.specs.Doors.{Rooms, Stood};
+ghost use Rattle.tree.specs.Doors.{Stood};
 ghost use Rattle.plan.specs.Choices.{Standing};
 ghost use Rattle.plan.specs.Builds as builds;
 ghost use Rattle.plan.specs.Builds.{Wanting, Used};
+ghost use Rattle.tree.specs.Both.{on};
 
 use crate::choice::Choice;
 use crate::component::Build;
 use meaning::{COMPONENTS, FEATURES};
-use schema::spot::{Spot, bytes_spot, list_at, list_spot, no_spot, same_text, text_at, text_spot};
+use schema::spot::{Spot, same_text};
 use schema::{Features, Text};
-use tree::Item;
+use tree::Rooms;
 
 // Two for each component, and one for the application.
 const COMPONENT_USES: usize = 2 * COMPONENTS;
@@ -24,6 +25,13 @@ pub struct BuildList {
     pub count: usize,
     pub items: [Use; MOST_USES],
 }
+
+// A use of no package.
+const NO_USE: Use = Use {
+    package: Spot::Nothing,
+    bin: Spot::Nothing,
+    features: Spot::Nothing,
+};
 
 // A component's two packages.
 #[derive(Clone, Copy)]
@@ -40,20 +48,14 @@ pub struct Use {
     pub features: Spot,
 }
 
-#[derive(Clone, Copy)]
-pub enum BuildFound {
-    Nothing,
-    At(Build),
-}
-
 // The use of a package: its bin is the package itself where none is given.
 fn use_of(package: Text, bin: Text, features: Features) -> Use
     ensures { result ≡ builds.use_of «package» bin features }
 {
     Use {
-        package: text_spot(package),
-        bin: text_spot(bin.or(package)),
-        features: list_spot(features),
+        package: Spot::from(package),
+        bin: Spot::from(bin.or(package)),
+        features: Spot::from(features),
     }
 }
 
@@ -61,13 +63,10 @@ fn use_of(package: Text, bin: Text, features: Features) -> Use
 pub fn build_at(u: Use) -> Build
     ensures { result ≡ builds.build_at u }
 {
-    let package = u.package;
-    let bin = u.bin;
-    let features = u.features;
     Build {
-        package: text_at(package),
-        bin: text_at(bin),
-        features: list_at(features),
+        package: Text::from(u.package),
+        bin: Text::from(u.bin),
+        features: Features::from(u.features),
     }
 }
 
@@ -75,93 +74,69 @@ pub fn build_at(u: Use) -> Build
 fn no_builds() -> [Use; MOST_USES]
     ensures { result ≡ replicate 129 builds.no_use }
 {
-    let none = no_spot();
-    let blank = Use {
-        package: none,
-        bin: none,
-        features: none,
-    };
-    [blank; MOST_USES]
+    [NO_USE; MOST_USES]
 }
 
 // "each component's package, then its `pbp_package`", whose bin is the package itself.
-fn wanted_at(tree: &[u8], store: &[u8], made: usize, n: usize) -> Wanted
-    requires { Rooms tree.now made × Stood tree.now n }
-    ensures { builds.both_at result ≡ builds.wanted_at tree.now store.now made n }
+fn wanted_at(rooms: Rooms<'_>, n: usize) -> Wanted
+    requires { Stood rooms.tree.now n }
+    ensures { builds.both_at result ≡ on builds.wanted_at rooms.entry n }
 {
-    let t = parse::entry::entry_table(tree, made, tree::value_at(tree, store, n));
-    let f = t.fields;
-    let s = parse::component::read_sources(tree, store, f);
-    let l = parse::component::read_lists(tree, store, made, f, FEATURES);
-    let o = parse::field::text(tree, store, f, b"pbp_package");
-    let package = s.package;
-    let bin = s.bin;
-    let features = l.features;
-    let pbp_features = l.pbp_features;
-    let pbp_package = o.text;
+    let t = parse::entry::entry_table(rooms, rooms.value_at(n));
+    let s = parse::component::read_sources(rooms.tree, rooms.store, t.fields);
+    let l = parse::component::read_lists(rooms, t.fields, FEATURES);
+    let o = parse::field::text(rooms.tree, rooms.store, t.fields, b"pbp_package");
     Wanted {
-        own: use_of(package, bin, features),
-        pbp: use_of(pbp_package, Text::Absent, pbp_features),
+        own: use_of(s.package, s.bin, l.features),
+        pbp: use_of(o.text, Text::Absent, l.pbp_features),
     }
 }
 
 // The uses of all components of a list; no more than 64 of them are asked.
-fn each_component(tree: &[u8], store: &[u8], made: usize, place: u16, end: usize) -> BuildList
-    requires { Wanting tree.now made end }
-    ensures { Used 128 (builds.each_component tree.now store.now made place end) result }
+fn each_component(rooms: Rooms<'_>, place: u16, end: usize) -> BuildList
+    requires { Wanting rooms.tree.now rooms.made end }
+    ensures { Used 128 (on builds.each_component rooms.entry place end) result }
 {
     let mut items = no_builds();
     let mut i: usize = 0;
     let mut w = tree::items_of(place, end);
-    loop {
-        let step = tree::next_item(tree, w);
-        match step {
-            Item::End => break,
-            Item::At { value, rest } => {
-                if COMPONENT_USES <= i {
-                    break;
-                }
-                let used = wanted_at(tree, store, made, value);
-                let own = used.own;
-                let pbp = used.pbp;
-                let next = i + 1;
-                items[i] = own;
-                items[next] = pbp;
-                i += 2;
-                w = rest;
-            }
+    while let Some(step) = tree::next_item(rooms.tree, w) {
+        if COMPONENT_USES <= i {
+            break;
         }
+        let used = wanted_at(rooms, step.value);
+        items[i] = used.own;
+        items[i + 1] = used.pbp;
+        i += 2;
+        w = step.rest;
     }
     BuildList { count: i, items }
 }
 
 // The use of the application that value number n is: its package and bin are its key.
-fn application_use(tree: &[u8], store: &[u8], made: usize, n: usize) -> Use
-    requires { Rooms tree.now made × Stood tree.now n }
-    ensures { builds.build_at result ≡ builds.application_use tree.now store.now made n }
+fn application_use(rooms: Rooms<'_>, n: usize) -> Use
+    requires { Stood rooms.tree.now n }
+    ensures { builds.build_at result ≡ on builds.application_use rooms.entry n }
 {
-    let r = parse::entry::application_at(tree, store, made, n, FEATURES);
-    let a = r.application;
-    let features = a.features;
-    let k = tree::key_at(tree, n);
-    let package = bytes_spot(k.from, k.len);
+    let r = parse::entry::application_at(rooms, n, FEATURES);
+    let k = tree::key_at(rooms.tree, n);
+    let package = Spot::of_bytes(k.from, k.len);
     Use {
         package,
         bin: package,
-        features: list_spot(features),
+        features: Spot::from(r.application.features),
     }
 }
 
 // "the application last": that use after those of the components.
-fn with_application(tree: &[u8], store: &[u8], made: usize, n: usize, u: BuildList) -> BuildList
-    requires { Rooms tree.now made × Stood tree.now n × builds.Room u }
-    ensures { builds.Followed tree.now store.now made n u result }
+fn with_application(rooms: Rooms<'_>, n: usize, u: BuildList) -> BuildList
+    requires { Stood rooms.tree.now n × builds.Room u }
+    ensures { on builds.Followed rooms.entry n u result }
 {
-    let count = u.count;
     let mut items = u.items;
-    items[count] = application_use(tree, store, made, n);
+    items[u.count] = application_use(rooms, n);
     BuildList {
-        count: count + 1,
+        count: u.count + 1,
         items,
     }
 }
@@ -175,15 +150,11 @@ fn first_uses(store: &[u8], uses: [Use; MOST_USES], count: usize) -> BuildList
     let mut n = 0;
     'next: for i in 0..count {
         let u = uses[i];
-        let p = u.package;
-        // no package
-        if p.kind != Spot::BYTES {
+        if !Text::from(u.package).is_given() {
             continue;
         }
         for j in 0..i {
-            let v = uses[j];
-            let q = v.package;
-            if same_text(store, p, q) {
+            if same_text(store, u.package, uses[j].package) {
                 continue 'next;
             }
         }
@@ -194,42 +165,39 @@ fn first_uses(store: &[u8], uses: [Use; MOST_USES], count: usize) -> BuildList
 }
 
 // All uses of a plan in their order; a key that is not declared has none.
-fn uses(tree: &[u8], store: &[u8], made: usize, c: Choice) -> BuildList
-    requires { Rooms tree.now made × Standing tree.now c }
-    ensures { Used 129 (builds.uses tree.now store.now made c) result }
+fn uses(rooms: Rooms<'_>, c: Choice) -> BuildList
+    requires { Standing rooms.tree.now c }
+    ensures { Used 129 (on builds.uses rooms.entry c) result }
 {
-    let l = parse::view::component_list(tree, store, made);
-    let u = each_component(tree, store, made, l.place, l.end);
+    let l = parse::view::component_list(rooms);
+    let u = each_component(rooms, l.place, l.end);
     match c {
         Choice::BootChain => u,
         Choice::Undeclared => BuildList {
             count: 0,
             items: no_builds(),
         },
-        Choice::At { place: _, value } => with_application(tree, store, made, value, u),
+        Choice::At { place: _, value } => with_application(rooms, value, u),
     }
 }
 
 // "one per package, with the first use's `bin`", and its features.
-pub fn builds(tree: &[u8], store: &[u8], made: usize, c: Choice) -> BuildList
-    requires { Rooms tree.now made × Standing tree.now c }
-    ensures { Used 129 (builds.builds_of tree.now store.now made c) result }
+pub fn builds(rooms: Rooms<'_>, c: Choice) -> BuildList
+    requires { Standing rooms.tree.now c }
+    ensures { Used 129 (on builds.builds_of rooms.entry c) result }
 {
-    let u = uses(tree, store, made, c);
-    let items = u.items;
-    first_uses(store, items, u.count)
+    let u = uses(rooms, c);
+    first_uses(rooms.store, u.items, u.count)
 }
 
 // Build number i of a plan.
-pub fn build(tree: &[u8], store: &[u8], made: usize, c: Choice, i: usize) -> BuildFound
-    requires { Rooms tree.now made × Standing tree.now c }
-    ensures { result ≡ builds.build tree.now store.now made c i }
+pub fn build(rooms: Rooms<'_>, c: Choice, i: usize) -> Option<Build>
+    requires { Standing rooms.tree.now c }
+    ensures { result ≡ on builds.build rooms.entry c i }
 {
-    let b = builds(tree, store, made, c);
-    let items = b.items;
+    let b = builds(rooms, c);
     if i < b.count {
-        let found = items[i];
-        return BuildFound::At(build_at(found));
+        return Some(build_at(b.items[i]));
     }
-    BuildFound::Nothing
+    None
 }

@@ -1,15 +1,15 @@
 // A planned component: its record, its payload and its PBP; and all of them in composition order.
 
 ghost use Rattle.std.specs.Prelude.{◌≡◌};
-ghost use Rattle.tree.specs.Doors.{Rooms, Stood};
+ghost use Rattle.tree.specs.Doors.{Stood};
 ghost use Rattle.plan.specs.Choices.{Standing};
 ghost use Rattle.plan.specs.Planned as plans;
+ghost use Rattle.tree.specs.Both.{on};
 
 use crate::choice::Choice;
 use meaning::FEATURES;
-use parse::view::ComponentFound;
-use schema::{Application, Boot, Component, Features, Head, Kind, Load, Number, Role, Text};
-use tree::Item;
+use schema::{Application, Boot, Component, Features, Head, Kind, Load, Role, Text};
+use tree::Rooms;
 
 // A package to build, its binary, and the features of one use.
 #[derive(Clone, Copy)]
@@ -22,7 +22,6 @@ pub struct Build {
 // A package or a file, as it is written.
 #[derive(Clone, Copy)]
 pub enum Source {
-    Nothing,
     Package(Build),
     File(Text),
 }
@@ -32,13 +31,7 @@ pub enum Source {
 pub struct Planned {
     pub spec: Component,
     pub source: Source,
-    pub pbp_source: Source,
-}
-
-#[derive(Clone, Copy)]
-pub enum PlannedFound {
-    Nothing,
-    At(Planned),
+    pub pbp_source: Option<Source>,
 }
 
 // A package with the bin of one use: the package itself where none is given.
@@ -66,18 +59,18 @@ fn payload(h: Head, features: Features) -> Source
 }
 
 // The file of the PBP, else its package, whose bin is the package itself.
-fn pbp_payload(b: Boot, features: Features) -> Source
+fn pbp_payload(b: Boot, features: Features) -> Option<Source>
     ensures { result ≡ plans.pbp_payload b features }
 {
     let pbp = b.pbp;
     let package = b.pbp_package;
     if pbp.is_given() {
-        return Source::File(pbp);
+        return Some(Source::File(pbp));
     }
     if package.is_given() {
-        return Source::Package(build_of(package, Text::Absent, features));
+        return Some(Source::Package(build_of(package, Text::Absent, features)));
     }
-    Source::Nothing
+    None
 }
 
 // A file that is the source is taken out of the record.
@@ -178,105 +171,92 @@ fn no_boot() -> Boot
 {
     Boot {
         updater: false,
-        ram: Number::Absent,
+        ram: None,
         pbp: Text::Absent,
         pbp_package: Text::Absent,
         private: Text::Absent,
     }
 }
 
-fn load_of(load_address: Number, entry_offset: Number) -> Load
+fn load_of(load_address: Option<u32>, entry_offset: Option<u32>) -> Load
     ensures { result ≡ plans.loads load_address entry_offset }
 {
     Load {
         load_address,
-        entry_point: Number::Absent,
+        entry_point: None,
         entry_offset,
-        header_version: Number::Absent,
+        header_version: None,
         with_ext: false,
         ext_reserve: 0,
     }
 }
 
 // Whether the component that value number n is has a partition.
-pub fn placed(tree: &[u8], store: &[u8], made: usize, n: usize) -> bool
-    requires { Rooms tree.now made × Stood tree.now n }
-    ensures { result ≡ plans.placed tree.now store.now made n }
+pub fn placed(rooms: Rooms<'_>, n: usize) -> bool
+    requires { Stood rooms.tree.now n }
+    ensures { result ≡ on plans.placed rooms.entry n }
 {
-    let t = parse::entry::entry_table(tree, made, tree::value_at(tree, store, n));
+    let t = parse::entry::entry_table(rooms, rooms.value_at(n));
     let f = t.fields;
-    let own = parse::field::text(tree, store, f, b"partition");
+    let own = parse::field::text(rooms.tree, rooms.store, f, b"partition");
     let place = own.text;
-    schema::stored(store, place.start(), place.length()).len() != 0
+    schema::stored(rooms.store, place.start(), place.length()).len() != 0
 }
 
 // How many components stand before the first with a partition.
-fn before_first_placed(tree: &[u8], store: &[u8], made: usize) -> usize
-    requires { Rooms tree.now made }
-    ensures { result ≡ plans.ahead tree.now store.now made }
+fn before_first_placed(rooms: Rooms<'_>) -> usize
+    ensures { result ≡ on plans.ahead rooms.entry }
 {
-    let l = parse::view::component_list(tree, store, made);
+    let l = parse::view::component_list(rooms);
     let mut i = 0;
     let mut w = tree::items_of(l.place, l.end);
-    loop {
-        let step = tree::next_item(tree, w);
-        match step {
-            Item::End => return i,
-            Item::At { value, rest } => {
-                if placed(tree, store, made, value) {
-                    return i;
-                }
-                i += 1;
-                w = rest;
-            }
+    while let Some(step) = tree::next_item(rooms.tree, w) {
+        if placed(rooms, step.value) {
+            return i;
         }
+        i += 1;
+        w = step.rest;
     }
+    i
 }
 
 // Component number i of the preset, planned.
-fn planned_component(tree: &[u8], store: &[u8], made: usize, i: usize) -> PlannedFound
-    requires { Rooms tree.now made }
-    ensures { result ≡ plans.own tree.now store.now made i }
+fn planned_component(rooms: Rooms<'_>, i: usize) -> Option<Planned>
+    ensures { result ≡ on plans.own rooms.entry i }
 {
-    let found = parse::view::component(tree, store, made, i, FEATURES);
-    match found {
-        ComponentFound::Nothing => PlannedFound::Nothing,
-        ComponentFound::At(c) => PlannedFound::At(plan_of(c)),
-    }
+    parse::view::component(rooms, i, FEATURES).map(plan_of)
 }
 
 // The application that value number n is, planned.
-fn planned_application(tree: &[u8], store: &[u8], made: usize, n: usize) -> PlannedFound
-    requires { Rooms tree.now made × Stood tree.now n }
-    ensures { result ≡ plans.planned_application tree.now store.now made n }
+fn planned_application(rooms: Rooms<'_>, n: usize) -> Planned
+    requires { Stood rooms.tree.now n }
+    ensures { result ≡ on plans.planned_application rooms.entry n }
 {
-    let r = parse::entry::application_at(tree, store, made, n, FEATURES);
-    let a = r.application;
-    PlannedFound::At(plan_of(component_of(a)))
+    let r = parse::entry::application_at(rooms, n, FEATURES);
+    plan_of(component_of(r.application))
 }
 
 // "The application goes directly before the first component with a partition."
-fn composed(tree: &[u8], store: &[u8], made: usize, n: usize, i: usize) -> PlannedFound
-    requires { Rooms tree.now made × Stood tree.now n }
-    ensures { result ≡ plans.composed tree.now store.now made n i }
+fn composed(rooms: Rooms<'_>, n: usize, i: usize) -> Option<Planned>
+    requires { Stood rooms.tree.now n }
+    ensures { result ≡ on plans.composed rooms.entry n i }
 {
-    let at = before_first_placed(tree, store, made);
+    let at = before_first_placed(rooms);
     if i < at {
-        return planned_component(tree, store, made, i);
+        return planned_component(rooms, i);
     }
     if i == at {
-        return planned_application(tree, store, made, n);
+        return Some(planned_application(rooms, n));
     }
-    planned_component(tree, store, made, i - 1)
+    planned_component(rooms, i - 1)
 }
 
 // How many components the plan has.
-pub fn count(tree: &[u8], store: &[u8], made: usize, c: Choice) -> usize
-    requires { Rooms tree.now made }
-    ensures { result ≡ plans.count tree.now store.now made c }
+pub fn count(rooms: Rooms<'_>, c: Choice) -> usize
+    ensures { result ≡ on plans.count rooms.entry c }
 {
-    let l = parse::view::component_list(tree, store, made);
-    let n = tree::count_items(tree, l.end, l.place);
+    let l = parse::view::component_list(rooms);
+    let n = tree::count_items(rooms.tree, l.end, l.place);
     match c {
         Choice::BootChain => n,
         Choice::Undeclared => 0,
@@ -285,13 +265,13 @@ pub fn count(tree: &[u8], store: &[u8], made: usize, c: Choice) -> usize
 }
 
 // Component number i of the plan.
-pub fn component(tree: &[u8], store: &[u8], made: usize, c: Choice, i: usize) -> PlannedFound
-    requires { Rooms tree.now made × Standing tree.now c }
-    ensures { result ≡ plans.component tree.now store.now made c i }
+pub fn component(rooms: Rooms<'_>, c: Choice, i: usize) -> Option<Planned>
+    requires { Standing rooms.tree.now c }
+    ensures { result ≡ on plans.component rooms.entry c i }
 {
     match c {
-        Choice::BootChain => planned_component(tree, store, made, i),
-        Choice::Undeclared => PlannedFound::Nothing,
-        Choice::At { place: _, value } => composed(tree, store, made, value, i),
+        Choice::BootChain => planned_component(rooms, i),
+        Choice::Undeclared => None,
+        Choice::At { place: _, value } => composed(rooms, value, i),
     }
 }

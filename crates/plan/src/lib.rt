@@ -8,28 +8,21 @@ pub mod component;
 pub mod stem;
 pub mod target;
 
-ghost use Rattle.tree.specs.Doors.{Rooms};
 ghost use Rattle.parse.specs.Verdict.{Told};
 ghost use Rattle.plan.specs.Planning.{planning};
+ghost use Rattle.tree.specs.Both.{on};
 
 use parse::Refusal;
+use tree::Rooms;
 
 // The first refusal of the records, of the rules, and of the selection.
-pub fn judge_selection(
-    tree: &[u8],
-    store: &[u8],
-    made: usize,
-    name: &[u8],
-    app: u32,
-    key: &[u8],
-) -> Refusal
-    requires { Rooms tree.now made }
+pub fn judge_selection(rooms: Rooms<'_>, name: &[u8], app: u32, key: &[u8]) -> Refusal
     ensures { Told
-        (planning name.now app key.now tree.now store.now made) result }
+        (on (planning name.now app key.now) rooms.entry) result }
 {
-    let v = validate::judge_rules(tree, store, made, name);
+    let v = validate::judge_rules(rooms, name);
     if v.number != 0 {
         return v;
     }
-    choice::check_selection(tree, store, made, app, key)
+    choice::check_selection(rooms, app, key)
 }

@@ -1,30 +1,21 @@
 // The partition that a reference finds.
 
 ghost use Rattle.std.specs.Prelude.{◌≡◌};
-ghost use Rattle.tree.specs.Doors.{Rooms};
 ghost use Rattle.plan.specs.Targets as targets;
+ghost use Rattle.tree.specs.Both.{on};
 
 use meaning::PARTITIONS;
-use parse::view::PartitionFound;
-use schema::Text;
+use schema::{Partition, Text};
+use tree::Rooms;
 
 // The partition of that name: none where the list has a wrong one.
-pub fn partition(tree: &[u8], store: &[u8], made: usize, t: Text) -> PartitionFound
-    requires { Rooms tree.now made }
-    ensures { result ≡ targets.partition tree.now store.now made t }
+pub fn partition(rooms: Rooms<'_>, t: Text) -> Option<Partition>
+    ensures { result ≡ on targets.partition rooms.entry t }
 {
-    let l = parse::view::partition_list(tree, store, made);
-    let p = parse::entry::read_partitions(tree, store, made, l, PARTITIONS);
-    let fault = p.fault;
-    if fault.number != 0 {
-        return PartitionFound::Nothing;
+    let l = parse::view::partition_list(rooms);
+    let p = parse::entry::read_partitions(rooms, l, PARTITIONS);
+    if p.fault.number != 0 {
+        return None;
     }
-    let items = p.items;
-    let count = p.count;
-    let at = layout::find_named(store, items, count, t, true);
-    if at < count {
-        let found = items[at];
-        return PartitionFound::At(found);
-    }
-    PartitionFound::Nothing
+    layout::find_named(rooms.store, &p.items[..p.count], t, true)
 }

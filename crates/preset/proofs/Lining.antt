@@ -7,8 +7,10 @@ use native.Mathlib.Omega.{arith}
 use borrow.Author.Tests.{eqb-true, eqb-false, lt-ltb, le-ltb, le-leb, lt-leb, leb-true, leb-false}
 use lib.Dec.{eqb, leb}
 use lib.ListN.{length}
+use Rattle.std.specs.Prelude.{Result, Ok, Err}
 use Rattle.meaning.specs.Base.{zeros}
-use Rattle.meaning.specs.Refusal.{Answer, accepted, refused}
+use Rattle.meaning.specs.Numbered.{number}
+use Rattle.meaning.specs.Refusal.{Answer, accepted, refused, at_line}
 use Rattle.meaning.specs.Listing.{out_size, short}
 use Rattle.laws.specs.Cases.{on}
 use Rattle.laws.specs.Stored.{stored}
@@ -16,12 +18,14 @@ use Rattle.scalar.specs.Stores.{over}
 use Rattle.tree.specs.Doors.{Rooms}
 use Rattle.values.specs.declared.State.{State}
 use Rattle.values.specs.Doc.{Doc}
-use Rattle.toml_lite.specs.declared.Read.{Read}
-use Rattle.toml_lite.specs.declared.Read.TheVariants as reads
+use Rattle.text.specs.declared.AtLine.{AtLine}
+use Rattle.text.specs.Answers.{answer_of}
 use Rattle.toml_lite.specs.Rooms as rooms
 use Rattle.parse.specs.declared.Refusal.{Refusal}
 use Rattle.plan.specs.Planning.{planning}
-use Rattle.page.specs.Page.{Wrote}
+use Rattle.page.specs.declared.Page.{Page}
+use Rattle.page.specs.Page.{Wrote, Adds}
+use Rattle.page.proofs.Pages.{let_go}
 use Rattle.report.specs.Shown.{lines}
 use Rattle.preset.specs.declared.Outcome.{Outcome}
 use Rattle.preset.specs.declared.listing.Listed.{Listed}
@@ -76,9 +80,9 @@ module _ (name store tree out : Seq ℕ) (o : Outcome) (h : Listing tree o) (out
   pub lined_not : (o.number ≡ 0 → ⊥) → (r : Listed) → Emptied out out' o r → Lined name store tree out out' o r
   lined_not z r e = record { not = λ y. e; low = rw e.says h.low; fine = λ y. absurd (z y) }
 
-  pub lined_fine : o.number ≡ 0 → (n : ℕ) → Wrote (lines tree store o.made name) out 0 out' n
+  fine : o.number ≡ 0 → (n : ℕ) → Wrote (lines tree store o.made name) out 0 out' n
       → Lined name store tree out out' o (record { number = 0; section = 0; place = 0; written = n })
-  lined_fine z n w =
+  fine z n w =
       record {
         not = λ y. absurd (y z);
         low = omega arith;
@@ -88,11 +92,15 @@ module _ (name store tree out : Seq ℕ) (o : Outcome) (h : Listing tree o) (out
             (rw m, rw e at w.left ∙ over_stored (lines_in out name store tree o.made) out);
       }
 
+  pub lined_fine : o.number ≡ 0 → (p q : Page) → Adds (lines tree store o.made name) p q → out ≡ p.out.now → p.at ≡ 0 → (p.out.ghost_name ≡ q.out.ghost_name → out' ≡ q.out.now)
+      → Lined name store tree out out' o (record { number = 0; section = 0; place = 0; written = q.at })
+  lined_fine z p q a e f g = fine z q.at (rw (← e, f) at (let_go out' a g))
+
 -- ---- all of it
 
-module _ (text name store tree out : Seq ℕ) (store₁ tree₁ : Seq ℕ) (rd : Read) (m : Answer Doc) (c : rooms.Cleared (zeros (length store)) (zeros (length tree)) store₁ tree₁ m rd)
+module _ (text name store tree out : Seq ℕ) (store₁ tree₁ : Seq ℕ) (rd : Result State AtLine) (m : Answer Doc) (c : rooms.Cleared (zeros (length store)) (zeros (length tree)) store₁ tree₁ m rd)
     (em : m ≡ rooms.judged text (length store) (length tree)) where
-  pub planned_fine : (st : State) (store' tree' out' : Seq ℕ) (r : Listed) → rd ≡ reads.Fine st → TreeListed name store₁ tree₁ st.made out store' tree' out' r
+  pub planned_fine : (st : State) (store' tree' out' : Seq ℕ) (r : Listed) → rd ≡ Ok st → TreeListed name store₁ tree₁ st.made out store' tree' out' r
       → Planned text name store tree out store' tree' out' r
   planned_fine st store' tree' out' r e h =
       record {
@@ -100,23 +108,23 @@ module _ (text name store tree out : Seq ℕ) (store₁ tree₁ : Seq ℕ) (rd :
         outcome = h.outcome;
         parsed = judged_on (planning name 0 []) text store tree store₁ tree₁ rd m c em st h.refusal store' tree' h.outcome e h.told h.kept;
         unread = λ f s n d.
-            let x : reads.Fine st ≡ rooms.read_of (refused f s n) = sym e ∙ c.told.says ∙ ap rooms.read_of (em ∙ d) in
+            let x : ◌≡◌ {A = Answer State} (accepted st) (rooms.read_of (refused f s n)) = sym (ap answer_of e) ∙ c.told.says ∙ ap rooms.read_of (em ∙ d) in
             let z : ◌≡◌ {A = ℕ} 0 1 = cc in
             absurd (omega arith);
         lined = λ d q. h.lined;
       }
 
-  pub planned_refused : (k n : ℕ) (o : Outcome) (out' : Seq ℕ) (r : Listed) → rd ≡ reads.Fault k n → o ≡ record { number = k; section = 0; place = n; made = 0 } → Emptied out out' o r
+  pub planned_refused : (v : AtLine) (o : Outcome) (out' : Seq ℕ) (r : Listed) → rd ≡ Err v → o ≡ record { number = number v.refused; section = 0; place = v.line; made = 0 } → Emptied out out' o r
       → Planned text name store tree out store₁ tree₁ out' r
-  planned_refused k n o out' r e d q =
-      let p : Parsed (planning name 0 []) text store tree store₁ tree₁ o = read_refused (planning name 0 []) text store tree store₁ tree₁ rd m c em k n o e d in
+  planned_refused v o out' r e d q =
+      let p : Parsed (planning name 0 []) text store tree store₁ tree₁ o = read_refused (planning name 0 []) text store tree store₁ tree₁ rd m c em v o e d in
       record {
         low = rw q.says p.small.place;
         outcome = o;
         parsed = p;
         unread = λ f s l u. q;
         lined = λ x u.
-            let y : reads.Fault k n ≡ rooms.read_of (accepted x) = sym e ∙ c.told.says ∙ ap rooms.read_of (em ∙ u) in
+            let y : ◌≡◌ {A = Answer State} (at_line (number v.refused) v.line) (rooms.read_of (accepted x)) = sym (ap answer_of e) ∙ c.told.says ∙ ap rooms.read_of (em ∙ u) in
             let z : ◌≡◌ {A = ℕ} 1 0 = cc in
             absurd (omega arith);
       }

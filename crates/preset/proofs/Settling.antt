@@ -5,13 +5,15 @@ use mathlib.Core.Path.{◌≡◌, sym, ap, subst, ◌∙◌}
 use native.Mathlib.Omega.{arith}
 use borrow.Author.Tests.{eq-eqb, ne_eqb}
 use lib.ListN.{length}
+use Rattle.std.specs.Prelude.{Result, Ok, Err}
 use Rattle.meaning.specs.Base.{zeros}
-use Rattle.meaning.specs.Refusal.{Answer, accepted, refused, number_of}
+use Rattle.meaning.specs.Numbered.{number}
+use Rattle.meaning.specs.Refusal.{Answer, accepted, refused, number_of, at_line}
 use Rattle.tree.specs.Doors.{Rooms}
 use Rattle.values.specs.declared.State.{State}
 use Rattle.values.specs.Doc.{Doc}
-use Rattle.toml_lite.specs.declared.Read.{Read}
-use Rattle.toml_lite.specs.declared.Read.TheVariants as reads
+use Rattle.text.specs.declared.AtLine.{AtLine}
+use Rattle.text.specs.Answers.{answer_of}
 use Rattle.toml_lite.specs.Rooms as rooms
 use Rattle.parse.specs.declared.Refusal.{Refusal}
 use Rattle.parse.specs.Verdict.{Told}
@@ -47,52 +49,53 @@ module _ (store tree : Seq ℕ) (made : ℕ) (v : Refusal) (h : Settling v made)
       record { says = rw (ne_eqb v.number 0 z); store_is = rw (ne_eqb v.number 0 z) s; tree_is = rw (ne_eqb v.number 0 z) t; small = record { place = h.place; made = omega arith } }
 
 -- ---- reading
-pub read_rooms : (store tree store' tree' : Seq ℕ) (m : Answer Doc) (r : Read) → rooms.Cleared store tree store' tree' m r → (st : State) → r ≡ reads.Fine st → Rooms tree' st.made
+pub read_rooms : (store tree store' tree' : Seq ℕ) (m : Answer Doc) (r : Result State AtLine) → rooms.Cleared store tree store' tree' m r → (st : State) → r ≡ Ok st → Rooms tree' st.made
 read_rooms store tree store' tree' (accepted d) r k st e =
-    let x : reads.Fine st ≡ rooms.read_of (accepted d) = sym e ∙ k.told.says in
+    let x : ◌≡◌ {A = Answer State} (accepted st) (rooms.read_of (accepted d)) = sym (ap answer_of e) ∙ k.told.says in
     let y : ◌≡◌ {A = State} st (record { used = length d.bytes; made = length d.slots }) = cc in
     let z : st.made ≡ length d.slots = ap (λ (q : State). q.made) y in
-    let s : rooms.Small 65536 (reads.Fine st) = rw e at k.told.small in
+    let s : rooms.Small 65536 (Ok st) = rw e at k.told.small in
     record { fits = record { fits = omega (arith, z, k.carried.fits) }; low = s.1 }
 read_rooms store tree store' tree' (refused f i q) r k st e =
-    let x : reads.Fine st ≡ reads.Fault (number_of f) q = sym e ∙ k.told.says in let z : ◌≡◌ {A = ℕ} 0 1 = cc in absurd (omega arith)
+    let x : ◌≡◌ {A = Answer State} (accepted st) (at_line (number_of f) q) = sym (ap answer_of e) ∙ k.told.says in let z : ◌≡◌ {A = ℕ} 0 1 = cc in absurd (omega arith)
 
 -- what a judge says of them can be told
-pub read_settles : (w v : Refusal) (store tree store' tree' : Seq ℕ) (m : Answer Doc) (r : Read) (st : State) → rooms.Cleared store tree store' tree' m r → r ≡ reads.Fine st → Told w v → Settling v st.made
+pub read_settles : (w v : Refusal) (store tree store' tree' : Seq ℕ) (m : Answer Doc) (r : Result State AtLine) (st : State) → rooms.Cleared store tree store' tree' m r → r ≡ Ok st → Told w v → Settling v st.made
 read_settles w v store tree store' tree' m r st k e t = record { place = t.low; few = (read_rooms store tree store' tree' m r k st e).low }
 
-module _ (judge : Seq ℕ → Seq ℕ → ℕ → Refusal) (text store tree store' tree' : Seq ℕ) (r : Read) (m : Answer Doc)
+module _ (judge : Seq ℕ → Seq ℕ → ℕ → Refusal) (text store tree store' tree' : Seq ℕ) (r : Result State AtLine) (m : Answer Doc)
     (c : rooms.Cleared (zeros (length store)) (zeros (length tree)) store' tree' m r) (em : m ≡ rooms.judged text (length store) (length tree)) where
-  read_on : (st : State) (store'' tree'' : Seq ℕ) (o : Outcome) → r ≡ reads.Fine st → Kept (judge tree' store' st.made) store' tree' st.made store'' tree'' o → Parsed judge text store tree store'' tree'' o
+  read_on : (st : State) (store'' tree'' : Seq ℕ) (o : Outcome) → r ≡ Ok st → Kept (judge tree' store' st.made) store' tree' st.made store'' tree'' o → Parsed judge text store tree store'' tree'' o
   read_on st store'' tree'' o e k = record { by = rw (← em) (go m c); small = k.small }
     where
       go : (n : Answer Doc) → rooms.Cleared (zeros (length store)) (zeros (length tree)) store' tree' n r → ReadBy judge n (zeros (length store)) (zeros (length tree)) store'' tree'' o
       go (accepted d) g =
-          let x : reads.Fine st ≡ rooms.read_of (accepted d) = sym e ∙ g.told.says in
+          let x : ◌≡◌ {A = Answer State} (accepted st) (rooms.read_of (accepted d)) = sym (ap answer_of e) ∙ g.told.says in
           let y : ◌≡◌ {A = State} st (record { used = length d.bytes; made = length d.slots }) = cc in
           let z : st.made ≡ length d.slots = ap (λ (q : State). q.made) y in
-          let s : rooms.Small 65536 (reads.Fine st) = rw e at g.told.small in
+          let s : rooms.Small 65536 (Ok st) = rw e at g.told.small in
           record { carries = rw (← g.tree_is) g.carried; few = omega (arith, z, s.1); kept = rw (← z, ← g.store_is, ← g.tree_is) k }
-      go (refused f i q) g = let x : reads.Fine st ≡ reads.Fault (number_of f) q = sym e ∙ g.told.says in let z : ◌≡◌ {A = ℕ} 0 1 = cc in absurd (omega arith)
+      go (refused f i q) g = let x : ◌≡◌ {A = Answer State} (accepted st) (at_line (number_of f) q) = sym (ap answer_of e) ∙ g.told.says in let z : ◌≡◌ {A = ℕ} 0 1 = cc in absurd (omega arith)
 
   -- what a judge says of the rooms, and what is left of them
-  pub judged_on : (st : State) (v : Refusal) (store'' tree'' : Seq ℕ) (o : Outcome) → r ≡ reads.Fine st → Told (judge tree' store' st.made) v → Kept v store' tree' st.made store'' tree'' o
+  pub judged_on : (st : State) (v : Refusal) (store'' tree'' : Seq ℕ) (o : Outcome) → r ≡ Ok st → Told (judge tree' store' st.made) v → Kept v store' tree' st.made store'' tree'' o
       → Parsed judge text store tree store'' tree'' o
   judged_on st v store'' tree'' o e t k = read_on st store'' tree'' o e (subst (λ (w : Refusal). Kept w store' tree' st.made store'' tree'' o) t.is k)
 
-  unread_by : (k l : ℕ) → r ≡ reads.Fault k l → Parsed judge text store tree store' tree' (record { number = k; section = 0; place = l; made = 0 })
-  unread_by k l e = let t : rooms.Small 65536 (reads.Fault k l) = rw e at c.told.small in record { by = rw (← em) (go m c); small = record { place = omega (arith, t); made = omega arith } }
+  unread_by : (v : AtLine) → r ≡ Err v → Parsed judge text store tree store' tree' (record { number = number v.refused; section = 0; place = v.line; made = 0 })
+  unread_by v e = let t : rooms.Small 65536 (Err v) = rw e at c.told.small in record { by = rw (← em) (go m c); small = record { place = omega (arith, t); made = omega arith } }
     where
       go : (n : Answer Doc) → rooms.Cleared (zeros (length store)) (zeros (length tree)) store' tree' n r
-          → ReadBy judge n (zeros (length store)) (zeros (length tree)) store' tree' (record { number = k; section = 0; place = l; made = 0 })
-      go (accepted d) g = let x : reads.Fault k l ≡ rooms.read_of (accepted d) = sym e ∙ g.told.says in let z : ◌≡◌ {A = ℕ} 0 1 = cc in absurd (omega arith)
+          → ReadBy judge n (zeros (length store)) (zeros (length tree)) store' tree' (record { number = number v.refused; section = 0; place = v.line; made = 0 })
+      go (accepted d) g = let x : ◌≡◌ {A = Answer State} (at_line (number v.refused) v.line) (rooms.read_of (accepted d)) = sym (ap answer_of e) ∙ g.told.says in let z : ◌≡◌ {A = ℕ} 0 1 = cc in absurd (omega arith)
       go (refused f i q) g =
-          let x : reads.Fault k l ≡ reads.Fault (number_of f) q = sym e ∙ g.told.says in
-          let u : k ≡ number_of f = cc in let w : l ≡ q = cc in
+          let x : ◌≡◌ {A = Answer State} (at_line (number v.refused) v.line) (at_line (number_of f) q) = sym (ap answer_of e) ∙ g.told.says in
+          let u : number v.refused ≡ number_of f = cc in let w : v.line ≡ q = cc in
           (rw (u, w, g.told.text), g.store_is, g.tree_is)
 
-  pub read_refused : (k l : ℕ) (o : Outcome) → r ≡ reads.Fault k l → o ≡ record { number = k; section = 0; place = l; made = 0 } → Parsed judge text store tree store' tree' o
-  read_refused k l o e eo = rw eo (unread_by k l e)
+  pub read_refused : (v : AtLine) (o : Outcome) → r ≡ Err v → o ≡ record { number = number v.refused; section = 0; place = v.line; made = 0 }
+      → Parsed judge text store tree store' tree' o
+  read_refused v o e eo = rw eo (unread_by v e)
 
 -- two results that meet the promise of a judge are equal, answer and both rooms
 pub parsed_decides : (judge : Seq ℕ → Seq ℕ → ℕ → Refusal) (text store tree store₁ tree₁ store₂ tree₂ : Seq ℕ) (r₁ r₂ : Outcome) → Parsed judge text store tree store₁ tree₁ r₁

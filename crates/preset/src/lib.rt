@@ -9,12 +9,14 @@ pub mod reading;
 pub mod validating;
 
 ghost use Rattle.std.specs.Prelude.{◌≡◌};
-ghost use Rattle.tree.specs.Doors.{Rooms};
+ghost use Rattle.meaning.specs.Numbered.{number};
+ghost use Rattle.tree.specs.Both.{on};
 ghost use Rattle.parse.specs.Verdict.{Told};
 ghost use Rattle.preset.specs.Settled.{Settling, Kept, Parsed, judge_of};
 
 use parse::Refusal;
-use toml_lite::Read;
+use text::AtLine;
+use tree::Rooms;
 
 // What a text comes to: number 0 and the count of values made; or 01's number, section and place.
 #[derive(Clone, Copy)]
@@ -35,13 +37,13 @@ pub enum Way {
 }
 
 // A text that has no tree.
-pub fn refused_at_line(number: u32, line: usize) -> Outcome
-    ensures { result ≡ record { number = number; section = 0; place = line; made = 0 } }
+pub fn refused_at_line(e: AtLine) -> Outcome
+    ensures { result ≡ record { number = number e.refused; section = 0; place = e.line; made = 0 } }
 {
     Outcome {
-        number,
+        number: e.refused.number(),
         section: 0,
-        place: line,
+        place: e.line,
         made: 0,
     }
 }
@@ -70,15 +72,13 @@ pub fn clear_if_refused(v: Refusal, store: &mut [u8], tree: &mut [u8], made: usi
 }
 
 // What a way's judge says of rooms that hold a tree.
-fn judge_rooms(way: Way, tree: &[u8], store: &[u8], made: usize, name: &[u8], key: &[u8]) -> Refusal
-    requires { Rooms tree.now made }
-    ensures { Told
-        (judge_of way name.now key.now tree.now store.now made) result }
+fn judge_rooms(way: Way, rooms: Rooms<'_>, name: &[u8], key: &[u8]) -> Refusal
+    ensures { Told (on (judge_of way name.now key.now) rooms.entry) result }
 {
     match way {
-        Way::Read => parse::judge_records(tree, store, made, name),
-        Way::Validate => validate::judge_rules(tree, store, made, name),
-        Way::Plan(app) => plan::judge_selection(tree, store, made, name, app, key),
+        Way::Read => parse::judge_records(rooms, name),
+        Way::Validate => validate::judge_rules(rooms, name),
+        Way::Plan(app) => plan::judge_selection(rooms, name, app, key),
     }
 }
 
@@ -94,12 +94,16 @@ pub fn judge_text(
     ensures { Parsed (judge_of way name.now key.now) text.now
         store.old tree.old store.new tree.new result }
 {
-    let r = toml_lite::read_tree(text, store, tree);
-    match r {
-        Read::Fine(st) => {
-            let v = judge_rooms(way, tree, store, st.made, name, key);
+    match toml_lite::read_tree(text, store, tree) {
+        Ok(st) => {
+            let rooms = Rooms {
+                tree,
+                store,
+                made: st.made,
+            };
+            let v = judge_rooms(way, rooms, name, key);
             clear_if_refused(v, store, tree, st.made)
         }
-        Read::Fault { number, line } => refused_at_line(number, line),
+        Err(e) => refused_at_line(e),
     }
 }

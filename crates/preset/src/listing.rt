@@ -2,12 +2,13 @@
 
 ghost use Rattle.std.specs.Prelude.{◌≡◌, length};
 ghost use Rattle.meaning.specs.Listing as meant;
-ghost use Rattle.tree.specs.Doors.{Rooms};
+ghost use Rattle.tree.specs.Doors as doors;
 ghost use Rattle.preset.specs.Listings as listings;
 ghost use Rattle.preset.specs.Listings.{Emptied, Lined, Planned, Lists};
 
 use crate::Outcome;
-use toml_lite::Read;
+use page::Page;
+use tree::Rooms;
 
 // An output of so many bytes, and two for each of the lent name, takes every listing.
 pub const LISTING_BYTES: usize = 142848;
@@ -58,12 +59,18 @@ fn list(o: Outcome, store: &[u8], tree: &[u8], out: &mut [u8], name: &[u8]) -> L
     if o.number != 0 {
         return unlisted(o, out);
     }
-    let n = report::lines(out, 0, tree, store, o.made, name);
+    let mut page = Page { out, at: 0 };
+    let rooms = Rooms {
+        tree,
+        store,
+        made: o.made,
+    };
+    report::lines(&mut page, rooms, name);
     Listed {
         number: 0,
         section: 0,
         place: 0,
-        written: n,
+        written: page.at,
     }
 }
 
@@ -85,11 +92,12 @@ fn no_room(store: &mut [u8], tree: &mut [u8], out: &mut [u8]) -> Listed
 
 // The listing of a tree that was read.
 fn list_tree(name: &[u8], store: &mut [u8], tree: &mut [u8], out: &mut [u8], made: usize) -> Listed
-    requires { Rooms tree.old made }
+    requires { doors.Rooms tree.old made }
     ensures { listings.TreeListed name.now store.old tree.old made
         out.old store.new tree.new out.new result }
 {
-    let v = plan::judge_selection(tree, store, made, name, 0, b"");
+    let rooms = Rooms { tree, store, made };
+    let v = plan::judge_selection(rooms, name, 0, b"");
     let o = crate::clear_if_refused(v, store, tree, made);
     list(o, store, tree, out, name)
 }
@@ -99,10 +107,9 @@ fn list_text(text: &[u8], name: &[u8], store: &mut [u8], tree: &mut [u8], out: &
     ensures { Planned text.now name.now store.old tree.old
         out.old store.new tree.new out.new result }
 {
-    let r = toml_lite::read_tree(text, store, tree);
-    match r {
-        Read::Fine(st) => list_tree(name, store, tree, out, st.made),
-        Read::Fault { number, line } => unlisted(crate::refused_at_line(number, line), out),
+    match toml_lite::read_tree(text, store, tree) {
+        Ok(st) => list_tree(name, store, tree, out, st.made),
+        Err(e) => unlisted(crate::refused_at_line(e), out),
     }
 }
 

@@ -5,11 +5,11 @@ use mathlib.Core.Path.{◌≡◌}
 use Rattle.meaning.specs.Base.{ascii}
 use Rattle.tree.specs.declared.Value.{Value}
 use Rattle.tree.specs.Doors.{value_at}
-use Rattle.schema.specs.declared.KindRead.{KindRead}
 use Rattle.schema.specs.declared.Text.{Text}
 use Rattle.schema.specs.declared.Text.TheVariants as texts
 use Rattle.schema.specs.declared.Word.TheVariants as words
 use Rattle.schema.specs.Texts.{or_text}
+use Rattle.parse.specs.declared.field.KindRead.{KindRead}
 use Rattle.parse.specs.declared.field.TextRead.{TextRead}
 use Rattle.parse.specs.declared.front.TableRead.{TableRead}
 use Rattle.parse.specs.Fields.{text_at, kind_at}

@@ -1,10 +1,9 @@
 -- Level 2 of the listing: its lines, by what stands in the rooms.
-use Rattle.std.specs.Prelude.{ℕ, ◌+◌, List as Seq, [], ◌∷◌, ◌++◌, map, ◌≡◌, length}
+use Rattle.std.specs.Prelude.{ℕ, ◌+◌, List as Seq, [], ◌∷◌, ◌++◌, map, ◌≡◌, length, None}
 use Rattle.meaning.specs.Base.{concat}
 use Rattle.meaning.specs.Print.{of_word, of_number, of_text, wordOk, wordPart, wordComp, wordApp, wordBuild, spaced, unended, ended}
 use Rattle.meaning.specs.Listing as meant
 use Rattle.meaning.specs.Listing.{chip_named, media_named, kind_named, lock_named, placed}
-use Rattle.tree.specs.declared.Found.TheVariants.{Nothing}
 use Rattle.tree.specs.Doors.{Rooms, items}
 use Rattle.schema.specs.declared.Chip.{Chip}
 use Rattle.schema.specs.declared.Media.{Media}
@@ -14,6 +13,7 @@ use Rattle.schema.specs.declared.Component.{Component}
 use Rattle.schema.specs.declared.Application.{Application}
 use Rattle.schema.specs.Words.{chip_meant, media_meant, kind_meant}
 use Rattle.schema.specs.Texts.{clip, spelled}
+use Rattle.parse.specs.declared.view.Lists.{Lists}
 use Rattle.parse.specs.Entries.{partition_at, component_at, application_at, walk}
 use Rattle.parse.specs.Views.{partition_list, component_list, application_list, lists_of, counts_of, device_of}
 use Rattle.parse.specs.Meant.{feature_list}
@@ -21,7 +21,6 @@ use Rattle.plan.specs.declared.component.Build.{Build}
 use Rattle.plan.specs.declared.choice.Choice.TheVariants.{BootChain}
 use Rattle.plan.specs.Builds.{builds_of}
 use Rattle.plan.specs.Stems as stems
-use Rattle.report.specs.declared.Placed.{Placed}
 use Rattle.report.specs.declared.brief.ComponentBrief.{ComponentBrief}
 use Rattle.report.specs.declared.brief.ApplicationBrief.{ApplicationBrief}
 
@@ -59,9 +58,9 @@ abbrev pub each : {X : Type 0} → (X → Seq ℕ) → Seq X → Seq ℕ
 each f xs = concat (map f xs)
 
 -- a preset's lists stand in the rooms
-pub record Stands (room store : Seq ℕ) (p : Placed) : Type 0 where
-  pub rooms : Rooms room p.made
-  pub lists : p.lists ≡ lists_of room store p.made
+pub record Stands (room store : Seq ℕ) (made : ℕ) (lists : Lists) : Type 0 where
+  pub rooms : Rooms room made
+  pub found : lists ≡ lists_of room store made
 
 module _ (room store : Seq ℕ) (made : ℕ) where
   -- how many entries there are, and values made
@@ -97,7 +96,7 @@ module _ (room store : Seq ℕ) (made : ℕ) where
     comps = each comp_at (items room (component_list room store made).end (component_list room store made).place 0)
 
     abbrev pub apps : Seq ℕ
-    apps = each app_at (walk room store (application_list room store made).end (application_list room store made).place 65 Nothing)
+    apps = each app_at (walk room store (application_list room store made).end (application_list room store made).place 65 None)
 
     abbrev pub builds : Seq ℕ
     builds = each build_of (builds_of room store made BootChain)

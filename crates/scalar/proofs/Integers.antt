@@ -1,53 +1,42 @@
 -- Integers: what each loop keeps, and one law for each way on and out.
-use Prim.Native.Nat.{ℕ, zero, suc, ◌+◌, ◌-◌, ◌*◌, ◌/◌, ◌≤◌, ◌<◌}
+use Prim.Native.Nat.{ℕ, zero, suc, ◌+◌, ◌*◌, ◌≤◌, ◌<◌}
 use mathlib.Core.Bool.{Bool, true, false}
 use mathlib.Core.List.{List, [], ◌∷◌}
 use mathlib.Core.Path.{◌≡◌, refl, sym, ap, ◌∙◌}
-use native.Mathlib.Nat.{div-lt_iff_lt-mul, le-div_iff_mul-le}
 use native.Mathlib.Omega.{arith}
 use native.Mathlib.Numerals.{add-one}
-use borrow.Author.Tests.{eq-eqb, ne_eqb, le-ltb, lt-ltb, le-leb, lt-leb, leb-false, ltb-true, ltb-false}
-use lib.Dec.{ltb, leb}
+use borrow.Author.Tests.{eq-eqb, eqb-true, ne_eqb, le-ltb, lt-ltb, le-leb, lt-leb, leb-false, ltb-true, ltb-false}
+use lib.Dec.{eqb, ltb, leb}
 use lib.ListN.{length, get_or, drop, drop_of_length-le}
 use lib.Seq.{drop-cons}
+use Rattle.std.specs.Prelude.{Option, Some, None, Result, Ok, Err, not, ◌==◌, position}
+use Rattle.std.specs.Option.{is_some, ok_or}
+use Rattle.std.specs.List.{position_or_len}
+use Rattle.std.proofs.lemmas.List.Sums.{fails_before_first, passes_at_first}
 use Rattle.meaning.specs.Base.{nil?}
 use Rattle.meaning.specs.Refusal.{R, ok, bad, ok_then}
 use Rattle.meaning.specs.Integers.{digit, value, clean, most, within, magnitude, sign, body, signed}
 use Rattle.laws.specs.Cases.{on, picked}
-use Rattle.scalar.specs.Ints.{int_of, digits_of, more, Skipped, Passed}
-use Rattle.scalar.specs.declared.integer.Int.{Int}
-use Rattle.scalar.specs.declared.integer.Int.TheVariants.{Value, Wrong}
-use Rattle.scalar.specs.declared.integer.Digits.{Digits}
-use Rattle.scalar.specs.declared.integer.Digits.TheVariants.{Count, Stray}
+use Rattle.meaning.specs.Numbered.{number}
+use Rattle.meaning.specs.declared.Refused.{Refused}
+use Rattle.meaning.specs.declared.Refused.TheVariants.{NotAnInteger}
+use Rattle.meaning.specs.declared.Signed.{Signed}
+use Rattle.scalar.specs.Ints.{digits_of, more}
 
--- ---- one digit more: what the quotient tells
-module _ (base limit acc d : ℕ) (h : d < base) where
-  based : 0 < base
-  based = omega arith
-
-  over : limit / base < acc → limit < acc * base + d
-  over l = omega (arith, (div-lt_iff_lt-mul based).0 l)
-
-  pub under : acc ≤ limit / base → acc * base ≤ limit
-  under l = (le-div_iff_mul-le based).0 l
-
-module _ (base limit acc b d : ℕ) (e : d ≡ digit b) where
-  pub more_stray : base ≤ d → digits_of Stray ≡ more base limit acc b
+-- ---- one digit more
+module _ (base limit acc b : ℕ) where
+  pub more_stray : base ≤ digit b → bad 12 ≡ more base limit acc b
   unfolding more
-  more_stray h = rw (← e, le-leb base d h)
+  more_stray h = rw (le-leb base (digit b) h)
 
-  module _ (h : d < base) where
-    pub more_over : limit / base < acc → digits_of Stray ≡ more base limit acc b
-    unfolding more
-    more_over l = rw (← e, lt-leb base d h, lt-ltb limit (acc * base + d) (over base limit acc d h l))
+  pub more_over : limit < acc * base + digit b → bad 12 ≡ more base limit acc b
+  unfolding more
+  more_over h =
+      on (leb base (digit b)) (λ p. rw p) (λ p. rw (p, lt-ltb limit (acc * base + digit b) h))
 
-    pub more_big : acc ≤ limit / base → limit - acc * base < d → digits_of Stray ≡ more base limit acc b
-    unfolding more
-    more_big l k = rw (← e, lt-leb base d h, lt-ltb limit (acc * base + d) (omega (arith, under base limit acc d h l)))
-
-    pub more_fits : acc ≤ limit / base → d ≤ limit - acc * base → digits_of (Count (acc * base + d)) ≡ more base limit acc b
-    unfolding more
-    more_fits l k = rw (← e, lt-leb base d h, le-ltb limit (acc * base + d) (omega (arith, under base limit acc d h l)))
+  pub more_fits : digit b < base → acc * base + digit b ≤ limit → ok (acc * base + digit b) ≡ more base limit acc b
+  unfolding more
+  more_fits h k = rw (lt-leb base (digit b) h, le-ltb limit (acc * base + digit b) k)
 
 -- ---- digits over the limit stay over it
 grows : (base acc : ℕ) → 0 < base → acc ≤ acc * base
@@ -93,150 +82,179 @@ within_le limit n (bad k) = λ e. let z : ◌≡◌ {A = ℕ} 0 1 = cc in omega 
 
 -- ---- without underscores, from i on
 module _ (s : List ℕ) (i : ℕ) (h : i < length s) where
-  pub clean_over : get_or s i 0 ≡ 95 → clean (drop i s) ≡ clean (drop (i + 1) s)
+  clean_over : get_or s i 0 ≡ 95 → clean (drop i s) ≡ clean (drop (i + 1) s)
   clean_over e = rw (drop-cons s i 0 h, add-one, eq-eqb (get_or s i 0) 95 e)
 
-  pub clean_on : (get_or s i 0 ≡ 95 → ⊥) → clean (drop i s) ≡ get_or s i 0 ∷ clean (drop (i + 1) s)
+  clean_on : (get_or s i 0 ≡ 95 → ⊥) → clean (drop i s) ≡ get_or s i 0 ∷ clean (drop (i + 1) s)
   clean_on e = rw (drop-cons s i 0 h, add-one, ne_eqb (get_or s i 0) 95 e)
 
--- ---- the digits
-pub record Counting (s : List ℕ) (base limit from i acc : ℕ) : Type 0 where
-  pub high : i ≤ length s
+-- ---- past underscores
+abbrev pub is_other : ℕ → Bool
+is_other b = not (b == 95)
+
+underscore_of : (b : ℕ) → is_other b ≡ false → b ≡ 95
+underscore_of b e = on (eqb b 95) (λ t. eqb-true b 95 t) (λ t. let z : ◌≡◌ {A = Bool} true false = rw t at e in cc)
+
+other_of : (b : ℕ) → is_other b ≡ true → b ≡ 95 → ⊥
+other_of b e q = let z : ◌≡◌ {A = Bool} false true = rw (eq-eqb b 95 q) at e in cc
+
+clean_none : (s : List ℕ) → ((k : ℕ) → k < length s → get_or s k 0 ≡ 95) → clean s ≡ []
+clean_none [] h = refl
+clean_none (b ∷ s) h = rw (eq-eqb b 95 (h 0 (omega arith))) (clean_none s (λ k l. h (suc k) (omega arith)))
+
+clean_first : (s : List ℕ) (i : ℕ) → i < length s → ((k : ℕ) → k < i → get_or s k 0 ≡ 95) → (get_or s i 0 ≡ 95 → ⊥)
+    → clean s ≡ get_or s i 0 ∷ clean (drop (i + 1) s)
+clean_first [] i l h n = absurd (omega arith)
+clean_first (b ∷ s) zero l h n = rw (ne_eqb b 95 n)
+clean_first (b ∷ s) (suc i) l h n =
+    let z : suc i + 1 ≡ suc (i + 1) = omega arith in
+    rw (eq-eqb b 95 (h 0 (omega arith)), z) (clean_first s i (omega arith) (λ k m. h (suc k) (omega arith)) n)
+
+module _ (s : List ℕ) where
+  first : ℕ
+  first = position_or_len is_other s
+
+  before_first : (k : ℕ) → k < first → get_or s k 0 ≡ 95
+  unfolding first
+  before_first k h = underscore_of (get_or s k 0) (fails_before_first is_other s k 0 h)
+
+  pub none_left : position is_other s ≡ None → clean s ≡ []
+  unfolding first
+  none_left e =
+      on (ltb first (length s))
+      (λ t. let z : ◌≡◌ {A = Option ℕ} (Some first) None = rw t at e in cc)
+      (λ t. clean_none s (λ k h. before_first k (omega (arith, ltb-false first (length s) t))))
+
+  pub first_left : (i : ℕ) → position is_other s ≡ Some i → (i < length s) × (clean s ≡ get_or s i 0 ∷ clean (drop (i + 1) s))
+  unfolding first
+  first_left i e =
+      on (ltb first (length s))
+      (λ t.
+      let z : Some first ≡ Some i = rw t at e in
+      let q : first ≡ i = cc in
+      let l : first < length s = ltb-true first (length s) t in
+      rw (← q) (l, clean_first s first l before_first (other_of (get_or s first 0) (passes_at_first is_other s 0 l))))
+      (λ t. let z : None ≡ Some i = rw t at e in cc)
+
+  pub some_left : is_some (position is_other s) ≡ true → nil? (clean s) ≡ false
+  some_left e = go (position is_other s) e first_left
+    where
+      go : (o : Option ℕ) → is_some o ≡ true → ((i : ℕ) → o ≡ Some i → (i < length s) × (clean s ≡ get_or s i 0 ∷ clean (drop (i + 1) s)))
+          → nil? (clean s) ≡ false
+      go (Some i) q f = rw (f i refl).1
+      go None q f = cc
+
+  pub no_some_left : is_some (position is_other s) ≡ false → clean s ≡ []
+  no_some_left e = go (position is_other s) e none_left
+    where
+      go : (o : Option ℕ) → is_some o ≡ false → (o ≡ None → clean s ≡ []) → clean s ≡ []
+      go None q f = f refl
+      go (Some i) q f = cc
+
+-- ---- the digits: those before i have the value acc
+pub record Counting (s : List ℕ) (base limit i acc : ℕ) : Type 0 where
   pub small : acc ≤ limit
-  pub left : within limit (value base acc (clean (drop i s))) ≡ within limit (value base 0 (clean (drop from s)))
+  pub left : within limit (value base acc (clean (drop i s))) ≡ within limit (value base 0 (clean s))
 
-pub count_start : (s : List ℕ) (base limit from : ℕ) → from ≤ length s → Counting s base limit from from 0
-count_start s base limit from h = record { high = h; small = omega arith; left = refl }
+pub count_start : (s : List ℕ) (base limit : ℕ) → Counting s base limit 0 0
+count_start s base limit = record { small = omega arith; left = refl }
 
-module _ (s : List ℕ) (base limit from i acc : ℕ) (a : Counting s base limit from i acc) where
-  pub count_over : i < length s → get_or s i 0 ≡ 95 → Counting s base limit from (i + 1) acc
-  count_over h e = record { high = omega arith; small = a.small; left = rw (clean_over s i h e) at a.left }
+module _ (s : List ℕ) (base limit i acc : ℕ) (a : Counting s base limit i acc) where
+  pub count_over : i < length s → get_or s i 0 ≡ 95 → Counting s base limit (i + 1) acc
+  count_over h e = record { small = a.small; left = rw (clean_over s i h e) at a.left }
 
-  module _ (h : i < length s) (n : get_or s i 0 ≡ 95 → ⊥) (r : Digits) (e : digits_of r ≡ more base limit acc (get_or s i 0)) where
-    told : within limit (value base 0 (clean (drop from s))) ≡ ok_then (digits_of r) (λ v. within limit (value base v (clean (drop (i + 1) s))))
+  module _ (h : i < length s) (n : get_or s i 0 ≡ 95 → ⊥) (r : Option ℕ) (e : digits_of r ≡ more base limit acc (get_or s i 0)) where
+    told : within limit (value base 0 (clean s)) ≡ ok_then (digits_of r) (λ v. within limit (value base v (clean (drop (i + 1) s))))
     told =
         sym a.left
         ∙ ap (λ (t : List ℕ). within limit (value base acc t)) (clean_on s i h n)
         ∙ value_more base limit acc (get_or s i 0) (clean (drop (i + 1) s))
         ∙ ap (λ (d : R ℕ). ok_then d (λ v. within limit (value base v (clean (drop (i + 1) s))))) (sym e)
 
-    pub count_on : (v : ℕ) → r ≡ Count v → Counting s base limit from (i + 1) v
+    pub count_on : (v : ℕ) → r ≡ Some v → Counting s base limit (i + 1) v
     count_on v f =
         record {
-          high = omega arith;
           small = more_le base limit acc (get_or s i 0) v (sym e ∙ ap digits_of f);
           left = sym (rw f at told);
         }
 
-    pub count_stop : r ≡ Stray → digits_of Stray ≡ within limit (value base 0 (clean (drop from s)))
+    pub count_stop : r ≡ None → bad 12 ≡ within limit (value base 0 (clean s))
     count_stop f = sym (rw f at told)
 
-  pub count_end : length s ≤ i → digits_of (Count acc) ≡ within limit (value base 0 (clean (drop from s)))
+  pub count_end : length s ≤ i → ok acc ≡ within limit (value base 0 (clean s))
   unfolding within
   count_end h =
       let t : within limit (value base acc (clean (drop i s))) ≡ ok acc = rw (drop_of_length-le s h, le-ltb limit acc a.small) in
       sym t ∙ a.left
 
--- ---- past underscores
-pub record Skipping (s : List ℕ) (i r : ℕ) : Type 0 where
-  pub high : r ≤ length s
-  pub left : clean (drop r s) ≡ clean (drop i s)
-
-pub skip_start : (s : List ℕ) (i : ℕ) → i ≤ length s → Skipping s i i
-skip_start s i h = record { high = h; left = refl }
-
-module _ (s : List ℕ) (i r : ℕ) (a : Skipping s i r) where
-  pub skip_on : r < length s → get_or s r 0 ≡ 95 → Skipping s i (r + 1)
-  skip_on h e = record { high = omega arith; left = sym (clean_over s r h e) ∙ a.left }
-
-  pub skip_stop : (get_or s r 0 ≡ 95 → ⊥) → Skipped s i r
-  skip_stop e = record { high = a.high; same = a.left; none = λ _. e }
-
-  pub skip_end : length s ≤ r → Skipped s i r
-  skip_end h = record { high = a.high; same = a.left; none = λ k _. omega arith }
-
--- ---- the first byte that is no underscore
-module _ (s : List ℕ) (i r : ℕ) (k : Skipped s i r) where
-  full : r < length s → clean (drop i s) ≡ get_or s r 0 ∷ clean (drop (r + 1) s)
-  full h = sym k.same ∙ clean_on s r h (k.none h)
-
-  bare : length s ≤ r → clean (drop i s) ≡ []
-  bare h = sym k.same ∙ rw (drop_of_length-le s h)
-
-  pub first_in : r < length s → get_or s r 0 ≡ get_or (clean (drop i s)) 0 0
-  first_in h = rw (full h)
-
-  pub first_out : length s ≤ r → 0 ≡ get_or (clean (drop i s)) 0 0
-  first_out h = rw (bare h)
-
-  pub past_in : r < length s → Passed s i (r + 1)
-  past_in h = record { high = omega arith; rest = rw (full h) }
-
-  pub past_out : length s ≤ r → Passed s i r
-  past_out h = record { high = k.high; rest = k.same ∙ rw (bare h) }
-
-  -- ---- at least one digit
-  pub none_left : (base : ℕ) (neg : Bool) → r ≡ length s → int_of Wrong ≡ magnitude neg base (clean (drop i s))
+-- ---- at least one digit
+module _ (s : List ℕ) (neg : Bool) (base : ℕ) where
+  pub no_digit_left : clean s ≡ [] → bad 12 ≡ magnitude neg base (clean s)
   unfolding magnitude
-  none_left base neg h = rw (bare (omega arith))
+  no_digit_left e = rw e
 
-  module _ (h : r ≡ length s → ⊥) where
-    some_left : nil? (clean (drop i s)) ≡ false
-    some_left = rw (full (omega (arith, k.high)))
+  -- d is what the digits count, and r the same or the refusal
+  module _ (h : nil? (clean s) ≡ false) (m : ℕ) (e : m ≡ most neg) (d : Option ℕ) (f : digits_of d ≡ within m (value base 0 (clean s)))
+      (r : Result ℕ Refused) (g : r ≡ ok_or d NotAnInteger) where
+    told_by : ok_then (digits_of d) (λ n. ok (record { neg = neg; mag = n })) ≡ magnitude neg base (clean s)
+    unfolding magnitude
+    told_by = rw (h, ← e, ← f)
 
-    module _ (base m : ℕ) (neg : Bool) (d : Digits) (e : m ≡ most neg) (f : digits_of d ≡ within m (value base 0 (clean (drop i s)))) where
-      pub number : (n : ℕ) → d ≡ Count n → int_of (Value (record { neg = neg; mag = n })) ≡ magnitude neg base (clean (drop i s))
-      unfolding magnitude
-      number n g = rw (some_left, ← e, ← f, g)
+    pub number_there : (n : ℕ) → r ≡ Ok n → ok (record { neg = neg; mag = n }) ≡ magnitude neg base (clean s)
+    number_there n q = rw (go d (sym q ∙ g)) at told_by
+      where
+        go : (d : Option ℕ) → Ok n ≡ ok_or d NotAnInteger → d ≡ Some n
+        go (Some k) z = let w : n ≡ k = cc in rw w
+        go None z = cc
 
-      pub no_number : d ≡ Stray → int_of Wrong ≡ magnitude neg base (clean (drop i s))
-      unfolding magnitude
-      no_number g = rw (some_left, ← e, ← f, g)
+    pub no_number : (n : Refused) → r ≡ Err n → bad (number n) ≡ magnitude neg base (clean s)
+    no_number n q = let p : (d ≡ None) × (n ≡ NotAnInteger) = go d (sym q ∙ g) in rw p.1 (rw p.0 at told_by)
+      where
+        go : (d : Option ℕ) → Err n ≡ ok_or d NotAnInteger → (d ≡ None) × (n ≡ NotAnInteger)
+        go (Some k) z = (cc, cc)
+        go None z = (refl, cc)
 
 -- ---- an optional sign
-module _ (s : List ℕ) (i base b : ℕ) (x : Int) (e : b ≡ get_or (clean (drop i s)) 0 0) where
-  pub sign_minus : (j : ℕ) → Passed s i j → b ≡ 45 → int_of x ≡ magnitude true base (clean (drop j s)) → int_of x ≡ sign base (clean (drop i s))
-  unfolding sign
-  sign_minus j p h q = rw (← e, eq-eqb b 45 h, ← p.rest) q
+pub no_sign : (base : ℕ) → bad 12 ≡ sign base []
+unfolding sign magnitude
+no_sign base = refl
 
-  pub sign_plus : (j : ℕ) → Passed s i j → (b ≡ 45 → ⊥) → b ≡ 43 → int_of x ≡ magnitude false base (clean (drop j s))
-      → int_of x ≡ sign base (clean (drop i s))
+module _ (s : List ℕ) (base b : ℕ) (t : List ℕ) (h : clean s ≡ b ∷ t) (x : R Signed) where
+  pub sign_minus : b ≡ 45 → x ≡ magnitude true base t → x ≡ sign base (clean s)
   unfolding sign
-  sign_plus j p m h q = rw (← e, ne_eqb b 45 m, eq-eqb b 43 h, ← p.rest) q
+  sign_minus e q = rw (h, eq-eqb b 45 e) q
 
-  pub sign_none : (b ≡ 45 → ⊥) → (b ≡ 43 → ⊥) → int_of x ≡ magnitude false base (clean (drop i s)) → int_of x ≡ sign base (clean (drop i s))
+  pub sign_plus : b ≡ 43 → x ≡ magnitude false base t → x ≡ sign base (clean s)
   unfolding sign
-  sign_none m h q = rw (← e, ne_eqb b 45 m, ne_eqb b 43 h) q
+  sign_plus e q = let n : eqb b 45 ≡ false = ne_eqb b 45 (λ z. omega arith) in rw (h, n, eq-eqb b 43 e) q
+
+  pub sign_none : (b ≡ 45 → ⊥) → (b ≡ 43 → ⊥) → x ≡ magnitude false base (clean s) → x ≡ sign base (clean s)
+  unfolding sign
+  sign_none m n q = let z : x ≡ magnitude false base (b ∷ t) = rw h at q in rw (h, ne_eqb b 45 m, ne_eqb b 43 n) z
 
 -- ---- the base
-second : (l : List ℕ) → get_or l 1 0 ≡ get_or (drop 1 l) 0 0
-second [] = refl
-second (x ∷ l) = refl
+pub short_ten : (s : List ℕ) → clean s ≡ [] → signed s ≡ sign 10 (clean s)
+unfolding body signed
+short_ten s e = rw e
 
-twice : (l : List ℕ) → drop 2 l ≡ drop 1 (drop 1 l)
-twice [] = refl
-twice (x ∷ l) = refl
-
-module _ (s : List ℕ) (j k a b : ℕ) (x : Int) (ea : a ≡ get_or (clean (drop 0 s)) 0 0) (p : Passed s 0 j)
-    (eb : b ≡ get_or (clean (drop j s)) 0 0) (q : Passed s j k) where
-  ec : b ≡ get_or (clean s) 1 0
-  ec = eb ∙ ap (λ (l : List ℕ). get_or l 0 0) p.rest ∙ sym (second (clean s))
-
-  ed : drop 2 (clean s) ≡ clean (drop k s)
-  ed = twice (clean s) ∙ ap (λ (l : List ℕ). drop 1 l) (sym p.rest) ∙ sym q.rest
-
-  pub hex_small : a ≡ 48 → b ≡ 120 → int_of x ≡ sign 16 (clean (drop k s)) → int_of x ≡ signed s
+module _ (s : List ℕ) (a : ℕ) (t : List ℕ) (h : clean s ≡ a ∷ t) where
+  pub other_ten : (a ≡ 48 → ⊥) → signed s ≡ sign 10 (clean s)
   unfolding body signed
-  hex_small f g e = rw (← ea, ← ec, eq-eqb a 48 f, eq-eqb b 120 g, ed) e
+  other_ten e = rw (h, ne_eqb a 48 e)
 
-  pub hex_large : a ≡ 48 → (b ≡ 120 → ⊥) → b ≡ 88 → int_of x ≡ sign 16 (clean (drop k s)) → int_of x ≡ signed s
+  pub one_ten : t ≡ [] → signed s ≡ sign 10 (clean s)
   unfolding body signed
-  hex_large f m g e = rw (← ea, ← ec, eq-eqb a 48 f, ne_eqb b 120 m, eq-eqb b 88 g, ed) e
+  one_ten e = on (eqb a 48) (λ p. rw (h, e, p)) (λ p. rw (h, e, p))
 
-  pub zero_first : a ≡ 48 → (b ≡ 120 → ⊥) → (b ≡ 88 → ⊥) → int_of x ≡ sign 10 (clean (drop 0 s)) → int_of x ≡ signed s
-  unfolding body signed
-  zero_first f m g e = rw (← ea, ← ec, eq-eqb a 48 f, ne_eqb b 120 m, ne_eqb b 88 g) e
+  module _ (x : ℕ) (u : List ℕ) (g : t ≡ x ∷ u) where
+    pub plain_ten : (x ≡ 120 → ⊥) → (x ≡ 88 → ⊥) → signed s ≡ sign 10 (clean s)
+    unfolding body signed
+    plain_ten e f = on (eqb a 48) (λ p. rw (h, g, p, ne_eqb x 120 e, ne_eqb x 88 f)) (λ p. rw (h, g, p))
 
-  pub no_zero : (a ≡ 48 → ⊥) → int_of x ≡ sign 10 (clean (drop 0 s)) → int_of x ≡ signed s
-  unfolding body signed
-  no_zero f e = rw (← ea, ne_eqb a 48 f) e
+    pub small_hex : a ≡ 48 → x ≡ 120 → signed s ≡ sign 16 u
+    unfolding body signed
+    small_hex e f = rw (h, g, eq-eqb a 48 e, eq-eqb x 120 f)
+
+    pub large_hex : a ≡ 48 → x ≡ 88 → signed s ≡ sign 16 u
+    unfolding body signed
+    large_hex e f = let n : eqb x 120 ≡ false = ne_eqb x 120 (λ z. omega arith) in rw (h, g, eq-eqb a 48 e, n, eq-eqb x 88 f)

@@ -7,6 +7,9 @@ use native.Mathlib.Nat.{add-zero}
 use native.Mathlib.Numerals.{add-one}
 use lib.ListN.{length, get_or, take, drop, length-append, get_or-append}
 use lib.Seq.{drop-drop, length-take-le, take_at, drop_at}
+use Rattle.std.specs.Prelude.{Option, Some, None, Result, Ok, Err}
+use Rattle.meaning.specs.Numbered.{number}
+use Rattle.meaning.specs.declared.Refused.{Refused}
 use Rattle.meaning.specs.Base.{zeros, cut, part}
 use Rattle.meaning.specs.Refusal.{R, ok, bad, ok_then}
 use Rattle.meaning.specs.Space.{trim}
@@ -17,73 +20,65 @@ use Rattle.meaning.specs.declared.StringByte.TheVariants.{Plain, AfterBackslash}
 use Rattle.meaning.specs.Strings.{act_of, Said, by_act, decode}
 use Rattle.meaning.specs.Keys.{segment, segments, keys}
 use Rattle.scalar.specs.declared.string.Decoded.{Decoded}
-use Rattle.scalar.specs.declared.key.Verdict.{Verdict}
-use Rattle.scalar.specs.declared.key.Verdict.TheVariants.{Fine, Malformed, Escape, Unended, TooMany}
-use Rattle.scalar.specs.declared.key.Segment.{Segment}
+use Rattle.scalar.specs.declared.string.BadString.{BadString}
+use Rattle.scalar.specs.declared.key.BadSegment.{BadSegment}
 use Rattle.scalar.specs.declared.key.Key.{Key}
+use Rattle.scalar.specs.declared.key.BadKey.{BadKey}
 use Rattle.scalar.specs.Stores.{stored}
 use Rattle.scalar.specs.Decodes.{Decodes, Puts}
-use Rattle.scalar.specs.Segments.{told, laid, Segmented}
-use Rattle.scalar.specs.Splits.{Taken, by, taken, takes, flat, bytes_of, ends_of, Splits}
+use Rattle.scalar.specs.Segments as segment_answer
+use Rattle.scalar.specs.Segments.{told, written, laid, Segmented}
+use Rattle.scalar.specs.Splits.{Taken, by, taken, takes, flat, bytes_of, ends_of, refusal, key_of, Splits}
+use Rattle.scalar.proofs.Numbering.{number_one}
 use Rattle.scalar.proofs.Splitting.{ends_size}
 
 -- ---- contracts decide
-told_one : {X : Type 0} (u v : Verdict) (x : X) → told u x ≡ told v x → u ≡ v
-told_one Fine Fine x e = refl
-told_one Fine Malformed x e = cc
-told_one Fine Escape x e = cc
-told_one Fine Unended x e = cc
-told_one Fine TooMany x e = cc
-told_one Malformed Fine x e = cc
-told_one Malformed Malformed x e = refl
-told_one Malformed Escape x e = let z : ◌≡◌ {A = ℕ} 7 8 = cc in absurd (omega arith)
-told_one Malformed Unended x e = let z : ◌≡◌ {A = ℕ} 7 9 = cc in absurd (omega arith)
-told_one Malformed TooMany x e = let z : ◌≡◌ {A = ℕ} 7 15 = cc in absurd (omega arith)
-told_one Escape Fine x e = cc
-told_one Escape Malformed x e = let z : ◌≡◌ {A = ℕ} 8 7 = cc in absurd (omega arith)
-told_one Escape Escape x e = refl
-told_one Escape Unended x e = let z : ◌≡◌ {A = ℕ} 8 9 = cc in absurd (omega arith)
-told_one Escape TooMany x e = let z : ◌≡◌ {A = ℕ} 8 15 = cc in absurd (omega arith)
-told_one Unended Fine x e = cc
-told_one Unended Malformed x e = let z : ◌≡◌ {A = ℕ} 9 7 = cc in absurd (omega arith)
-told_one Unended Escape x e = let z : ◌≡◌ {A = ℕ} 9 8 = cc in absurd (omega arith)
-told_one Unended Unended x e = refl
-told_one Unended TooMany x e = let z : ◌≡◌ {A = ℕ} 9 15 = cc in absurd (omega arith)
-told_one TooMany Fine x e = cc
-told_one TooMany Malformed x e = let z : ◌≡◌ {A = ℕ} 15 7 = cc in absurd (omega arith)
-told_one TooMany Escape x e = let z : ◌≡◌ {A = ℕ} 15 8 = cc in absurd (omega arith)
-told_one TooMany Unended x e = let z : ◌≡◌ {A = ℕ} 15 9 = cc in absurd (omega arith)
-told_one TooMany TooMany x e = refl
+told_one : {X : Type 0} (u v : Option Refused) (x : X) → told u x ≡ told v x → u ≡ v
+told_one None None x e = refl
+told_one None (Some r) x e = cc
+told_one (Some r) None x e = cc
+told_one (Some r) (Some u) x e = let z : number r ≡ number u = cc in ap (λ (n : Refused). Some n) (number_one r u z)
 
-pub decode_decides : (src out out₁ out₂ : List ℕ) (r₁ r₂ : Decoded) → Decodes src out out₁ r₁ → Decodes src out out₂ r₂ → (r₁ ≡ r₂) × (out₁ ≡ out₂)
+pub decode_decides : (src out out₁ out₂ : List ℕ) (r₁ r₂ : Result Decoded BadString) → Decodes src out out₁ r₁ → Decodes src out out₂ r₂ → (r₁ ≡ r₂) × (out₁ ≡ out₂)
 decode_decides src out out₁ out₂ r₁ r₂ a b = (a.says ∙ sym b.says, a.left ∙ sym b.left)
 
-pub string_decides : (src store : List ℕ) (at : ℕ) (store₁ store₂ : List ℕ) (r₁ r₂ : Decoded)
+pub string_decides : (src store : List ℕ) (at : ℕ) (store₁ store₂ : List ℕ) (r₁ r₂ : Result Decoded BadString)
     → Puts src store at store₁ r₁ → Puts src store at store₂ r₂ → (r₁ ≡ r₂) × (store₁ ≡ store₂)
 string_decides src store at store₁ store₂ r₁ r₂ a b = (a.says ∙ sym b.says, a.left ∙ sym b.left)
 
-same_segment : (u v : Verdict) (a b : ℕ) → u ≡ v → a ≡ b
-    → ◌≡◌ {A = Segment} (record { verdict = u; written = a }) (record { verdict = v; written = b })
-same_segment u v a b p q = rw (p, q)
+same_segment : (r u : Result ℕ BadSegment) → segment_answer.refusal r ≡ segment_answer.refusal u → written r ≡ written u → r ≡ u
+same_segment (Ok n) (Ok m) p q = ap (λ (k : ℕ). Ok k) q
+same_segment (Ok n) (Err e) p q = cc
+same_segment (Err d) (Ok m) p q = cc
+same_segment (Err d) (Err e) p q = let z : d.refused ≡ e.refused = cc in same d e z q
+  where
+    same : (d e : BadSegment) → d.refused ≡ e.refused → d.written ≡ e.written → ◌≡◌ {A = Result ℕ BadSegment} (Err d) (Err e)
+    same d e p q = rw (p, q)
 
-same_key : (u v : Verdict) (n m a b : ℕ) (d e : List ℕ) → u ≡ v → n ≡ m → a ≡ b → d ≡ e
-    → ◌≡◌ {A = Key} (record { verdict = u; n = n; used = a; ends = d }) (record { verdict = v; n = m; used = b; ends = e })
-same_key u v n m a b d e p q r s = rw (p, q, r, s)
+same_key : (r u : Result Key BadKey) → refusal r ≡ refusal u → (key_of r).n ≡ (key_of u).n → (key_of r).used ≡ (key_of u).used → (key_of r).ends ≡ (key_of u).ends → r ≡ u
+same_key (Ok j) (Ok k) p q f g = same j k q f g
+  where
+    same : (j k : Key) → j.n ≡ k.n → j.used ≡ k.used → j.ends ≡ k.ends → ◌≡◌ {A = Result Key BadKey} (Ok j) (Ok k)
+    same j k p q r = rw (p, q, r)
+same_key (Ok j) (Err e) p q f g = cc
+same_key (Err d) (Ok k) p q f g = cc
+same_key (Err d) (Err e) p q f g = let z : d.refused ≡ e.refused = cc in same d e z q f g
+  where
+    same : (d e : BadKey) → d.refused ≡ e.refused → d.taken.n ≡ e.taken.n → d.taken.used ≡ e.taken.used → d.taken.ends ≡ e.taken.ends
+        → ◌≡◌ {A = Result Key BadKey} (Err d) (Err e)
+    same d e p q r s = rw (p, q, r, s)
 
-pub segment_decides : (s : List ℕ) (m : R (List ℕ)) (bytes store : List ℕ) (at : ℕ) (store₁ store₂ : List ℕ) (r₁ r₂ : Segment)
+pub segment_decides : (s : List ℕ) (m : R (List ℕ)) (bytes store : List ℕ) (at : ℕ) (store₁ store₂ : List ℕ) (r₁ r₂ : Result ℕ BadSegment)
     → Segmented s m bytes store at store₁ r₁ → Segmented s m bytes store at store₂ r₂ → (r₁ ≡ r₂) × (store₁ ≡ store₂)
 segment_decides s m bytes store at store₁ store₂ r₁ r₂ a b =
-    let v : r₁.verdict ≡ r₂.verdict = told_one r₁.verdict r₂.verdict bytes (a.says ∙ sym b.says) in
-    (same_segment r₁.verdict r₂.verdict r₁.written r₂.written v (a.wrote ∙ sym b.wrote), a.left ∙ sym b.left)
+    let v = told_one (segment_answer.refusal r₁) (segment_answer.refusal r₂) bytes (a.says ∙ sym b.says) in
+    (same_segment r₁ r₂ v (a.wrote ∙ sym b.wrote), a.left ∙ sym b.left)
 
-pub key_decides : (limit : ℕ) (s store : List ℕ) (at : ℕ) (store₁ store₂ : List ℕ) (r₁ r₂ : Key)
+pub key_decides : (limit : ℕ) (s store : List ℕ) (at : ℕ) (store₁ store₂ : List ℕ) (r₁ r₂ : Result Key BadKey)
     → Splits limit s store at store₁ r₁ → Splits limit s store at store₂ r₂ → (r₁ ≡ r₂) × (store₁ ≡ store₂)
 key_decides limit s store at store₁ store₂ r₁ r₂ a b =
-    let v : r₁.verdict ≡ r₂.verdict = told_one r₁.verdict r₂.verdict (takes limit s).segs (a.says ∙ sym b.says) in (
-      same_key r₁.verdict r₂.verdict r₁.n r₂.n r₁.used r₂.used r₁.ends r₂.ends
-          v (a.count ∙ sym b.count) (a.reach ∙ sym b.reach) (a.places ∙ sym b.places),
-      a.left ∙ sym b.left,
-    )
+    let v = told_one (refusal r₁) (refusal r₂) (takes limit s).segs (a.says ∙ sym b.says) in
+    (same_key r₁ r₂ v (a.count ∙ sym b.count) (a.reach ∙ sym b.reach) (a.places ∙ sym b.places), a.left ∙ sym b.left)
 
 -- ---- what an answer says of 01's segments
 fine_step : (n : ℕ) (ps : List (List ℕ)) (w : List ℕ) (ks : List (List ℕ)) (m : R (List ℕ)) (r : R (List (List ℕ)))
@@ -106,14 +101,21 @@ pub record Accepted (limit : ℕ) (s store : List ℕ) (at : ℕ) (store' : List
   pub places : r.ends ≡ ends_of at ks ++ zeros (16 - length ks)
   pub left : store' ≡ stored store at (flat ks)
 
-module _ (limit : ℕ) (s store : List ℕ) (at : ℕ) (store' : List ℕ) (r : Key) (h : Splits limit s store at store' r) where
-  pub accepted : r.verdict ≡ Fine → Accepted limit s store at store' (takes limit s).segs r
+module _ (limit : ℕ) (s store : List ℕ) (at : ℕ) (store' : List ℕ) (r : Result Key BadKey) (h : Splits limit s store at store' r) where
+  pub accepted : (k : Key) → r ≡ Ok k → Accepted limit s store at store' (takes limit s).segs k
   unfolding takes keys
-  accepted e =
+  accepted k e =
       let q : segments limit (cut 46 s) ≡ ok (taken limit (cut 46 s)).segs = sym (rw e at h.says) in
       let t : (taken limit (cut 46 s)).rest ≡ [] = ap (λ (x : Taken). x.rest) (fine_taken limit (cut 46 s) (taken limit (cut 46 s)).segs q) in
       let b : bytes_of (taken limit (cut 46 s)) ≡ flat (taken limit (cut 46 s)).segs = rw t (append-nil (flat (taken limit (cut 46 s)).segs)) in
-      record { is = q; count = h.count; reach = rw b at h.reach; places = h.places; left = rw b at h.left }
+      record { is = q; count = rw e at h.count; reach = rw (e, b) at h.reach; places = rw e at h.places; left = rw b at h.left }
+
+  -- of a refused one 01 has the number
+  pub key_refused : (b : BadKey) → r ≡ Err b → keys limit s ≡ bad (number b.refused)
+  key_refused b e = sym (rw e at h.says)
+
+  pub key_few : (k : Key) → r ≡ Ok k → (k.n ≤ limit) × (k.used ≤ at + length s)
+  key_few k e = (rw e at h.few, rw e at h.fits)
 
 -- ---- where each segment lies
 flat_split : (ks : List (List ℕ)) (i : ℕ) → i < length ks → flat ks ≡ flat (take i ks) ++ (get_or ks i [] ++ flat (drop (suc i) ks))

@@ -1,7 +1,7 @@
-pub mod Verdicts
 pub mod Integers
 pub mod Decoding
 pub mod Speaking
 pub mod Segmenting
 pub mod Splitting
+pub mod Numbering
 pub mod Keying

@@ -1,11 +1,12 @@
 -- What a whole key comes to, and what it leaves in the store.
-use Rattle.std.specs.Prelude.{ℕ, zero, suc, ◌+◌, ◌-◌, ◌≤◌, List, [], ◌∷◌, ◌++◌, ◌≡◌, length}
+use Rattle.std.specs.Prelude.{ℕ, zero, suc, ◌+◌, ◌-◌, ◌≤◌, List, [], ◌∷◌, ◌++◌, ◌≡◌, Option, Some, None, Result, Ok, Err, length}
 use Rattle.meaning.specs.Base.{zeros, cut}
 use Rattle.meaning.specs.Refusal.{R, ok, bad}
 use Rattle.meaning.specs.Space.{trim}
 use Rattle.meaning.specs.Keys.{segment, keys}
-use Rattle.scalar.specs.declared.key.Verdict.{Verdict}
+use Rattle.meaning.specs.declared.Refused.{Refused}
 use Rattle.scalar.specs.declared.key.Key.{Key}
+use Rattle.scalar.specs.declared.key.BadKey.{BadKey}
 use Rattle.scalar.specs.Stores.{stored}
 use Rattle.scalar.specs.Segments.{told, laid}
 
@@ -45,9 +46,14 @@ abbrev pub ends_of : ℕ → List (List ℕ) → List ℕ
 ends_of at [] = []
 ends_of at (k ∷ ks) = (at + length k) ∷ ends_of (at + length k) ks
 
--- an answer
-abbrev pub key_of : Verdict → ℕ → ℕ → List ℕ → Key
-key_of verdict n used ends = record { verdict = verdict; n = n; used = used; ends = ends }
+-- what an answer is refused with, and what was taken
+abbrev pub refusal : Result Key BadKey → Option Refused
+refusal (Ok k) = None
+refusal (Err e) = Some e.refused
+
+abbrev pub key_of : Result Key BadKey → Key
+key_of (Ok k) = k
+key_of (Err e) = e.taken
 
 -- no more segments than there are places, and room for the whole key
 pub record Asked (limit : ℕ) (s store : List ℕ) (at : ℕ) : Type 0 where
@@ -55,11 +61,11 @@ pub record Asked (limit : ℕ) (s store : List ℕ) (at : ℕ) : Type 0 where
   pub room : at + length s ≤ length store
 
 -- what `put_key` leaves: its answer, and the store with all bytes laid from at on
-pub record Splits (limit : ℕ) (s store : List ℕ) (at : ℕ) (store' : List ℕ) (r : Key) : Type 0 where
-  pub says : told r.verdict (takes limit s).segs ≡ keys limit s
-  pub count : r.n ≡ length (takes limit s).segs
-  pub reach : r.used ≡ at + length (bytes_of (takes limit s))
-  pub places : r.ends ≡ ends_of at (takes limit s).segs ++ zeros (16 - length (takes limit s).segs)
+pub record Splits (limit : ℕ) (s store : List ℕ) (at : ℕ) (store' : List ℕ) (r : Result Key BadKey) : Type 0 where
+  pub says : told (refusal r) (takes limit s).segs ≡ keys limit s
+  pub count : (key_of r).n ≡ length (takes limit s).segs
+  pub reach : (key_of r).used ≡ at + length (bytes_of (takes limit s))
+  pub places : (key_of r).ends ≡ ends_of at (takes limit s).segs ++ zeros (16 - length (takes limit s).segs)
   pub left : store' ≡ stored store at (bytes_of (takes limit s))
-  pub few : r.n ≤ limit
-  pub fits : r.used ≤ at + length s
+  pub few : (key_of r).n ≤ limit
+  pub fits : (key_of r).used ≤ at + length s

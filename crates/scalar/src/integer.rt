@@ -1,100 +1,54 @@
 // Integers. Underscores are skipped where they stand; the magnitude is read in u64 against its limit, and the sign
 // stands beside it.
 
-ghost use Rattle.std.specs.Prelude.{◌≡◌, ◌≤◌, length, get_or, drop};
+ghost use Rattle.std.specs.Prelude.{◌≡◌, ◌≤◌, ◌∷◌, [], ◌==◌, not, position, MatchOption};
 ghost use Rattle.meaning.specs.Integers as meant;
-ghost use Rattle.scalar.specs.Ints.{int_of, digits_of, more, Skipped, Passed};
+ghost use Rattle.scalar.specs.Ints.{int_of, counted, digits_of, more};
 
-use meaning::Signed;
+use meaning::{Refused, Signed};
 
-// The integer, or refusal 12.
-#[derive(Clone, Copy)]
-pub enum Int {
-    Value(Signed),
-    Wrong,
-}
-
-// What digits count, or refusal 12.
-#[derive(Clone, Copy)]
-pub enum Digits {
-    Count(u64),
-    Stray,
-}
-
-// Over every base.
-const NO_DIGIT: u8 = 99;
-
-// How far `A` and `a` are over what they count.
-const CAPITALS: u8 = 55;
-
-const SMALLS: u8 = 87;
-
-// What a digit counts, or `NO_DIGIT`; `:` follows `9`.
-fn digit(b: u8) -> u8
-    ensures { result ≡ meant.digit b }
+// What a digit counts.
+#[tactic(auto, using(laws::specs::Tests::tests), unfolding(meaning::specs::Integers::digit))]
+fn digit(b: u8) -> Option<u8>
+    ensures { counted result ≡ meant.digit b }
 {
-    if b < b'0' {
-        NO_DIGIT
-    } else if b < b':' {
-        b - b'0'
-    } else if b < b'A' {
-        NO_DIGIT
-    } else if b < b'G' {
-        b - CAPITALS
-    } else if b < b'a' {
-        NO_DIGIT
-    } else if b < b'g' {
-        b - SMALLS
-    } else {
-        NO_DIGIT
+    match b {
+        b'0'..=b'9' => Some(b - b'0'),
+        b'A'..=b'F' => Some(b - b'A' + 10),
+        b'a'..=b'f' => Some(b - b'a' + 10),
+        _ => None,
     }
 }
 
-// One digit more after the value acc; the quotient tells what would not fit before it is made.
-fn add_digit(base: u64, limit: u64, acc: u64, b: u8) -> Digits
+// One digit more after the value acc, if the base has it and the limit allows it.
+fn add_digit(base: u64, limit: u64, acc: u64, b: u8) -> Option<u64>
+    requires { base ≤ 16 }
     ensures { digits_of result ≡ more base limit acc b }
 {
-    let d = digit(b) as u64;
+    let d = u64::from(digit(b)?);
     if base <= d {
-        return Digits::Stray;
+        return None;
     }
-    if limit / base < acc {
-        return Digits::Stray;
-    }
-    let m = acc * base;
-    if limit - m < d {
-        return Digits::Stray;
-    }
-    Digits::Count(m + d)
+    let n = acc.checked_mul(base)?.checked_add(d)?;
+    if n <= limit { Some(n) } else { None }
 }
 
-// What the digits from `from` on count.
-fn digits_at(s: &[u8], from: usize, base: u64, limit: u64) -> Digits
-    requires { from ≤ length s.now }
-    ensures { digits_of result ≡ meant.within limit (meant.value base 0 (meant.clean (drop from s.now))) }
+// What the digits count.
+fn count(s: &[u8], base: u64, limit: u64) -> Option<u64>
+    requires { base ≤ 16 }
+    ensures { digits_of result ≡ meant.within limit (meant.value base 0 (meant.clean s.now)) }
 {
-    let mut i = from;
-    let mut acc: u64 = 0;
-    while i < s.len() {
-        let b = s[i];
-        if b == b'_' {
-            i += 1;
-        } else {
-            match add_digit(base, limit, acc, b) {
-                Digits::Count(v) => {
-                    acc = v;
-                    i += 1;
-                }
-                Digits::Stray => {
-                    return Digits::Stray;
-                }
-            }
+    let mut acc = 0;
+    for b in s {
+        if *b != b'_' {
+            acc = add_digit(base, limit, acc, *b)?;
         }
     }
-    Digits::Count(acc)
+    Some(acc)
 }
 
 // The largest magnitude.
+#[tactic(auto, unfolding(meaning::specs::Integers::most))]
 fn largest_magnitude(neg: bool) -> u64
     ensures { result ≡ meant.most neg }
 {
@@ -105,85 +59,70 @@ fn largest_magnitude(neg: bool) -> u64
     }
 }
 
-// Past the underscores at i.
-fn skip(s: &[u8], i: usize) -> usize
-    requires { i ≤ length s.now }
-    ensures { Skipped s.now i result }
+// Where the first byte stands that is no underscore.
+fn skip(s: &[u8]) -> Option<usize>
+    ensures { result ≡ position (λ b. not (b == 95)) s.now }
 {
-    let mut r = i;
-    while r < s.len() {
-        if s[r] != b'_' {
-            return r;
-        }
-        r += 1;
-    }
-    r
+    s.iter().position(|b| *b != b'_')
 }
 
-// The first byte from i on that is no underscore, or 0.
-fn first(s: &[u8], i: usize) -> u8
-    requires { i ≤ length s.now }
-    ensures { result ≡ get_or (meant.clean (drop i s.now)) 0 0 }
+// That byte, and what follows it.
+fn next_byte(s: &[u8]) -> Option<(u8, &[u8])>
+    ensures { MatchOption result (meant.clean s.now ≡ [])
+        (λ p. meant.clean s.now ≡ p.0 ∷ meant.clean p.1.now) }
 {
-    let r = skip(s, i);
-    if r < s.len() { s[r] } else { 0 }
-}
-
-// Past that byte.
-fn after_byte(s: &[u8], i: usize) -> usize
-    requires { i ≤ length s.now }
-    ensures { Passed s.now i result }
-{
-    let r = skip(s, i);
-    if r < s.len() { r + 1 } else { r }
+    let i = skip(s)?;
+    Some((s[i], &s[i + 1..]))
 }
 
 // At least one digit, within range.
-fn magnitude(s: &[u8], i: usize, neg: bool, base: u64) -> Int
-    requires { i ≤ length s.now }
-    ensures { int_of result ≡ meant.magnitude neg base (meant.clean (drop i s.now)) }
+fn magnitude(s: &[u8], neg: bool, base: u64) -> Result<Signed, Refused>
+    requires { base ≤ 16 }
+    ensures { int_of result ≡ meant.magnitude neg base (meant.clean s.now) }
 {
-    if skip(s, i) == s.len() {
-        return Int::Wrong;
+    if skip(s).is_none() {
+        return Err(Refused::NotAnInteger);
     }
-    match digits_at(s, i, base, largest_magnitude(neg)) {
-        Digits::Count(n) => Int::Value(Signed { neg, mag: n }),
-        Digits::Stray => Int::Wrong,
-    }
+    let mag = count(s, base, largest_magnitude(neg)).ok_or(Refused::NotAnInteger)?;
+    Ok(Signed { neg, mag })
 }
 
 // An optional sign.
-fn sign(s: &[u8], i: usize, base: u64) -> Int
-    requires { i ≤ length s.now }
-    ensures { int_of result ≡ meant.sign base (meant.clean (drop i s.now)) }
+fn sign(s: &[u8], base: u64) -> Result<Signed, Refused>
+    requires { base ≤ 16 }
+    ensures { int_of result ≡ meant.sign base (meant.clean s.now) }
 {
-    let b = first(s, i);
-    let j = after_byte(s, i);
-    if b == b'-' {
-        return magnitude(s, j, true, base);
+    let Some((b, rest)) = next_byte(s) else {
+        return Err(Refused::NotAnInteger);
+    };
+    match b {
+        b'-' => magnitude(rest, true, base),
+        b'+' => magnitude(rest, false, base),
+        _ => magnitude(s, false, base),
     }
-    if b == b'+' {
-        return magnitude(s, j, false, base);
+}
+
+// What follows `0x` or `0X`.
+fn after_prefix(s: &[u8]) -> Option<&[u8]>
+    ensures { MatchOption result
+        (meant.signed s.now ≡ meant.sign 10 (meant.clean s.now))
+        (λ rest. meant.signed s.now ≡ meant.sign 16 (meant.clean rest.now)) }
+{
+    let (zero, after_zero) = next_byte(s)?;
+    let (x, after_x) = next_byte(after_zero)?;
+    if zero == b'0' && (x == b'x' || x == b'X') {
+        Some(after_x)
+    } else {
+        None
     }
-    magnitude(s, i, false, base)
 }
 
 // The integer that s is, or refusal 12.
-pub fn read_int(s: &[u8]) -> Int
+pub fn read_int(s: &[u8]) -> Result<Signed, Refused>
     ensures { int_of result ≡ meant.signed s.now }
 {
-    let a = first(s, 0);
-    let j = after_byte(s, 0);
-    let b = first(s, j);
-    let k = after_byte(s, j);
-    if a == b'0' {
-        if b == b'x' {
-            return sign(s, k, 16);
-        }
-        if b == b'X' {
-            return sign(s, k, 16);
-        }
-        return sign(s, 0, 10);
+    match after_prefix(s) {
+        Some(rest) => sign(rest, 16),
+        None => sign(s, 10),
     }
-    sign(s, 0, 10)
 }

@@ -1,186 +1,139 @@
 // Keys and headers: segments split at every dot, each decoded into the store after those already there.
 
 ghost use Rattle.std.specs.Prelude.{◌≡◌};
-ghost use Rattle.meaning.specs.Base as base;
-ghost use Rattle.scalar.specs.Stores.{Room, stored};
-ghost use Rattle.scalar.specs.Segments.{is_fine, judged, BareSegment, QuotedSegment, TrimmedSegment, KeyPart};
-ghost use Rattle.scalar.specs.Splits.{key_of, Asked, Splits};
+ghost use Rattle.scalar.specs.Stores.{Room};
+ghost use Rattle.scalar.specs.Segments.{BareSegment, QuotedSegment, TrimmedSegment, KeyPart};
+ghost use Rattle.scalar.specs.Splits.{Asked, Splits};
 
-use crate::string::{Decoded, put_string};
-use meaning::SEGMENTS;
+use crate::string::{BadString, put_string};
+use meaning::{Refused, SEGMENTS};
 
-// What a segment or a key comes to: fine, or refusal 7, 8, 9 or 15.
+// A refused segment, 7, 8 or 9, and how many bytes it left in the store.
 #[derive(Clone, Copy)]
-pub enum Verdict {
-    Fine,
-    Malformed,
-    Escape,
-    Unended,
-    TooMany,
-}
-
-// What one segment comes to, and how many bytes it left in the store, refused or not.
-#[derive(Clone, Copy)]
-pub struct Segment {
-    pub verdict: Verdict,
+pub struct BadSegment {
+    pub refused: Refused,
     pub written: usize,
 }
 
-// What a key comes to: how many segments were taken, up to where the store is used, and where in it each segment
-// ends, 0 after the last.
+impl From<BadString> for BadSegment {
+    ghost from_gives = { λ b e. e ≡ record { refused = b.refused; written = b.written } };
+
+    fn from(b: BadString) -> BadSegment {
+        BadSegment {
+            refused: b.refused,
+            written: b.written,
+        }
+    }
+}
+
+// A key: how many segments were taken, up to where the store is used, and where in it each segment ends, 0 after the
+// last.
 #[derive(Clone, Copy)]
 pub struct Key {
-    pub verdict: Verdict,
     pub n: usize,
     pub used: usize,
     pub ends: [usize; SEGMENTS],
 }
 
-fn is_fine(v: Verdict) -> bool
-    ensures { result ≡ is_fine v }
-{
-    match v {
-        Verdict::Fine => true,
-        _ => false,
+// A refused key, and what was taken of it; its store is used up to what the refused segment left.
+#[derive(Clone, Copy)]
+pub struct BadKey {
+    pub refused: Refused,
+    pub taken: Key,
+}
+
+// What needs the whole key tells the refusal alone.
+impl From<BadKey> for Refused {
+    ghost from_gives = { λ b r. r ≡ b.refused };
+
+    fn from(b: BadKey) -> Refused {
+        b.refused
     }
 }
 
-// The last byte, or 0 where there is none.
-fn last_byte(s: &[u8]) -> u8
-    ensures { result ≡ base.final s.now }
+fn malformed(written: usize) -> BadSegment
+    ensures { result ≡ record { refused = Refused.MalformedKey; written = written } }
 {
-    let n = s.len();
-    if n == 0 {
-        return 0;
+    BadSegment {
+        refused: Refused::MalformedKey,
+        written,
     }
-    s[n - 1]
-}
-
-// What a closed string comes to: the end quote, then emptiness.
-fn judge(end: u8, written: usize) -> Verdict
-    ensures { result ≡ judged end written }
-{
-    if end == b'"' {
-        if written == 0 {
-            return Verdict::Malformed;
-        }
-        return Verdict::Fine;
-    }
-    Verdict::Malformed
-}
-
-// Lays p into the store.
-fn put_piece(p: &[u8], store: &mut [u8], used: usize)
-    requires { Room p.now store.old used }
-    ensures { store.new ≡ stored store.old used p.now }
-{
-    slices::copy(p, &mut store[used..]);
 }
 
 // A segment without quotes, laid as it is. 7 leaves nothing, since it is empty.
-fn put_bare(p: &[u8], store: &mut [u8], used: usize) -> Segment
+fn put_bare(p: &[u8], store: &mut [u8], used: usize) -> Result<usize, BadSegment>
     requires { Room p.now store.old used }
     ensures { BareSegment p.now store.old used store.new result }
 {
-    let n = p.len();
-    put_piece(p, store, used);
-    if n == 0 {
-        return Segment {
-            verdict: Verdict::Malformed,
-            written: n,
-        };
+    if p.is_empty() {
+        return Err(malformed(0));
     }
-    Segment {
-        verdict: Verdict::Fine,
-        written: n,
-    }
+    slices::copy(p, &mut store[used..]);
+    Ok(p.len())
 }
 
 // A segment after its opening quote. 8 and 9 leave what is decoded until then, 7 the whole string.
-fn put_quoted(p: &[u8], store: &mut [u8], used: usize) -> Segment
+fn put_quoted(p: &[u8], store: &mut [u8], used: usize) -> Result<usize, BadSegment>
     requires { Room p.now store.old used }
     ensures { QuotedSegment p.now store.old used store.new result }
 {
-    let end = last_byte(p);
-    let d = put_string(p, store, used);
-    match d {
-        Decoded::Done { used: _, written } => {
-            let v = judge(end, written);
-            Segment {
-                verdict: v,
-                written,
-            }
-        }
-        Decoded::Escape { at: _, written } => Segment {
-            verdict: Verdict::Escape,
-            written,
-        },
-        Decoded::Unended { written } => Segment {
-            verdict: Verdict::Unended,
-            written,
-        },
+    let written = put_string(p, store, used)?.written;
+    match p {
+        [.., b'"'] if written != 0 => Ok(written),
+        _ => Err(malformed(written)),
     }
 }
 
 // A trimmed segment.
-fn put_trimmed(p: &[u8], store: &mut [u8], used: usize) -> Segment
+fn put_trimmed(p: &[u8], store: &mut [u8], used: usize) -> Result<usize, BadSegment>
     requires { Room p.now store.old used }
     ensures { TrimmedSegment p.now store.old used store.new result }
 {
-    if slices::peek(p, 0) == b'"' {
-        return put_quoted(&p[1..], store, used);
+    match p {
+        [b'"', rest @ ..] => put_quoted(rest, store, used),
+        _ => put_bare(p, store, used),
     }
-    put_bare(p, store, used)
 }
 
 // One part of a key between dots. 8 and 9 leave what is decoded until then, 7 the whole string or nothing.
-pub fn put_segment(s: &[u8], store: &mut [u8], used: usize) -> Segment
+pub fn put_segment(s: &[u8], store: &mut [u8], used: usize) -> Result<usize, BadSegment>
     requires { Room s.now store.old used }
     ensures { KeyPart s.now store.old used store.new result }
 {
     let t = chars::trim(s);
-    let from = t.from;
-    let end = t.end;
-    put_trimmed(&s[from..end], store, used)
-}
-
-fn answered(verdict: Verdict, n: usize, used: usize, ends: [usize; SEGMENTS]) -> Key
-    ensures { result ≡ key_of verdict n used ends }
-{
-    Key {
-        verdict,
-        n,
-        used,
-        ends,
-    }
+    put_trimmed(&s[t.from..t.end], store, used)
 }
 
 // A whole key, segments strictly left to right. 15 leaves the segments before it, 7, 8 and 9 also what the refused
 // one laid.
-pub fn put_key(s: &[u8], store: &mut [u8], used: usize, limit: usize) -> Key
+pub fn put_key(s: &[u8], store: &mut [u8], used: usize, limit: usize) -> Result<Key, BadKey>
     requires { Asked limit s.now store.old used }
     ensures { Splits limit s.now store.old used store.new result }
 {
-    let mut ends = [0usize; SEGMENTS];
-    let mut n = 0;
-    let mut at = used;
-    let mut i = 0;
-    while n < limit {
-        let k = slices::find(&s[i..], b'.');
-        let e = i + k;
-        let r = put_segment(&s[i..e], store, at);
-        let v = r.verdict;
-        at += r.written;
-        if is_fine(v) {
-            ends[n] = at;
-            n += 1;
-            if s.len() <= e {
-                return answered(v, n, at, ends);
+    let mut taken = Key {
+        n: 0,
+        used,
+        ends: [0; SEGMENTS],
+    };
+    let mut rest = s;
+    for n in 0..limit {
+        let end = slices::find(rest, b'.');
+        match put_segment(&rest[..end], store, taken.used) {
+            Ok(written) => {
+                taken.used += written;
+                taken.ends[n] = taken.used;
+                taken.n = n + 1;
             }
-            i = e + 1;
-        } else {
-            return answered(v, n, at, ends);
+            Err(BadSegment { refused, written }) => {
+                taken.used += written;
+                return Err(BadKey { refused, taken });
+            }
         }
+        if end == rest.len() {
+            return Ok(taken);
+        }
+        rest = &rest[end + 1..];
     }
-    answered(Verdict::TooMany, n, at, ends)
+    let refused = Refused::TooManySegments;
+    Err(BadKey { refused, taken })
 }

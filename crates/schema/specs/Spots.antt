@@ -1,13 +1,13 @@
 -- Spots: where a text or a feature list is, in few bytes, and what stands there.
-use Rattle.std.specs.Prelude.{ℕ, ◌%◌, ◌<◌, List, ◌≡◌, refl, eqb}
+use Rattle.std.specs.Prelude.{ℕ, ◌%◌, ◌<◌, List, ◌≡◌, refl}
 use Rattle.std.proofs.Math.Option.{Option, none, some}
 use Rattle.std.proofs.Common.{arith}
-use Rattle.meaning.specs.Base.{pick}
 use Rattle.schema.specs.declared.Text.{Text}
 use Rattle.schema.specs.declared.Text.TheVariants as texts
 use Rattle.schema.specs.declared.Features.{Features}
 use Rattle.schema.specs.declared.Features.TheVariants as lists
 use Rattle.schema.specs.declared.spot.Spot.{Spot}
+use Rattle.schema.specs.declared.spot.Spot.TheVariants as spots
 use Rattle.schema.specs.Texts.{clip}
 
 -- a text that lies in the store
@@ -19,10 +19,10 @@ packed store (texts.Fixed w) = none
 packed store (texts.WithAic from len) = none
 
 abbrev pub no_spot : Spot
-no_spot = record { kind = 0; from = 0; len = 0 }
+no_spot = spots.Nothing
 
 abbrev pub bytes_spot : ℕ → ℕ → Spot
-bytes_spot from len = record { kind = 1; from = from % 65536; len = len % 65536 }
+bytes_spot from len = spots.Bytes (from % 65536) (len % 65536)
 
 abbrev pub text_spot : Text → Spot
 text_spot texts.Absent = no_spot
@@ -34,17 +34,23 @@ text_spot (texts.WithAic from len) = no_spot
 abbrev pub list_spot : Features → Spot
 list_spot lists.Absent = no_spot
 list_spot (lists.Words from len) = bytes_spot from len
-list_spot (lists.Items place) = record { kind = 2; from = place; len = 0 }
+list_spot (lists.Items place) = spots.Items place
 
 -- the text, its bytes, and the feature list, at a spot
-unfoldable pub text_at : Spot → Text
-text_at s = pick (eqb s.kind 1) (texts.Stored s.from s.len) texts.Absent
+abbrev pub text_at : Spot → Text
+text_at spots.Nothing = texts.Absent
+text_at (spots.Bytes from len) = texts.Stored from len
+text_at (spots.Items place) = texts.Absent
 
-unfoldable pub spotted : List ℕ → Spot → Option (List ℕ)
-spotted store s = pick (eqb s.kind 1) (some (clip s.from s.len store)) none
+abbrev pub spotted : List ℕ → Spot → Option (List ℕ)
+spotted store spots.Nothing = none
+spotted store (spots.Bytes from len) = some (clip from len store)
+spotted store (spots.Items place) = none
 
-unfoldable pub list_at : Spot → Features
-list_at s = pick (eqb s.kind 1) (lists.Words s.from s.len) (pick (eqb s.kind 2) (lists.Items s.from) lists.Absent)
+abbrev pub list_at : Spot → Features
+list_at spots.Nothing = lists.Absent
+list_at (spots.Bytes from len) = lists.Words from len
+list_at (spots.Items place) = lists.Items place
 
 -- ---- what was read is at its spot
 
@@ -65,7 +71,6 @@ below : (n : ℕ) → n < 65536 → n % 65536 ≡ n
 below n h = omega (arith, h)
 
 pub stored_short : (t : Text) → Short t → text_at (text_spot t) ≡ t
-unfolding text_at
 stored_short texts.Absent h = refl
 stored_short (texts.Stored from len) h = rw (below from h.0, below len h.1)
 stored_short texts.Lent h = absurd h
@@ -73,7 +78,6 @@ stored_short (texts.Fixed w) h = absurd h
 stored_short (texts.WithAic from len) h = absurd h
 
 pub spotted_short : (store : List ℕ) (t : Text) → Short t → spotted store (text_spot t) ≡ packed store t
-unfolding spotted
 spotted_short store texts.Absent h = refl
 spotted_short store (texts.Stored from len) h = rw (below from h.0, below len h.1)
 spotted_short store texts.Lent h = absurd h
@@ -81,7 +85,6 @@ spotted_short store (texts.Fixed w) h = absurd h
 spotted_short store (texts.WithAic from len) h = absurd h
 
 pub list_short : (f : Features) → ShortList f → list_at (list_spot f) ≡ f
-unfolding list_at
 list_short lists.Absent h = refl
 list_short (lists.Words from len) h = rw (below from h.0, below len h.1)
 list_short (lists.Items place) h = refl

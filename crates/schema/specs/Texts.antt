@@ -1,11 +1,9 @@
 -- What a text field's place says, and the choices between places.
-use Rattle.std.specs.Prelude.{ℕ, ◌+◌, Bool, true, false, List, [], ◌++◌, leb, length}
+use Rattle.std.specs.Prelude.{ℕ, ◌+◌, Bool, true, false, List, [], ◌++◌, leb, length, Option as Maybe, Some, None}
 use Rattle.std.proofs.Math.Option.{Option, none, some}
 use Rattle.meaning.specs.Base.{pick, ascii, part}
 use Rattle.schema.specs.declared.Text.{Text}
 use Rattle.schema.specs.declared.Text.TheVariants as texts
-use Rattle.schema.specs.declared.Number.{Number}
-use Rattle.schema.specs.declared.Number.TheVariants as numbers
 use Rattle.schema.specs.Words.{word}
 
 -- len bytes from a place on; none where they run past the end
@@ -65,10 +63,6 @@ length_of texts.Lent = 0
 length_of (texts.Fixed w) = 0
 length_of (texts.WithAic from len) = 0
 
-abbrev pub or_number : Number → ℕ → ℕ
-or_number numbers.Absent d = d
-or_number (numbers.Of n) d = n
-
-abbrev pub amount : Number → Option ℕ
-amount numbers.Absent = none
-amount (numbers.Of n) = some n
+abbrev pub amount : Maybe ℕ → Option ℕ
+amount None = none
+amount (Some n) = some n

@@ -1,7 +1,9 @@
 -- The fixed words, and how chips, media and kinds are found by them.
-use Rattle.std.specs.Prelude.{ℕ, ◌≤◌, List, ◌++◌, ltb, length, drop, ◌≡◌, refl}
+use Rattle.std.specs.Prelude.{ℕ, ◌≤◌, List, ◌++◌, Result, Ok, Err, ltb, length, drop, ◌≡◌, refl}
 use Rattle.meaning.specs.Base.{pick, ascii, same, part}
 use Rattle.meaning.specs.Schema as meant
+use Rattle.meaning.specs.declared.Refused.{Refused}
+use Rattle.meaning.specs.declared.Refused.TheVariants.{UnknownWord}
 use Rattle.schema.specs.declared.Word.{Word}
 use Rattle.schema.specs.declared.Word.TheVariants as words
 use Rattle.schema.specs.declared.Span.{Span}
@@ -11,9 +13,6 @@ use Rattle.schema.specs.declared.Media.{Media}
 use Rattle.schema.specs.declared.Media.TheVariants as medias
 use Rattle.schema.specs.declared.Kind.{Kind}
 use Rattle.schema.specs.declared.Kind.TheVariants as kinds
-use Rattle.schema.specs.declared.ChipRead.{ChipRead}
-use Rattle.schema.specs.declared.MediaRead.{MediaRead}
-use Rattle.schema.specs.declared.KindRead.{KindRead}
 
 -- a word's bytes
 unfoldable pub word : Word → List ℕ
@@ -132,18 +131,13 @@ kind_word kinds.Pbp = words.Pbp
 kind_word kinds.Raw = words.Raw
 
 -- the one with these bytes, else 22
-unfoldable pub chip_read : List ℕ → ChipRead
-chip_read w =
-    pick (same w (word words.D13x)) (record { fault = 0; chip = chips.D13x })
-    (pick (same w (word words.D21x)) (record { fault = 0; chip = chips.D21x }) (record { fault = 22; chip = chips.D13x }))
+unfoldable pub chip_read : List ℕ → Result Chip Refused
+chip_read w = pick (same w (word words.D13x)) (Ok chips.D13x) (pick (same w (word words.D21x)) (Ok chips.D21x) (Err UnknownWord))
 
-unfoldable pub media_read : List ℕ → MediaRead
-media_read w =
-    pick (same w (word words.SpiNor)) (record { fault = 0; media = medias.SpiNor })
-    (pick (same w (word words.SpiNand)) (record { fault = 0; media = medias.SpiNand }) (record { fault = 22; media = medias.SpiNor }))
+unfoldable pub media_read : List ℕ → Result Media Refused
+media_read w = pick (same w (word words.SpiNor)) (Ok medias.SpiNor) (pick (same w (word words.SpiNand)) (Ok medias.SpiNand) (Err UnknownWord))
 
-unfoldable pub kind_read : List ℕ → KindRead
+unfoldable pub kind_read : List ℕ → Result Kind Refused
 kind_read w =
-    pick (same w (word words.App)) (record { fault = 0; kind = kinds.App })
-    (pick (same w (word words.Pbp)) (record { fault = 0; kind = kinds.Pbp })
-    (pick (same w (word words.Raw)) (record { fault = 0; kind = kinds.Raw }) (record { fault = 22; kind = kinds.Raw })))
+    pick (same w (word words.App)) (Ok kinds.App)
+    (pick (same w (word words.Pbp)) (Ok kinds.Pbp) (pick (same w (word words.Raw)) (Ok kinds.Raw) (Err UnknownWord)))

@@ -4,18 +4,20 @@
 
 pub mod spot;
 
-ghost use Rattle.std.specs.Prelude.{◌≡◌, ◌+◌, ◌≤◌, length};
+ghost use Rattle.std.specs.Prelude.{◌≡◌};
 ghost use Rattle.meaning.specs.Base.{same};
 ghost use Rattle.meaning.specs.Schema as meant;
 ghost use Rattle.schema.specs.Words.{word, Stands, Put, chip_read, media_read, kind_read, chip_meant, media_meant};
 ghost use Rattle.schema.specs.Words.{chip_word, media_word, kind_word, target_word, media_choice};
-ghost use Rattle.schema.specs.Texts.{is_given, or_text, aic_of, start_of, length_of, or_number, clip};
+ghost use Rattle.schema.specs.Texts.{is_given, or_text, aic_of, start_of, length_of, clip};
+
+use meaning::Refused;
 
 // How many bytes a name may have.
 pub const LONGEST_NAME: usize = 32;
 
 // The words that a preset takes where its text has none, and those that it may name.
-#[derive(Clone, Copy)]
+#[derive(Clone, Copy, PartialEq, Eq)]
 pub enum Word {
     Board,
     Release,
@@ -72,102 +74,80 @@ impl Word {
         }
     }
 
+    // Its bytes.
+    pub fn bytes(self) -> &'static [u8]
+        ensures { result.now ≡ word self }
+    {
+        match self {
+            Word::Board => b"board",
+            Word::Release => b"release",
+            Word::Unknown => b"unknown",
+            Word::Version => b"0.0.0",
+            Word::Required => b"mtd;required",
+            Word::Optional => b"mtd;optional",
+            Word::App => b"app",
+            Word::Component => b"component.bin",
+            Word::D13x => b"d13x",
+            Word::D21x => b"d21x",
+            Word::Target13 => b"riscv32imafc-unknown-none-elf",
+            Word::Target21 => b"riscv64gc-unknown-none-elf",
+            Word::SpiNor => b"spi-nor",
+            Word::SpiNand => b"spi-nand",
+            Word::Pbp => b"pbp",
+            Word::Raw => b"raw",
+            Word::Aic => b".aic",
+        }
+    }
+
     // Whether it is these bytes.
     pub fn is(self, s: &[u8]) -> bool
         ensures { result ≡ same s.now (word self) }
     {
-        let all = Word::ALL;
-        let w = self.span();
-        let from = w.from;
-        let to = w.to;
-        slices::same(s, &all[from..to])
+        slices::same(s, self.bytes())
     }
 
     // Writes it at the head of a room, and says how many bytes it has; 0 where the room is shorter.
     pub fn put(self, out: &mut [u8]) -> usize
         ensures { Put self out.old out.new result }
     {
-        let all = Word::ALL;
-        let w = self.span();
-        let from = w.from;
-        let to = w.to;
-        if out.len() < to - from {
+        let w = self.bytes();
+        if out.len() < w.len() {
             return 0;
         }
-        slices::copy(&all[from..to], out);
-        to - from
+        slices::copy(w, out);
+        w.len()
     }
 }
 
-#[derive(Clone, Copy)]
+#[derive(Clone, Copy, PartialEq, Eq)]
 pub enum Chip {
     D13x,
     D21x,
 }
 
-#[derive(Clone, Copy)]
+#[derive(Clone, Copy, PartialEq, Eq)]
 pub enum Media {
     SpiNor,
     SpiNand,
 }
 
-#[derive(Clone, Copy)]
+#[derive(Clone, Copy, PartialEq, Eq)]
 pub enum Kind {
     App,
     Pbp,
     Raw,
 }
 
-// fault 22: no such word.
-#[derive(Clone, Copy)]
-pub struct ChipRead {
-    pub fault: u32,
-    pub chip: Chip,
-}
-
-#[derive(Clone, Copy)]
-pub struct MediaRead {
-    pub fault: u32,
-    pub media: Media,
-}
-
-#[derive(Clone, Copy)]
-pub struct KindRead {
-    pub fault: u32,
-    pub kind: Kind,
-}
-
 impl Chip {
-    pub const D13X_NAME: Word = Word::D13x;
-
-    pub const D21X_NAME: Word = Word::D21x;
-
-    pub const D13X_TARGET: Word = Word::Target13;
-
-    pub const D21X_TARGET: Word = Word::Target21;
-
-    pub const D13X_MEDIA: Media = Media::SpiNor;
-
-    pub const D21X_MEDIA: Media = Media::SpiNand;
-
-    pub fn parse(w: &[u8]) -> ChipRead
+    pub fn parse(w: &[u8]) -> Result<Chip, Refused>
         ensures { result ≡ chip_read w.now }
     {
         if Word::D13x.is(w) {
-            return ChipRead {
-                fault: 0,
-                chip: Chip::D13x,
-            };
-        }
-        if Word::D21x.is(w) {
-            return ChipRead {
-                fault: 0,
-                chip: Chip::D21x,
-            };
-        }
-        ChipRead {
-            fault: 22,
-            chip: Chip::D13x,
+            Ok(Chip::D13x)
+        } else if Word::D21x.is(w) {
+            Ok(Chip::D21x)
+        } else {
+            Err(Refused::UnknownWord)
         }
     }
 
@@ -175,8 +155,8 @@ impl Chip {
         ensures { result ≡ chip_word self }
     {
         match self {
-            Chip::D13x => Chip::D13X_NAME,
-            Chip::D21x => Chip::D21X_NAME,
+            Chip::D13x => Word::D13x,
+            Chip::D21x => Word::D21x,
         }
     }
 
@@ -184,8 +164,8 @@ impl Chip {
         ensures { result ≡ target_word self }
     {
         match self {
-            Chip::D13x => Chip::D13X_TARGET,
-            Chip::D21x => Chip::D21X_TARGET,
+            Chip::D13x => Word::Target13,
+            Chip::D21x => Word::Target21,
         }
     }
 
@@ -193,46 +173,32 @@ impl Chip {
         ensures { result ≡ media_choice self }
     {
         match self {
-            Chip::D13x => Chip::D13X_MEDIA,
-            Chip::D21x => Chip::D21X_MEDIA,
+            Chip::D13x => Media::SpiNor,
+            Chip::D21x => Media::SpiNand,
         }
     }
 
     pub fn erase_size(self) -> u32
         ensures { result ≡ meant.erase_for (chip_meant self) }
     {
-        let m = self.default_media();
-        m.erase_size()
+        self.default_media().erase_size()
     }
 }
 
 impl Media {
-    pub const NOR_NAME: Word = Word::SpiNor;
-
-    pub const NAND_NAME: Word = Word::SpiNand;
-
     pub const NOR_BLOCK: u32 = 4096;
 
     pub const NAND_BLOCK: u32 = 131072;
 
-    pub fn parse(w: &[u8]) -> MediaRead
+    pub fn parse(w: &[u8]) -> Result<Media, Refused>
         ensures { result ≡ media_read w.now }
     {
         if Word::SpiNor.is(w) {
-            return MediaRead {
-                fault: 0,
-                media: Media::SpiNor,
-            };
-        }
-        if Word::SpiNand.is(w) {
-            return MediaRead {
-                fault: 0,
-                media: Media::SpiNand,
-            };
-        }
-        MediaRead {
-            fault: 22,
-            media: Media::SpiNor,
+            Ok(Media::SpiNor)
+        } else if Word::SpiNand.is(w) {
+            Ok(Media::SpiNand)
+        } else {
+            Err(Refused::UnknownWord)
         }
     }
 
@@ -240,8 +206,8 @@ impl Media {
         ensures { result ≡ media_word self }
     {
         match self {
-            Media::SpiNor => Media::NOR_NAME,
-            Media::SpiNand => Media::NAND_NAME,
+            Media::SpiNor => Word::SpiNor,
+            Media::SpiNand => Word::SpiNand,
         }
     }
 
@@ -256,30 +222,17 @@ impl Media {
 }
 
 impl Kind {
-    pub fn parse(w: &[u8]) -> KindRead
+    pub fn parse(w: &[u8]) -> Result<Kind, Refused>
         ensures { result ≡ kind_read w.now }
     {
         if Word::App.is(w) {
-            return KindRead {
-                fault: 0,
-                kind: Kind::App,
-            };
-        }
-        if Word::Pbp.is(w) {
-            return KindRead {
-                fault: 0,
-                kind: Kind::Pbp,
-            };
-        }
-        if Word::Raw.is(w) {
-            return KindRead {
-                fault: 0,
-                kind: Kind::Raw,
-            };
-        }
-        KindRead {
-            fault: 22,
-            kind: Kind::Raw,
+            Ok(Kind::App)
+        } else if Word::Pbp.is(w) {
+            Ok(Kind::Pbp)
+        } else if Word::Raw.is(w) {
+            Ok(Kind::Raw)
+        } else {
+            Err(Refused::UnknownWord)
         }
     }
 
@@ -309,19 +262,13 @@ impl Text {
     pub fn is_given(self) -> bool
         ensures { result ≡ is_given self }
     {
-        match self {
-            Text::Absent => false,
-            _ => true,
-        }
+        !matches!(self, Text::Absent)
     }
 
     pub fn or(self, d: Text) -> Text
         ensures { result ≡ or_text self d }
     {
-        match self {
-            Text::Absent => d,
-            _ => self,
-        }
+        if self.is_given() { self } else { d }
     }
 
     // Where a stored text begins, and how many bytes it has.
@@ -329,7 +276,7 @@ impl Text {
         ensures { result ≡ start_of self }
     {
         match self {
-            Text::Stored { from, len: _ } => from,
+            Text::Stored { from, .. } => from,
             _ => 0,
         }
     }
@@ -338,7 +285,7 @@ impl Text {
         ensures { result ≡ length_of self }
     {
         match self {
-            Text::Stored { from: _, len } => len,
+            Text::Stored { len, .. } => len,
             _ => 0,
         }
     }
@@ -358,30 +305,10 @@ impl Text {
 pub fn stored<'a>(store: &'a [u8], from: usize, len: usize) -> &'a [u8]
     ensures { result.now ≡ clip from len store.now }
 {
-    if store.len() < from {
-        return &store[0..0];
-    }
-    if store.len() - from < len {
-        return &store[0..0];
-    }
-    let to = from + len;
-    &store[from..to]
-}
-
-#[derive(Clone, Copy)]
-pub enum Number {
-    Absent,
-    Of(u32),
-}
-
-impl Number {
-    pub fn or(self, d: u32) -> u32
-        ensures { result ≡ or_number self d }
-    {
-        match self {
-            Number::Absent => d,
-            Number::Of(n) => n,
-        }
+    if from <= store.len() && len <= store.len() - from {
+        &store[from..from + len]
+    } else {
+        &[]
     }
 }
 
@@ -445,7 +372,7 @@ pub struct Role {
 #[derive(Clone, Copy)]
 pub struct Boot {
     pub updater: bool,
-    pub ram: Number,
+    pub ram: Option<u32>,
     pub pbp: Text,
     pub pbp_package: Text,
     pub private: Text,
@@ -453,10 +380,10 @@ pub struct Boot {
 
 #[derive(Clone, Copy)]
 pub struct Load {
-    pub load_address: Number,
-    pub entry_point: Number,
-    pub entry_offset: Number,
-    pub header_version: Number,
+    pub load_address: Option<u32>,
+    pub entry_point: Option<u32>,
+    pub entry_offset: Option<u32>,
+    pub header_version: Option<u32>,
     pub with_ext: bool,
     pub ext_reserve: u32,
 }
@@ -477,6 +404,6 @@ pub struct Application {
     pub filename: Text,
     pub attr: Text,
     pub features: Features,
-    pub load_address: Number,
-    pub entry_offset: Number,
+    pub load_address: Option<u32>,
+    pub entry_offset: Option<u32>,
 }

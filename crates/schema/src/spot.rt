@@ -7,107 +7,109 @@ ghost use Rattle.schema.specs.Spots.{spotted};
 
 use crate::{Features, Text};
 
-// `kind` says what is there: nothing; len bytes of the store from a place on; the items of the array at place `from`.
+// Nothing; len bytes of the store from a place on; the items of the array at a place.
 #[derive(Clone, Copy)]
-pub struct Spot {
-    pub kind: u16,
-    pub from: u16,
-    pub len: u16,
+pub enum Spot {
+    Nothing,
+    Bytes { from: u16, len: u16 },
+    Items(u16),
 }
 
 impl Spot {
-    pub const NOTHING: u16 = 0;
-
-    pub const BYTES: u16 = 1;
-
-    pub const ITEMS: u16 = 2;
-}
-
-pub fn no_spot() -> Spot
-    ensures { result ≡ spots.no_spot }
-{
-    Spot {
-        kind: Spot::NOTHING,
-        from: 0,
-        len: 0,
+    // Some bytes of the store. No text there is longer than 65535 bytes, or begins further on.
+    pub fn of_bytes(from: usize, len: usize) -> Spot
+        ensures { result ≡ spots.bytes_spot from len }
+    {
+        Spot::Bytes {
+            from: (from % 65536) as u16,
+            len: (len % 65536) as u16,
+        }
     }
 }
 
-// Some bytes of the store. No text there is longer than 65535 bytes, or begins further on.
-pub fn bytes_spot(from: usize, len: usize) -> Spot
-    ensures { result ≡ spots.bytes_spot from len }
-{
-    Spot {
-        kind: Spot::BYTES,
-        from: (from % 65536) as u16,
-        len: (len % 65536) as u16,
+impl From<Text> for Spot {
+    ghost use Rattle.std.specs.Prelude.{◌≡◌};
+    ghost use Rattle.schema.specs.Spots.{text_spot};
+
+    ghost from_gives = { λ t s. s ≡ text_spot t };
+
+    fn from(t: Text) -> Spot {
+        match t {
+            Text::Stored { from, len } => Spot::of_bytes(from, len),
+            _ => Spot::Nothing,
+        }
     }
 }
 
-pub fn text_spot(t: Text) -> Spot
-    ensures { result ≡ spots.text_spot t }
-{
-    match t {
-        Text::Stored { from, len } => bytes_spot(from, len),
-        _ => no_spot(),
-    }
-}
+impl From<Features> for Spot {
+    ghost use Rattle.std.specs.Prelude.{◌≡◌};
+    ghost use Rattle.schema.specs.Spots.{list_spot};
 
-pub fn list_spot(f: Features) -> Spot
-    ensures { result ≡ spots.list_spot f }
-{
-    match f {
-        Features::Absent => no_spot(),
-        Features::Words { from, len } => bytes_spot(from, len),
-        Features::Items(place) => Spot {
-            kind: Spot::ITEMS,
-            from: place,
-            len: 0,
-        },
+    ghost from_gives = { λ f s. s ≡ list_spot f };
+
+    fn from(f: Features) -> Spot {
+        match f {
+            Features::Absent => Spot::Nothing,
+            Features::Words { from, len } => Spot::of_bytes(from, len),
+            Features::Items(place) => Spot::Items(place),
+        }
     }
 }
 
 // The text at a spot.
-pub fn text_at(s: Spot) -> Text
-    ensures { result ≡ spots.text_at s }
-{
-    if s.kind == Spot::BYTES {
-        return Text::Stored {
-            from: s.from as usize,
-            len: s.len as usize,
-        };
+impl From<Spot> for Text {
+    ghost use Rattle.std.specs.Prelude.{◌≡◌};
+    ghost use Rattle.schema.specs.Spots.{text_at};
+
+    ghost from_gives = { λ s t. t ≡ text_at s };
+
+    fn from(s: Spot) -> Text {
+        match s {
+            Spot::Bytes { from, len } => Text::Stored {
+                from: from as usize,
+                len: len as usize,
+            },
+            _ => Text::Absent,
+        }
     }
-    Text::Absent
 }
 
 // The feature list at a spot.
-pub fn list_at(s: Spot) -> Features
-    ensures { result ≡ spots.list_at s }
-{
-    if s.kind == Spot::BYTES {
-        return Features::Words {
-            from: s.from as usize,
-            len: s.len as usize,
-        };
+impl From<Spot> for Features {
+    ghost use Rattle.std.specs.Prelude.{◌≡◌};
+    ghost use Rattle.schema.specs.Spots.{list_at};
+
+    ghost from_gives = { λ s f. f ≡ list_at s };
+
+    fn from(s: Spot) -> Features {
+        match s {
+            Spot::Nothing => Features::Absent,
+            Spot::Bytes { from, len } => Features::Words {
+                from: from as usize,
+                len: len as usize,
+            },
+            Spot::Items(place) => Features::Items(place),
+        }
     }
-    if s.kind == Spot::ITEMS {
-        return Features::Items(s.from);
-    }
-    Features::Absent
 }
 
 // Whether texts stand at both, and have the same bytes.
 pub fn same_text(store: &[u8], p: Spot, q: Spot) -> bool
     ensures { result ≡ twice (spotted store.now p) (spotted store.now q) }
 {
-    if p.kind == Spot::BYTES {
-        if q.kind == Spot::BYTES {
-            return slices::same_last_first(
-                crate::stored(store, p.from as usize, p.len as usize),
-                crate::stored(store, q.from as usize, q.len as usize),
-            );
+    match (p, q) {
+        (
+            Spot::Bytes { from, len },
+            Spot::Bytes {
+                from: at,
+                len: long,
+            },
+        ) => {
+            slices::same_last_first(
+                crate::stored(store, from as usize, len as usize),
+                crate::stored(store, at as usize, long as usize),
+            )
         }
-        return false;
+        _ => false,
     }
-    false
 }

@@ -1,33 +1,26 @@
--- What each loop keeps, and one law for each way on and out of it.
+-- What a search by blocks keeps, with one law for each way on and out of it, and what the library says of two byte strings.
 use Prim.Native.Nat.{ℕ, zero, suc, ◌+◌, ◌-◌, ◌≤◌, ◌<◌}
 use mathlib.Core.Bool.{Bool, true, false}
-use mathlib.Core.List.{List, [], ◌∷◌, ◌++◌, append_assoc}
-use mathlib.Core.Path.{◌≡◌, refl, sym, ap, ◌∙◌}
+use mathlib.Core.List.{List, [], ◌∷◌}
+use mathlib.Core.Path.{◌≡◌, refl, sym}
 use native.Mathlib.Omega.{arith}
 use native.Mathlib.Numerals.{add-one}
 use native.Mathlib.Nat.{add-zero}
-use borrow.Author.Tests.{eq-eqb, ne_eqb, lt-ltb, le-ltb, ltb-true, ltb-false, eqb-true}
+use borrow.Author.Tests.{ltb-true, ltb-false, eqb-true}
 use lib.Bits.{bit_or, or_add_and, and_le_l, and_le_r}
 use lib.Dec.{eqb, ltb}
-use lib.ListN.{length, get_or, take, drop, set, length-set, length-drop, drop_of_length-le, get_or-eq_default}
-use lib.Seq.{drop-cons, take-suc, take-length, set_at, length-take-le}
-use Rattle.meaning.specs.Base.{before, same, less}
+use lib.ListN.{length, get_or, drop, drop_of_length-le}
+use lib.Seq.{drop-cons}
+use Rattle.std.proofs.lemmas.Bool.Decides.{nat_tests}
+use Rattle.std.proofs.lemmas.Cmp.{same_from_slice_cmp}
+use Rattle.std.specs.Cmp.Lexicographic.{pointwise, slice_cmp}
+use Rattle.std.proofs.Common.{Ordering, nat_cmp, is_lt}
+use Rattle.meaning.specs.Base.{same, less}
 use Rattle.laws.specs.Cases.{on}
 use Rattle.laws.specs.Order.{same_eq}
-use Rattle.slices.specs.Found.{Other, at?, Free, lead, Passed, Led, Found}
-use Rattle.slices.specs.Heads.{Ranked}
-
-pub past : (s : List ℕ) (i : ℕ) → length s ≤ i → 0 ≡ get_or s i 0
-past s i h = sym (get_or-eq_default s 0 h)
+use Rattle.slices.specs.Found.{Other, Free, lead, Passed, Led}
 
 -- ---- searches
-
--- what `meets` says of c itself, and of another byte
-pub stops : (c b : ℕ) → ◌≡◌ {A = ℕ} 1 0 → Other (at? c) b
-stops c b e = absurd (omega (arith, e))
-
-pub goes_on : (c b : ℕ) → (b ≡ c → ⊥) → ◌≡◌ {A = ℕ} 0 0 → Other (at? c) b
-goes_on c b h e = record { not = ne_eqb b c h }
 
 -- what a loop over a block gathers is 0 only if the search goes on at each byte so far
 pub record Freeing (stop : ℕ → Bool) (s : List ℕ) (at k r : ℕ) : Type 0 where
@@ -81,118 +74,16 @@ passed (suc n) stop s i a h f =
 pub past_on : (stop : ℕ → Bool) (s : List ℕ) (i : ℕ) (r : Bool) → Passed stop s i → 16 ≤ length s - i → (r ≡ true → Free stop s i 16) → r ≡ true → Passed stop s (i + 16)
 past_on stop s i r a h f t = passed 16 stop s i a (omega (arith, a.high)) (f t)
 
--- ---- find
-before_lead : (c : ℕ) (s : List ℕ) → lead (at? c) s ≡ before c s
-before_lead c [] = refl
-before_lead c (b ∷ s) = rw (before_lead c s)
-
-module _ (s : List ℕ) (c i : ℕ) (a : Passed (at? c) s i) where
-  found : Led (at? c) s i → Found c s i
-  found l = record { is = l.is ∙ before_lead c s; fits = l.fits }
-
-  pub find_on : i < length s → (get_or s i 0 ≡ c → ⊥) → Passed (at? c) s (i + 1)
-  find_on h n = led_on (at? c) s i a h (ne_eqb (get_or s i 0) c n)
-
-  pub find_hit : i < length s → get_or s i 0 ≡ c → Found c s i
-  find_hit h e = found (led_hit (at? c) s i a h (eq-eqb (get_or s i 0) c e))
-
-  pub find_end : length s ≤ i → Found c s i
-  find_end h = found (led_end (at? c) s i a h)
-
 -- ---- same
-pub same_lengths : (a b : List ℕ) → (length a ≡ length b → ⊥) → false ≡ same a b
-same_lengths [] [] h = absurd (h refl)
-same_lengths [] (y ∷ b) h = refl
-same_lengths (x ∷ a) [] h = refl
-same_lengths (x ∷ a) (y ∷ b) h = on (eqb x y) (λ t. rw t (same_lengths a b (λ e. h (omega arith)))) (λ t. rw t)
+pub same_told : (a b : List ℕ) → pointwise eqb a b ≡ same a b
+same_told [] [] = refl
+same_told [] (y ∷ b) = refl
+same_told (x ∷ a) [] = refl
+same_told (x ∷ a) (y ∷ b) = rw (same_told a b) (on (eqb x y) (λ t. rw t) (λ t. rw t))
 
-pub record Alike (a b : List ℕ) (i : ℕ) : Type 0 where
-  pub high : i ≤ length a
-  pub long : length a ≡ length b
-  pub left : same (drop i a) (drop i b) ≡ same a b
-
-module _ (a b : List ℕ) (i : ℕ) where
-  pub same_on : Alike a b i → i < length a → get_or a i 0 ≡ get_or b i 0 → Alike a b (i + 1)
-  same_on k h e =
-      let l : i < length b = omega arith in
-      record {
-        high = omega arith;
-        long = k.long;
-        left = rw add-one (rw (drop-cons a i 0 h, drop-cons b i 0 l, eq-eqb (get_or a i 0) (get_or b i 0) e) at k.left);
-      }
-
-  pub same_not : Alike a b i → i < length a → (get_or a i 0 ≡ get_or b i 0 → ⊥) → false ≡ same a b
-  same_not k h e =
-      let l : i < length b = omega arith in
-      rw (drop-cons a i 0 h, drop-cons b i 0 l, ne_eqb (get_or a i 0) (get_or b i 0) e) at k.left
-
-  pub same_end : Alike a b i → length a ≤ i → true ≡ same a b
-  same_end k h =
-      let l : length b ≤ i = omega arith in
-      rw (drop_of_length-le a h, drop_of_length-le b l) at k.left
-
--- ---- same, the last byte first
-pub last_not : (a b : List ℕ) → (get_or a (length a - 1) 0 ≡ get_or b (length a - 1) 0 → ⊥) → false ≡ same a b
-last_not a b e = on (same a b) (λ t. absurd (e (ap (λ (s : List ℕ). get_or s (length a - 1) 0) (same_eq a b t)))) (λ t. sym t)
+pub same_not : (a b : List ℕ) → (a ≡ b → ⊥) → false ≡ same a b
+same_not a b e = on (same a b) (λ t. absurd (e (same_eq a b t))) (λ t. sym t)
 
 -- ---- less
-module _ (a b : List ℕ) (i : ℕ) where
-  pub less_on : Ranked a b i → i < length a → i < length b → get_or a i 0 ≡ get_or b i 0 → Ranked a b (i + 1)
-  less_on k h l e =
-      record {
-        high = omega arith;
-        low = omega arith;
-        left = rw add-one (rw (drop-cons a i 0 h, drop-cons b i 0 l, eq-eqb (get_or a i 0) (get_or b i 0) e) at k.left);
-      }
-
-  pub less_told : Ranked a b i → i < length a → i < length b → (get_or a i 0 ≡ get_or b i 0 → ⊥) → ltb (get_or a i 0) (get_or b i 0) ≡ less a b
-  less_told k h l e = rw (drop-cons a i 0 h, drop-cons b i 0 l, ne_eqb (get_or a i 0) (get_or b i 0) e) at k.left
-
-  pub less_short : Ranked a b i → i < length a → length b ≤ i → false ≡ less a b
-  less_short k h l = rw (drop-cons a i 0 h, drop_of_length-le b l) at k.left
-
-less_none : (b : List ℕ) → ltb 0 (length b) ≡ less [] b
-less_none [] = refl
-less_none (y ∷ b) = lt-ltb 0 (length (y ∷ b)) (omega arith)
-
-ltb_both : (n m : ℕ) → n ≤ m → ltb n m ≡ ltb 0 (m - n)
-ltb_both n m h = go (ltb n m) refl
-  where
-    go : (t : Bool) → ltb n m ≡ t → ltb n m ≡ ltb 0 (m - n)
-    go true e = e ∙ sym (lt-ltb 0 (m - n) (omega (arith, ltb-true n m e)))
-    go false e = e ∙ sym (le-ltb 0 (m - n) (omega (arith, ltb-false n m e)))
-
-pub less_end : (a b : List ℕ) (i : ℕ) → Ranked a b i → length a ≤ i → ltb (length a) (length b) ≡ less a b
-less_end a b i k h =
-    let e : length a ≡ i = omega arith in
-    let n : less [] (drop i b) ≡ less a b = rw (drop_of_length-le a h) at k.left in
-    rw e (ltb_both i (length b) (omega arith)) ∙ ap (λ (m : ℕ). ltb 0 m) (sym (length-drop i b)) ∙ less_none (drop i b) ∙ n
-
--- ---- a list laid over another, byte by byte
-pub record Laid (src dst₀ dst : List ℕ) (i : ℕ) : Type 0 where
-  pub high : i ≤ length src
-  pub room : length src ≤ length dst₀
-  pub long : length dst ≡ length dst₀
-  pub left : dst ≡ take i src ++ drop i dst₀
-
-pub laid_start : (src dst : List ℕ) → length src ≤ length dst → Laid src dst dst 0
-laid_start src dst h = record { high = omega arith; room = h; long = refl; left = refl }
-
-pub laid_on : (src dst₀ dst : List ℕ) (i : ℕ) → Laid src dst₀ dst i → i < length src → Laid src dst₀ (set dst i (get_or src i 0)) (i + 1)
-laid_on src dst₀ dst i k h =
-    let l : i < length dst₀ = omega arith in
-    let n : length (take i src) ≡ i = length-take-le i src (omega arith) in
-    record {
-      high = omega arith;
-      room = k.room;
-      long = length-set dst i (get_or src i 0) ∙ k.long;
-      left =
-          ap (λ (d : List ℕ). set d i (get_or src i 0)) (k.left ∙ ap (λ (d : List ℕ). take i src ++ d) (drop-cons dst₀ i 0 l))
-          ∙ set_at (take i src) (get_or dst₀ i 0) (drop (suc i) dst₀) (get_or src i 0) i n
-          ∙ rw (add-one, take-suc src i 0 h) (sym (append_assoc (take i src) (get_or src i 0 ∷ []) (drop (suc i) dst₀)));
-    }
-
-pub laid_end : (src dst₀ dst : List ℕ) (i : ℕ) → Laid src dst₀ dst i → length src ≤ i → dst ≡ src ++ drop (length src) dst₀
-laid_end src dst₀ dst i k h =
-    let e : i ≡ length src = omega arith in
-    k.left ∙ rw (e, take-length src)
+pub less_told : (a b : List ℕ) (o : Ordering) → o ≡ slice_cmp nat_cmp a b → is_lt o ≡ less a b
+less_told = same_from_slice_cmp nat_cmp is_lt less refl (λ _ _. refl) (λ _ _. refl) (λ x y a b o h. grind (arith, nat_tests))

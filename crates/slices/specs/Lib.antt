@@ -1,4 +1,2 @@
-pub mod Clear
 pub mod Found
-pub mod Heads
 pub mod Numbers

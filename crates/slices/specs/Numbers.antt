@@ -13,16 +13,6 @@ abbrev pub number : ℕ → List ℕ → ℕ → ℕ
 number zero s at = 0
 number (suc k) s at = number k s (at + 1) * 256 + get_or s at 0
 
--- where k bytes are read
-pub record Reading (s : List ℕ) (at k : ℕ) : Type 0 where
-  pub room : at + k ≤ length s
-  pub narrow : k ≤ 8
-
--- what reading k bytes says
-pub record Read (s : List ℕ) (at k r : ℕ) : Type 0 where
-  pub is : r ≡ number k s at
-  pub below : r < 256 ^ k
-
 -- ---- laws
 pub length_little : (k n : ℕ) → length (little k n) ≡ k
 length_little zero n = refl

@@ -3,12 +3,10 @@ use Rattle.std.proofs.Common.{ℕ, ◌+◌, ◌<◌, List, [], ◌∷◌, ◌++�
 use Rattle.meaning.specs.Quote.{fresh, scan, step}
 use Rattle.meaning.specs.Lines.{fate}
 use Rattle.laws.specs.Scans.{scan_append}
-use Rattle.text.specs.declared.Joint.{Joint}
-use Rattle.text.specs.declared.Joint.TheVariants as joints
-use Rattle.text.specs.Walk.{by_fate, gather, joint_in, joint_from, ending}
+use Rattle.text.specs.Walk.{Joint, reaching, by_fate, gather, joint_in, joint_from, ending}
 
 pub gather_carried : (ls : List (List ℕ)) (t : List ℕ) (m : ℕ) → 0 < m
-    → gather t m ls ≡ by_fate (fate (scan fresh t)) (joint_from (step (scan fresh t) 10) (length t + 1) (m + 1) ls) (joints.Whole (length t) m)
+    → gather t m ls ≡ by_fate (fate (scan fresh t)) (joint_from (step (scan fresh t) 10) (length t + 1) (m + 1) ls) (reaching (length t) m)
 unfolding ending
 gather_carried [] t m h = rw (ne_eqb (m + 1) 1 (λ z. omega arith))
 gather_carried (l ∷ ls) t m h =
@@ -16,7 +14,7 @@ gather_carried (l ∷ ls) t m h =
     let n : length (t ++ (10 ∷ l)) ≡ length t + 1 + length l = length-append t (10 ∷ l) ∙ omega arith in
     let r : gather (t ++ (10 ∷ l)) (m + 1) ls ≡ joint_from (step (scan fresh t) 10) (length t + 1) (m + 1) (l ∷ ls) =
     rw (a, n) at (gather_carried ls (t ++ (10 ∷ l)) (m + 1) (omega arith)) in
-    ap (λ (j : Joint). by_fate (fate (scan fresh t)) j (joints.Whole (length t) m)) r
+    ap (λ (j : Joint). by_fate (fate (scan fresh t)) j (reaching (length t) m)) r
 
 pub joint_carried : (ls : List (List ℕ)) → joint_from fresh 0 1 ls ≡ joint_in ls
 unfolding ending

@@ -1,4 +1,5 @@
 -- The parts of a laid text that are counted: one behind the other, and those of the next joined line come first.
+use Rattle.std.specs.Prelude.{None, Some, Ok, Err}
 use Prim.Native.Nat.{ℕ, suc, ◌+◌, ◌≤◌, ◌<◌}
 use mathlib.Core.List.{List, [], ◌∷◌, ◌++◌}
 use mathlib.Core.Option.{Option, none, some}
@@ -15,13 +16,9 @@ use Rattle.meaning.specs.Space.{blank}
 use Rattle.meaning.specs.Quote.{fresh, scan, step}
 use Rattle.meaning.specs.Lines.{fate}
 use Rattle.laws.specs.Cases.{on}
-use Rattle.text.specs.declared.Joint.{Joint}
-use Rattle.text.specs.declared.Joint.TheVariants as joints
-use Rattle.text.specs.declared.Next.{Next}
-use Rattle.text.specs.declared.Next.TheVariants as nexts
 use Rattle.text.specs.Laid.{lines_of}
 use Rattle.text.specs.Parts.{Part, part_first, parts_in, parts, Apart, Hands}
-use Rattle.text.specs.Walk.{by_fate, joint_from, joint_in, ending, placed, next_in, next, Handed}
+use Rattle.text.specs.Walk.{Joint, Next, reaching, by_fate, joint_from, joint_in, ending, placed, next_in, next, Handed}
 use Rattle.text.proofs.Carried.{joint_carried}
 use Rattle.text.proofs.Cuts.{Split, split_of, rest_after}
 
@@ -68,10 +65,9 @@ module _ (s : List ℕ) where
 -- ---- the parts of one joined line, which starts at `at`: it goes on at from, with its m-th line
 module _ (s : List ℕ) (at : ℕ) where
   abbrev Own : ℕ → ℕ → List Part → Joint → Type 0
-  Own from m ps joints.Nothing = (m ≡ 1) × (ps ≡ [])
-  Own from m ps joints.Over = Unit
-  Own from m ps joints.Open = Unit
-  Own from m ps (joints.Whole e k) = Hands s ps from m (record { at = at + e + 1; line = k + 1 })
+  Own from m ps (Ok None) = (m ≡ 1) × (ps ≡ [])
+  Own from m ps (Ok (Some x)) = Hands s ps from m (record { at = at + x.end + 1; line = x.lines + 1 })
+  Own from m ps (Err r) = Unit
 
   own_none : (from m : ℕ) → Own from m [] (ending m)
   unfolding ending
@@ -79,10 +75,9 @@ module _ (s : List ℕ) (at : ℕ) where
 
   -- a line in front
   own_first : (from next m : ℕ) (ps : List Part) (j : Joint) → from < next → 0 < m → Own next (m + 1) ps j → Own from m (record { from = from; end = next } ∷ ps) j
-  own_first from next m ps joints.Nothing h k o = absurd (omega (arith, o.0))
-  own_first from next m ps joints.Over h k o = tt
-  own_first from next m ps joints.Open h k o = tt
-  own_first from next m ps (joints.Whole e n) h k o = record {
+  own_first from next m ps (Ok None) h k o = absurd (omega (arith, o.0))
+  own_first from next m ps (Err r) h k o = tt
+  own_first from next m ps (Ok (Some x)) h k o = record {
     own = record { from = from; end = next } ∷ o.own;
     tiles = (refl, h, o.tiles);
     count = omega (arith, o.count);
@@ -93,7 +88,7 @@ module _ (s : List ℕ) (at : ℕ) where
   module _ (i m : ℕ) (h : 0 < m) (l : List ℕ) (ls : List (List ℕ)) (a : After s (at + i) l ls) (d : Scan) where
     own_by : Own (at + i + length l + 1) (m + 1) (parts_in (some (step d 10)) (at + i + length l + 1) ls) (joint_from (step d 10) (i + length l + 1) (m + 1) ls)
         → (v : Fate) → Own (at + i) m (part_first (at + i) (at + i + length l + 1) v d (λ o. parts_in o (at + i + length l + 1) ls))
-        (by_fate v (joint_from (step d 10) (i + length l + 1) (m + 1) ls) (joints.Whole (i + length l) m))
+        (by_fate v (joint_from (step d 10) (i + length l + 1) (m + 1) ls) (reaching (i + length l) m))
     unfolding parts
     own_by u Over = tt
     own_by u Unended = own_first (at + i) (at + i + length l + 1) m _ (joint_from (step d 10) (i + length l + 1) (m + 1) ls) (omega arith) h u
@@ -118,16 +113,14 @@ module _ (s : List ℕ) (at : ℕ) where
 
 -- ---- the next joined line
 handed_placed : (s : List ℕ) (at n : ℕ) (ps : List Part) (j : Joint) → Apart at (length s) ps → Own s at at 1 ps j → Handed s at ps (placed at n j)
-handed_placed s at n ps joints.Nothing a o = o.1
-handed_placed s at n ps joints.Over a o = a
-handed_placed s at n ps joints.Open a o = a
-handed_placed s at n ps (joints.Whole e m) a o = record { own = o.own; tiles = o.tiles; count = omega (arith, o.count); all = o.all }
+handed_placed s at n ps (Ok None) a o = o.1
+handed_placed s at n ps (Err r) a o = a
+handed_placed s at n ps (Ok (Some x)) a o = record { own = o.own; tiles = o.tiles; count = omega (arith, o.count); all = o.all }
 
 handed_wider : (s : List ℕ) (low at : ℕ) (ps : List Part) (r : Next) → Apart low (length s) ps → Handed s at ps r → Handed s low ps r
-handed_wider s low at ps nexts.End a h = h
-handed_wider s low at ps (nexts.Over n) a h = a
-handed_wider s low at ps (nexts.Open n) a h = a
-handed_wider s low at ps (nexts.Line from end n p) a h = h
+handed_wider s low at ps (Ok None) a h = h
+handed_wider s low at ps (Ok (Some l)) a h = h
+handed_wider s low at ps (Err u) a h = a
 
 handed_in : (s : List ℕ) (ls : List (List ℕ)) (at n : ℕ) → lines_of (drop at s) ≡ ls → Handed s at (parts_in none at ls) (next_in at n ls)
 handed_in s [] at n e = refl

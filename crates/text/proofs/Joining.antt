@@ -1,4 +1,5 @@
 -- A joined line at the head of a laid text: each line is counted once, and the count is carried on with the LF that joins.
+use Rattle.std.specs.Prelude.{None, Ok, Err}
 use Prim.Native.Nat.{ℕ, suc, ◌+◌, ◌-◌, ◌≤◌, ◌<◌}
 use mathlib.Core.List.{List, [], ◌∷◌, ◌++◌, append_assoc}
 use mathlib.Core.Option.{some}
@@ -11,6 +12,7 @@ use lib.ListN.{length, get_or, take, drop, length-drop, drop_of_length-le, take-
 use lib.Seq.{drop-cons, drop-drop, length-take-le}
 use Rattle.meaning.specs.declared.Fate.{Fate}
 use Rattle.meaning.specs.declared.Fate.TheVariants.{Over, Unended, Whole}
+use Rattle.meaning.specs.declared.Refused.TheVariants.{ClosedTooOften, NeverClosed}
 use Rattle.meaning.specs.declared.Scan.{Scan}
 use Rattle.meaning.specs.Base.{pick, before}
 use Rattle.meaning.specs.declared.StringState.{StringState}
@@ -21,12 +23,10 @@ use Rattle.laws.specs.Cases.{on}
 use Rattle.laws.specs.Parts.{rest_of}
 use Rattle.laws.specs.Scans.{scan_append, step_opens, step_closes}
 use Rattle.text.specs.declared.Counted.{Counted}
-use Rattle.text.specs.declared.Joint.{Joint}
-use Rattle.text.specs.declared.Joint.TheVariants as joints
 use Rattle.text.specs.Laid.{lines_of}
 use Rattle.text.specs.Parts.{Part, parts_in, Tiles, Due, Countable, line_of, Counts}
 use Rattle.text.specs.Runs.{Quiets, Run}
-use Rattle.text.specs.Walk.{joint_from, joint, ending, Fit, Joined}
+use Rattle.text.specs.Walk.{Joint, reaching, joint_from, joint, ending, Fit, Joined}
 use Rattle.text.proofs.Carried.{joint_carried}
 use Rattle.text.proofs.Cuts.{lines_there, lines_none}
 use Rattle.text.proofs.Runs.{scan_quiet}
@@ -123,13 +123,10 @@ unfolding joint
 gather_start s = record { high = omega arith; opens = omega arith; closes = omega arith; lines = omega arith; left = joint_carried (lines_of s); due = record { done = []; tiles = refl; all = refl } }
 
 module _ (s : List ℕ) (i m : ℕ) (c : Scan) (k : Gathering s i m c) where
-  pub gather_room : Countable s i c
-  gather_room = record { high = k.high; opens = k.opens; closes = k.closes; due = k.due }
-
   ended : (r : Joint) → lines_of (drop i s) ≡ [] → r ≡ ending m → Joined s r
   unfolding ending
   ended r e q =
-      let f : Fit s (pick (eqb m 1) joints.Nothing joints.Open) = on (eqb m 1) (λ p. rw p tt) (λ p. rw p tt) in
+      let f : Fit s (pick (eqb m 1) (Ok None) (Err NeverClosed)) = on (eqb m 1) (λ p. rw p tt) (λ p. rw p tt) in
       rw q (record { is = rw e at k.left; fit = f })
 
   pub end_here : (r : Joint) → length s ≤ i → r ≡ ending m → Joined s r
@@ -150,10 +147,10 @@ module _ (s : List ℕ) (i m : ℕ) (c : Scan) (k : Gathering s i m c) where
       ends : i + length (line_of (drop i s)) ≡ l.end
       ends = omega (arith, length-take-le (before 10 (drop i s)) (drop i s) (omega (arith, length-drop i s, p.is)), p.is)
 
-      pub over_here : f ≡ Over → Joined s joints.Over
+      pub over_here : f ≡ Over → Joined s (Err ClosedTooOften)
       over_here g = record { is = rw (split, ← p.counts, ← e, g) at k.left; fit = tt }
 
-      pub whole_here : f ≡ Whole → Joined s (joints.Whole l.end m)
+      pub whole_here : f ≡ Whole → Joined s (reaching l.end m)
       whole_here g = record {
         is = rw (split, ← p.counts, ← e, g, ends) at k.left;
         fit = record { fits = h; lines = omega (arith, k.lines, p.is) };
@@ -181,6 +178,3 @@ module _ (s : List ℕ) (i m : ℕ) (c : Scan) (k : Gathering s i m c) where
         left = rw q (rw (split, ← p.counts, ← e, g, ends) at k.left);
         due = next_due y g q;
       }
-
-      pub gather_less : i < length s → length s - (l.end + 1) < length s - i
-      gather_less z = omega (arith, p.is)

@@ -1,10 +1,11 @@
 -- Laying kept lines into the scratch: one law for each way on and out.
+use Rattle.std.specs.Prelude.{min, ◌≢◌, Bool, true, false}
 use Prim.Native.Nat.{ℕ, zero, suc, ◌+◌, ◌-◌, ◌^◌, ◌≤◌, ◌<◌}
 use mathlib.Core.List.{List, [], ◌∷◌, ◌++◌, append_assoc, append-nil}
 use mathlib.Core.Path.{◌≡◌, refl, sym, ap, ◌∙◌}
 use native.Mathlib.Omega.{arith}
 use native.Mathlib.Numerals.{add-one}
-use borrow.Author.Tests.{lt-ltb, le-ltb, ltb-true, ltb-false, eq-eqb, ne_eqb}
+use borrow.Author.Tests.{lt-ltb, le-ltb, ltb-true, ltb-false, eq-eqb, ne_eqb, eqb-true, eqb-false}
 use native.Mathlib.Nat.{lt_of_le_of_lt}
 use mir.Syntax.{w64}
 use mir.Val.{Fits}
@@ -156,31 +157,41 @@ module _ (s o : List ℕ) (n m k : ℕ) (e : n ≡ before 10 s) (h : n ≤ lengt
   pub line_within : 0 < length s → length (laid s) ≤ length o → length o < 2 ^ 64 → Fits w64 (k + 1)
   line_within z r w = record { fits = lt_of_le_of_lt (omega (arith, line_room z r, kept_count)) w }
 
-  module _ (o' : List ℕ) (q : o' ≡ over (ended (take k s)) o) where
-    pub piece_there : n < length s → Lays1 s o o' (record { taken = n + 1; written = k + 1 })
-    piece_there l = record { some = omega arith; fits = omega arith; wrote = line_size; goes = goes_there l; left = q ∙ rw line_is }
+  -- the line is taken with its LF, where it has one
+  taken_on : 0 < length s → laid s ≡ laid_line s ++ laid (drop (min (n + 1) (length s)) s)
+  taken_on z =
+      on (ltb n (length s))
+      (λ q.
+      let l : n < length s = ltb-true n (length s) q in
+      let t : n + 1 ≡ min (n + 1) (length s) = omega arith in
+      rw t at (goes_there l))
+      (λ q.
+      let l : length s ≤ n = ltb-false n (length s) q in
+      let t : n ≡ min (n + 1) (length s) = omega arith in
+      rw t at (goes_last l z))
 
-    pub piece_last : length s ≤ n → 0 < length s → Lays1 s o o' (record { taken = n; written = k + 1 })
-    piece_last l z = record { some = omega arith; fits = omega arith; wrote = line_size; goes = goes_last l z; left = q ∙ rw line_is }
+  pub piece : (o' : List ℕ) (t : ℕ) → o' ≡ over (ended (take k s)) o → 0 < length s → t ≡ min (n + 1) (length s) → Lays1 s o o' (record { taken = t; written = k + 1 })
+  piece o' t q z u = record { some = omega arith; fits = omega arith; wrote = line_size; goes = rw u (taken_on z); left = q ∙ rw line_is }
 
 -- ---- the loop: w is laid, and what is left of s goes after it
-pub record Laying (s room₀ room : List ℕ) (i j : ℕ) : Type 0 where
-  pub high : i ≤ length s
+pub record Laying (s room₀ room rest : List ℕ) (j : ℕ) : Type 0 where
+  pub less : length rest ≤ length s
   pub fits : length s < length room₀
   pub long : length room ≡ length room₀
   pub low : j ≤ length room
   pub w : List ℕ
   pub size : length w ≡ j
-  pub goes : w ++ laid (drop i s) ≡ laid s
+  pub goes : w ++ laid rest ≡ laid s
   pub left : room ≡ over w room₀
 
-pub lay_start : (s room : List ℕ) → length s < length room → Laying s room room 0 0
-lay_start s room h = record { high = omega arith; fits = h; long = refl; low = omega arith; w = []; size = refl; goes = refl; left = refl }
+pub lay_start : (s room : List ℕ) → length s < length room → Laying s room room s 0
+lay_start s room h = record { less = omega arith; fits = h; long = refl; low = omega arith; w = []; size = refl; goes = refl; left = refl }
 
-pub lay_done : (s room₀ room : List ℕ) (i j : ℕ) → Laying s room₀ room i j → length s ≤ i → Lays s room₀ room j
+pub lay_done : (s room₀ room rest : List ℕ) (j : ℕ) → Laying s room₀ room rest j → (r : Bool) → r ≡ eqb (length rest) 0 → r ≡ true → Lays s room₀ room j
 unfolding laid physical
-lay_done s room₀ room i j k h =
-    let e : k.w ≡ laid s = sym (append-nil k.w) ∙ rw (drop_of_length-le s h) at k.goes in
+lay_done s room₀ room (b ∷ rest) j k r q t = let z : length (b ∷ rest) ≡ 0 = eqb-true (length (b ∷ rest)) 0 (sym q ∙ t) in absurd (omega arith)
+lay_done s room₀ room [] j k r q t =
+    let e : k.w ≡ laid s = sym (append-nil k.w) ∙ k.goes in
     record {
       fits = k.low;
       most = omega (arith, laid_short (length s) s (omega arith), k.size, ap length e);
@@ -188,56 +199,51 @@ lay_done s room₀ room i j k h =
       left = k.left ∙ ap (λ (b : List ℕ). over b room₀) e;
     }
 
-module _ (s room₀ room : List ℕ) (i j : ℕ) (a : Laying s room₀ room i j) where
+module _ (s room₀ room rest : List ℕ) (j : ℕ) (a : Laying s room₀ room rest j) where
   -- there is room for all that is left
-  room_left : j + length (laid (drop i s)) ≤ length room
+  room_left : j + length (laid rest) ≤ length room
   room_left =
-      omega (arith, laid_short (length s) s (omega arith), sym (length-append a.w (laid (drop i s))) ∙ ap length a.goes, a.size, a.long, a.fits)
+      omega (arith, laid_short (length s) s (omega arith), sym (length-append a.w (laid rest)) ∙ ap length a.goes, a.size, a.long, a.fits)
 
-  pub lends : i < length s
-      → Fitting (take (length s - i) (drop i s)) (take (length room - j) (drop j room))
-  lends h = rw (rest_of s i, rest_of room j) (record { some = omega (arith, length-drop i s); wide = omega (arith, length-drop j room, room_left) })
+  pub lends : (r : Bool) → r ≡ eqb (length rest) 0 → r ≡ false → Fitting rest (take (length room - j) (drop j room))
+  lends r e f =
+      let h : length rest ≢ 0 = eqb-false (length rest) 0 (sym e ∙ f) in
+      rw (rest_of room j) (record { some = omega arith; wide = omega (arith, length-drop j room, room_left) })
 
-  module _ (p : Piece) (ys : List ℕ) (l : Lays1 (take (length s - i) (drop i s)) (take (length room - j) (drop j room)) ys p) where
-    so : Lays1 (drop i s) (drop j room) ys p
-    so = rw (rest_of s i, rest_of room j) at l
-
-    pub taken_fits : i + p.taken ≤ length s
-    taken_fits = omega (arith, so.fits, length-drop i s, so.some)
+  module _ (p : Piece) (ys : List ℕ) (l : Lays1 rest (take (length room - j) (drop j room)) ys p) where
+    so : Lays1 rest (drop j room) ys p
+    so = rw (rest_of room j) at l
 
     pub written_fits : j + p.written ≤ length room
-    written_fits = omega (arith, so.wrote, ap length so.goes, length-append (laid_line (drop i s)) (laid (drop p.taken (drop i s))), room_left)
+    written_fits = omega (arith, so.wrote, ap length so.goes, length-append (laid_line rest) (laid (drop p.taken rest)), room_left)
 
-    laid_at : take j room ++ (ys ++ drop (length room - j) (drop j room)) ≡ over (a.w ++ laid_line (drop i s)) room₀
+    laid_at : take j room ++ (ys ++ drop (length room - j) (drop j room)) ≡ over (a.w ++ laid_line rest) room₀
     laid_at =
-        let x : List ℕ = laid_line (drop i s) in
+        let x : List ℕ = laid_line rest in
         let t : take j room ≡ a.w = ap (take j) a.left ∙ take_at a.w (drop (length a.w) room₀) j a.size in
         let d : drop j room ≡ drop j room₀ = ap (drop j) a.left ∙ drop_at a.w (drop (length a.w) room₀) j a.size ∙ ap (λ (m : ℕ). drop m room₀) a.size in
         let n : length (a.w ++ x) ≡ j + length x = length-append a.w x ∙ ap (λ (m : ℕ). m + length x) a.size in
         back_of room ys j
         ∙ rw (t, so.left, d, drop-drop (length x) j room₀, n) (sym (append_assoc a.w x (drop (j + length x) room₀)))
 
-    grown : length (a.w ++ laid_line (drop i s)) ≡ j + p.written
-    grown = length-append a.w (laid_line (drop i s)) ∙ rw (a.size, ← so.wrote)
+    grown : length (a.w ++ laid_line rest) ≡ j + p.written
+    grown = length-append a.w (laid_line rest) ∙ rw (a.size, ← so.wrote)
 
-    pub lay_on : Laying s room₀ (take j room ++ (ys ++ drop (length room - j) (drop j room))) (i + p.taken) (j + p.written)
-    lay_on =
-        let w : List ℕ = a.w ++ laid_line (drop i s) in
+    lay_on : (rest' : List ℕ) → rest' ≡ drop p.taken rest → Laying s room₀ (take j room ++ (ys ++ drop (length room - j) (drop j room))) rest' (j + p.written)
+    lay_on rest' e =
+        let w : List ℕ = a.w ++ laid_line rest in
         let n : length (take j room ++ (ys ++ drop (length room - j) (drop j room))) ≡ length room₀ =
         ap length laid_at ∙ length-append w (drop (length w) room₀) ∙ omega (arith, grown, written_fits, a.long, length-drop (length w) room₀) in
-        record {
-          high = taken_fits;
+        rw e (record {
+          less = omega (arith, length-drop p.taken rest, a.less);
           fits = a.fits;
           long = n;
           low = omega (arith, written_fits, a.long);
           w = w;
           size = grown;
-          goes = append_assoc a.w (laid_line (drop i s)) (laid (drop (i + p.taken) s)) ∙ rw (← (drop-drop p.taken i s), ← so.goes) a.goes;
+          goes = append_assoc a.w (laid_line rest) (laid (drop p.taken rest)) ∙ rw (← so.goes) a.goes;
           left = laid_at;
-        }
+        })
 
-    pub taken_within : length s < 2 ^ 64 → Fits w64 (i + p.taken)
-    taken_within l = record { fits = lt_of_le_of_lt taken_fits l }
-
-    pub written_within : length room₀ < 2 ^ 64 → Fits w64 (j + p.written)
-    written_within l = record { fits = lt_of_le_of_lt (rw a.long at written_fits) l }
+    pub lay_onward : Laying s room₀ (take j room ++ (ys ++ drop (length room - j) (drop j room))) (take (length rest - p.taken) (drop p.taken rest)) (j + p.written)
+    lay_onward = lay_on (take (length rest - p.taken) (drop p.taken rest)) (rest_of rest p.taken)

@@ -58,9 +58,6 @@ quiets_more : (st : StringState) (s : List ℕ) (b : ℕ) → Quiets st s → Qu
 quiets_more st [] b a q = (q, tt)
 quiets_more st (x ∷ s) b a q = (a.0, quiets_more st s b a.1 q)
 
-pub run_start : (st : StringState) (s : List ℕ) → Run st s 0
-run_start st s = record { fits = omega arith; all = tt }
-
 pub run_on : (st : StringState) (s : List ℕ) (i : ℕ) (r : Bool) → Run st s i → i < length s → (r ≡ true → Quiet st (get_or s i 0)) → r ≡ true → Run st s (i + 1)
 run_on st s i r k h q t = record {
   fits = omega arith;

@@ -17,10 +17,8 @@ use Rattle.meaning.specs.Lines.{Line, closed, fate, join}
 use Rattle.meaning.specs.Carried.{idle, Carried, settle, settled, carry_one, carry}
 use Rattle.laws.specs.Cases.{on}
 use Rattle.laws.specs.Joins.{carry_is_join}
-use Rattle.text.specs.declared.Joint.{Joint}
-use Rattle.text.specs.declared.Joint.TheVariants as joints
 use Rattle.text.specs.Laid.{lines_of}
-use Rattle.text.specs.Walk.{by_fate, joint_from, ending, placed, next_in, next, Says}
+use Rattle.text.specs.Walk.{Joint, reaching, by_fate, joint_from, ending, placed, next_in, next, Says}
 use Rattle.text.proofs.Carried.{gather_carried}
 use Rattle.text.proofs.Cuts.{Split, split_of, rest_after}
 use Rattle.text.proofs.Handing.{after}
@@ -42,10 +40,10 @@ onward k ls st = accepted_then st (λ x. accepted_then (carry x.onward k ls) (λ
 module _ (s : List ℕ) (at n : ℕ) where
   -- m lines make the text t, whose count is c, and the lines ls follow
   abbrev goes_on : List ℕ → Scan → ℕ → List (List ℕ) → Fate → Joint
-  goes_on t c m ls v = by_fate v (joint_from (step c 10) (length t + 1) (m + 1) ls) (joints.Whole (length t) m)
+  goes_on t c m ls v = by_fate v (joint_from (step c 10) (length t + 1) (m + 1) ls) (reaching (length t) m)
 
   whole_says : (t f : List ℕ) (c : Scan) (m : ℕ) (ls : List (List ℕ)) → drop at s ≡ t ++ (10 ∷ f) → ls ≡ lines_of f
-      → Says s (onward (n + m) ls (settle n t c Whole)) (placed at n (joints.Whole (length t) m))
+      → Says s (onward (n + m) ls (settle n t c Whole)) (placed at n (reaching (length t) m))
   whole_says t f c m ls e q = rw (rest_after s at t f e, ← (front s at t f e), ← q, carry_is_join idle (n + m) ls tt)
 
   by_fate_lem : (ls : List (List ℕ)) (t f : List ℕ) (c : Scan) (m : ℕ) → drop at s ≡ t ++ (10 ∷ f) → ls ≡ lines_of f

@@ -13,19 +13,16 @@ use Rattle.meaning.specs.declared.Scan.{Scan}
 use Rattle.meaning.specs.Base.{before}
 use Rattle.meaning.specs.declared.StringState.{StringState}
 use Rattle.meaning.specs.declared.StringState.TheVariants.{Outside, Inside, Escaped}
-use Rattle.meaning.specs.Quote.{state_after, equals_outside, tally, step, scan, fresh, up_to}
+use Rattle.meaning.specs.Quote.{state_after, equals_outside, step, scan, fresh, up_to}
 use Rattle.meaning.specs.Lines.{quotes_closed}
 use Rattle.laws.specs.Cases.{on, never}
 use Rattle.laws.specs.Parts.{rest_of}
 use Rattle.laws.specs.Scans.{step_opens, step_closes}
+use Rattle.meaning.specs.contracts.StringState.{the_type}
 use Rattle.slices.specs.Found.{Found}
+use Rattle.text.proofs.States.{outside_is, closed_is}
+use denote.Enum.Bare.{sameb}
 use Rattle.text.specs.Runs.{StringEnd}
-
-pub step_is : (c : Scan) (b : ℕ) (n : StringState) (o k : ℕ) → n ≡ state_after c.state b
-    → o ≡ tally 91 c.state b c.opens → k ≡ tally 93 c.state b c.closes
-    → ◌≡◌ {A = Scan} (record { state = n; opens = o; closes = k }) (step c b)
-unfolding step
-step_is c b n o k e f g = rw (e, f, g)
 
 -- ---- the scan from the start to its end
 pub record Scanning (s : List ℕ) (i : ℕ) (x : Scan) : Type 0 where
@@ -33,9 +30,6 @@ pub record Scanning (s : List ℕ) (i : ℕ) (x : Scan) : Type 0 where
   pub opens : x.opens ≤ i
   pub closes : x.closes ≤ i
   pub left : scan x (drop i s) ≡ scan fresh s
-
-pub scan_start : (s : List ℕ) → Scanning s 0 (record { state = Outside; opens = 0; closes = 0 })
-scan_start s = record { high = omega arith; opens = omega arith; closes = omega arith; left = refl }
 
 pub scan_on : (s : List ℕ) (i : ℕ) (x y : Scan) → Scanning s i x → i < length s → y ≡ step x (get_or s i 0) → Scanning s (i + 1) y
 scan_on s i x y k h e =
@@ -56,9 +50,6 @@ pub record Quoting (s : List ℕ) (i : ℕ) (st : StringState) : Type 0 where
   pub inside : quotes_closed st ≡ false
   pub left : (c : ℕ) → up_to c Inside s ≡ i + up_to c st (drop i s)
 
-pub quoting_start : (s : List ℕ) → Quoting s 0 Inside
-quoting_start s = record { high = omega arith; inside = refl; left = λ c. omega arith }
-
 -- inside a string nothing is found
 none_inside : (c : ℕ) (st : StringState) (b : ℕ) → quotes_closed st ≡ false → equals_outside c st b ≡ false
 unfolding equals_outside
@@ -66,14 +57,8 @@ none_inside c Outside b e = never refl e
 none_inside c Inside b e = refl
 none_inside c Escaped b e = refl
 
--- where quotes are closed the state is that outside strings
-closed_is : (st : StringState) → quotes_closed st ≡ true → st ≡ Outside
-closed_is Outside e = refl
-closed_is Inside e = never e refl
-closed_is Escaped e = never e refl
-
 module _ (s : List ℕ) (i : ℕ) (st : StringState) (k : Quoting s i st) where
-  module _ (h : i < length s) (n : StringState) (g : n ≡ state_after st (get_or s i 0)) (r : Bool) (q : r ≡ quotes_closed n) where
+  module _ (h : i < length s) (n : StringState) (g : n ≡ state_after st (get_or s i 0)) (r : Bool) (q : r ≡ sameb the_type n Outside) where
     quoting_left : (c : ℕ) → up_to c Inside s ≡ i + 1 + up_to c n (drop (i + 1) s)
     quoting_left c =
         let t : up_to c st (drop i s) ≡ suc (up_to c n (drop (i + 1) s)) =
@@ -81,13 +66,10 @@ module _ (s : List ℕ) (i : ℕ) (st : StringState) (k : Quoting s i st) where
         omega (arith, k.left c)
 
     pub quoting_on : r ≡ false → Quoting s (i + 1) n
-    quoting_on z = record { high = omega arith; inside = sym q ∙ z; left = quoting_left }
+    quoting_on z = record { high = omega arith; inside = sym (outside_is n) ∙ sym q ∙ z; left = quoting_left }
 
     pub quoting_out : r ≡ true → StringEnd s (i + 1)
     quoting_out z = record { fits = omega arith; is = rw (closed_is n (sym q ∙ z)) at quoting_left }
-
-  pub quoting_end : length s ≤ i → StringEnd s i
-  quoting_end h = record { fits = k.high; is = λ c. rw (drop_of_length-le s h) (rw (drop_of_length-le s h) at (k.left c)) }
 
 -- ---- the first byte c outside a string
 pub record Seeking (s : List ℕ) (c i : ℕ) : Type 0 where
@@ -117,17 +99,13 @@ module _ (s : List ℕ) (c i : ℕ) (k : Seeking s c i) where
         string_bound : i + 1 + m ≤ length s
         string_bound = omega (arith, there.fits, length-drop (i + 1) s)
 
-        pub seek_string : Seeking s c (i + 1 + m)
+        pub seek_string : Seeking s c (i + (1 + m))
         unfolding equals_outside state_after
         seek_string =
+            let p1 : i + (1 + m) ≡ i + 1 + m = omega arith in
             let t : up_to c Outside (drop i s) ≡ suc (up_to c Inside (drop (i + 1) s)) =
             rw (drop-cons s i 0 h, add-one, ne_eqb (get_or s i 0) c n, eq-eqb (get_or s i 0) 34 q) in
-            record { high = string_bound; left = rw (← (drop-drop m (i + 1) s)) (omega (arith, k.left, there.is c)) }
-
-  pub seek_end : length s ≤ i → i ≡ up_to c Outside s
-  seek_end h =
-      let t : up_to c Outside (drop i s) ≡ 0 = rw (drop_of_length-le s h) in
-      omega (arith, k.left)
+            rw p1 (record { high = string_bound; left = rw (← (drop-drop m (i + 1) s)) (omega (arith, k.left, there.is c)) })
 
 -- a list without c has none outside a string
 none_here : (c : ℕ) (st : StringState) (b : ℕ) → eqb b c ≡ false → equals_outside c st b ≡ false

@@ -1,52 +1,37 @@
 -- A text without comments and CRs, whose last line has its LF, is laid as it stands.
 use Prim.Native.Nat.{ℕ, zero, suc, ◌+◌, ◌-◌, ◌≤◌, ◌<◌}
 use mathlib.Core.Bool.{Bool, true, false}
-use mathlib.Core.List.{List, [], ◌∷◌, ◌++◌}
+use mathlib.Core.List.{List, [], ◌∷◌}
 use mathlib.Core.Path.{◌≡◌, refl, sym, ap, ◌∙◌}
 use native.Mathlib.Omega.{arith}
 use native.Mathlib.Numerals.{add-one}
 use borrow.Author.Tests.{lt-ltb, eqb-true, eq-eqb, ne_eqb}
+use Rattle.std.specs.Prelude.{fold}
 use lib.Bits.{bit_or, or_zero_r}
 use lib.Dec.{eqb}
+use Rattle.chars.specs.Under.{or_right}
 use lib.ListN.{length, get_or, take, drop, length-drop, take-append-drop}
-use lib.Seq.{length-take-le, take_all, take-suc, get_or-take, get_or-drop, drop-cons}
+use lib.Seq.{length-take-le, take_all, get_or-take, get_or-drop, drop-cons}
 use Rattle.meaning.specs.Base.{pick, nil?, final, before}
 use Rattle.meaning.specs.declared.StringState.{StringState}
 use Rattle.meaning.specs.declared.StringState.TheVariants.{Outside, Inside, Escaped}
 use Rattle.meaning.specs.Quote.{state_after, equals_outside, up_to}
 use Rattle.meaning.specs.Lines.{drop_cr, kept, physical}
 use Rattle.laws.specs.Cases.{on, never}
-use Rattle.chars.specs.Under.{or_right}
 use Rattle.text.specs.Laid.{laid, first_line, bare, changed, all_bare, clean, Bare, Bares}
 use Rattle.text.proofs.Cuts.{laid_there}
 
--- ---- the pass over all bytes: m is 0 as long as those before i are bare
-pub record Marking (s : List ℕ) (i m : ℕ) : Type 0 where
-  pub high : i ≤ length s
-  pub zero? : eqb m 0 ≡ all_bare (take i s)
+-- ---- the pass over all bytes
+fold_from : (m : ℕ) (s : List ℕ) → eqb (fold (λ n b. bit_or n (changed b)) m s) 0 ≡ pick (eqb m 0) (all_bare s) false
+fold_from m [] = on (eqb m 0) (λ e. rw e) (λ e. rw e)
+fold_from m (b ∷ s) =
+    fold_from (bit_or m (changed b)) s
+    ∙ on (bare b)
+    (λ e. rw (e, or_zero_r m))
+    (λ e. rw (e, ne_eqb (bit_or m 1) 0 (λ z. omega (arith, or_right m 1))) (on (eqb m 0) (λ z. rw z) (λ z. rw z)))
 
-pub mark_none : (s : List ℕ) → Marking s 0 0
-mark_none s = record { high = omega arith; zero? = refl }
-
--- one byte more
-bare_more : (s : List ℕ) (b : ℕ) → all_bare (s ++ (b ∷ [])) ≡ pick (all_bare s) (bare b) false
-bare_more [] b = on (bare b) (λ e. rw e) (λ e. rw e)
-bare_more (a ∷ s) b = on (bare a) (λ e. rw e (bare_more s b)) (λ e. rw e)
-
-one_bare : (m b : ℕ) → eqb (bit_or m (changed b)) 0 ≡ pick (eqb m 0) (bare b) false
-one_bare m b =
-    on (bare b)
-    (λ e. rw (e, or_zero_r m) (on (eqb m 0) (λ z. rw z) (λ z. rw z)))
-    (λ e. rw e (ne_eqb (bit_or m 1) 0 (λ z. omega (arith, or_right m 1)) ∙ on (eqb m 0) (λ z. rw z) (λ z. rw z)))
-
-module _ (s : List ℕ) (i m : ℕ) (a : Marking s i m) where
-  pub mark_on : (x : ℕ) → i < length s → x ≡ changed (get_or s i 0) → Marking s (i + 1) (bit_or m x)
-  mark_on x h e =
-      let t : take (i + 1) s ≡ take i s ++ (get_or s i 0 ∷ []) = rw (add-one i) (take-suc s i 0 h) in
-      record { high = omega arith; zero? = rw (e, t) (one_bare m (get_or s i 0) ∙ rw a.zero? (sym (bare_more (take i s) (get_or s i 0)))) }
-
-  pub mark_all : length s ≤ i → eqb m 0 ≡ all_bare s
-  mark_all h = a.zero? ∙ ap all_bare (take_all i s h)
+pub fold_bare : (s : List ℕ) → eqb (fold (λ n b. bit_or n (changed b)) 0 s) 0 ≡ all_bare s
+fold_bare s = fold_from 0 s
 
 -- such bytes one by one
 bare_so : (b : ℕ) → bare b ≡ true → Bare b
@@ -63,15 +48,6 @@ bares_so s e = record { fits = omega arith; all = go s e }
     go [] e k l = absurd (omega arith)
     go (b ∷ s) e zero l = on (bare b) (λ t. bare_so b t) (λ t. never {b = false} (rw t at e) refl)
     go (b ∷ s) e (suc k) l = on (bare b) (λ t. go s (rw t at e) k (omega arith)) (λ t. never {b = false} (rw t at e) refl)
-
-pub byte_hash : (b : ℕ) → b ≡ 35 → 1 ≡ changed b
-byte_hash b e = rw e
-
-pub byte_cr : (b : ℕ) → b ≡ 13 → 1 ≡ changed b
-byte_cr b e = rw e
-
-pub byte_bare : (b : ℕ) → (b ≡ 35 → ⊥) → (b ≡ 13 → ⊥) → 0 ≡ changed b
-byte_bare b e f = rw (ne_eqb b 35 e, ne_eqb b 13 f)
 
 -- ---- a bare line is kept whole
 no_comment : (st : StringState) (b : ℕ) → Bare b → equals_outside 35 st b ≡ false
@@ -147,9 +123,9 @@ not_nil [] h = absurd (h refl)
 not_nil (b ∷ s) h = refl
 
 module _ (s : List ℕ) where
-  pub clean_none : length s ≡ 0 → true ≡ clean s
+  pub clean_none : (r : Bool) → r ≡ eqb (length s) 0 → r ≡ true → r ≡ clean s
   unfolding clean
-  clean_none z = go s z
+  clean_none r e t = t ∙ go s (eqb-true (length s) 0 (sym e ∙ t))
     where
       go : (s : List ℕ) → length s ≡ 0 → true ≡ pick (nil? s) true (pick (eqb (final s) 10) (all_bare s) false)
       go [] z = refl

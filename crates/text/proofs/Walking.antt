@@ -1,13 +1,12 @@
 -- The walk over joined lines: blank lines passed, the next line, and what it says of all joined lines.
-use Prim.Native.Nat.{ℕ, suc, ◌+◌, ◌-◌, ◌*◌, ◌^◌, ◌≤◌, ◌<◌}
+use Rattle.std.specs.Prelude.{None, Some, Ok, Err}
+use Prim.Native.Nat.{ℕ, suc, ◌+◌, ◌-◌, ◌≤◌, ◌<◌}
 use mathlib.Core.Bool.{Bool, true, false}
 use mathlib.Core.List.{List, [], ◌∷◌}
 use mathlib.Core.Path.{◌≡◌, refl, sym, ap, ◌∙◌}
 use native.Mathlib.Omega.{arith}
 use native.Mathlib.Nat.{add_assoc}
 use borrow.Author.Tests.{lt-ltb, le-ltb, ltb-true, ltb-false, ne_eqb}
-use mir.Syntax.{w64}
-use mir.Val.{Fits}
 use lib.Dec.{ltb}
 use lib.ListN.{length, get_or, take, drop, length-drop, drop_of_length-le}
 use lib.Seq.{drop-cons, drop-drop, length-take-le}
@@ -17,13 +16,11 @@ use Rattle.laws.specs.Cases.{on}
 use Rattle.laws.specs.Parts.{rest_of}
 use Rattle.slices.specs.Found.{Found}
 use Rattle.chars.specs.Ascii.{high_plain, ascii_plain}
-use Rattle.text.specs.declared.Joint.{Joint}
-use Rattle.text.specs.declared.Joint.TheVariants as joints
-use Rattle.text.specs.declared.Next.{Next}
-use Rattle.text.specs.declared.Next.TheVariants as nexts
+use Rattle.meaning.specs.declared.Refused.{Refused}
+use Rattle.text.specs.declared.Extent.{Extent}
 use Rattle.text.specs.declared.Place.{Place}
 use Rattle.text.specs.Laid.{lines_of}
-use Rattle.text.specs.Walk.{joint_in, joint, ending, placed, next_in, next, Within, Joined, Dark, Skipped, Advance, Follows}
+use Rattle.text.specs.Walk.{Joint, Next, joint_in, joint, ending, placed, next_in, next, Within, Joined, Dark, Skipped, Advance, Follows}
 use Rattle.text.proofs.Cuts.{lines_there, lines_none}
 use Rattle.text.proofs.Handing.{handed}
 
@@ -33,17 +30,17 @@ dark_ascii b h e =
     let l : b < 128 = ltb-true b 128 e in
     record { line = λ q. omega arith; plain = λ s. ascii_plain b s l (high_plain b (λ q. omega arith) l (omega arith)) }
 
-pub record Skipping (s : List ℕ) (at n₀ i n : ℕ) : Type 0 where
-  pub on : at ≤ i
-  pub count : n + at ≤ n₀ + i
+pub record Skipping (s : List ℕ) (at n₀ : ℕ) (p : Place) : Type 0 where
+  pub on : at ≤ p.at
+  pub count : p.line + at ≤ n₀ + p.at
   pub small : n₀ < 4294967296
-  pub left : next s at n₀ ≡ next_in i n (lines_of (drop i s))
+  pub left : next s at n₀ ≡ next_in p.at p.line (lines_of (drop p.at s))
 
-pub skip_start : (s : List ℕ) (at n : ℕ) → n < 4294967296 → Skipping s at n at n
+pub skip_start : (s : List ℕ) (at n : ℕ) → n < 4294967296 → Skipping s at n (record { at = at; line = n })
 unfolding next
 skip_start s at n h = record { on = omega arith; count = omega arith; small = h; left = refl }
 
-module _ (s : List ℕ) (at n₀ i n : ℕ) (a : Skipping s at n₀ i n) where
+module _ (s : List ℕ) (at n₀ i n : ℕ) (a : Skipping s at n₀ (record { at = i; line = n })) where
   -- nothing is left
   nothing : (p : ℕ) → lines_of (drop i s) ≡ [] → length s ≤ p → at ≤ p → i ≤ p → Skipped s at n₀ (record { at = p; line = n })
   nothing p e h o l = record {
@@ -101,7 +98,7 @@ module _ (s : List ℕ) (at n₀ i n : ℕ) (a : Skipping s at n₀ i n) where
       said : r ≡ blank (take k (drop i s))
       said = let z : i + k - i ≡ k = omega arith in rw z at e
 
-      pub skip_on : r ≡ true → Skipping s at n₀ (i + k + 1) (n + 1)
+      pub skip_on : r ≡ true → Skipping s at n₀ (record { at = i + k + 1; line = n + 1 })
       skip_on t = record {
         on = omega (arith, a.on);
         count = omega (arith, a.count);
@@ -123,43 +120,30 @@ module _ (s : List ℕ) (at n₀ : ℕ) (p : Place) (a : Skipped s at n₀ p) wh
   follows : (r : Next) → r ≡ next s at n₀ → Advance s at n₀ r → Follows s at n₀ r
   follows r e v = record { is = e; advance = v; handed = rw e (handed s at n₀) }
 
-  pub at_end : length s ≤ p.at → Follows s at n₀ nexts.End
-  at_end h = follows nexts.End (sym (a.is ∙ rw (le-ltb p.at (length s) h))) tt
+  pub at_end : length s ≤ p.at → Follows s at n₀ (Ok None)
+  at_end h = follows (Ok None) (sym (a.is ∙ rw (le-ltb p.at (length s) h))) tt
 
   module _ (h : p.at < length s) (j : Joint) (b : Joined (take (length s - p.at) (drop p.at s)) j) where
     is_placed : placed p.at p.line j ≡ next s at n₀
     is_placed = rw (b.is, rest_of s p.at) (sym (a.is ∙ rw (lt-ltb p.at (length s) h)))
 
-    pub none_there : j ≡ joints.Nothing → Follows s at n₀ nexts.End
-    none_there e = follows nexts.End (ap (placed p.at p.line) (sym e) ∙ is_placed) tt
+    pub none_there : j ≡ Ok None → Follows s at n₀ (Ok None)
+    none_there e = follows (Ok None) (ap (placed p.at p.line) (sym e) ∙ is_placed) tt
 
-    pub over_there : j ≡ joints.Over → Follows s at n₀ (nexts.Over p.line)
-    over_there e = follows (nexts.Over p.line) (ap (placed p.at p.line) (sym e) ∙ is_placed) (omega (arith, a.count))
+    pub refused_there : (r : Refused) → j ≡ Err r → Follows s at n₀ (Err (record { refused = r; line = p.line }))
+    refused_there r e = follows (Err (record { refused = r; line = p.line })) (ap (placed p.at p.line) (sym e) ∙ is_placed) (omega (arith, a.count))
 
-    pub open_there : j ≡ joints.Open → Follows s at n₀ (nexts.Open p.line)
-    open_there e = follows (nexts.Open p.line) (ap (placed p.at p.line) (sym e) ∙ is_placed) (omega (arith, a.count))
-
-    module _ (e m : ℕ) (q : j ≡ joints.Whole e m) where
-      within : Within (take (length s - p.at) (drop p.at s)) e m
+    module _ (x : Extent) (q : j ≡ Ok (Some x)) where
+      within : Within (take (length s - p.at) (drop p.at s)) x.end x.lines
       within = rw q at b.fit
 
-      pub end_in : p.at + e < length s
+      pub end_in : p.at + x.end < length s
       end_in = omega (arith, rw (rest_of s p.at) at within.fits, length-drop p.at s)
 
-      pub lines_in_lem : p.line + m + at ≤ n₀ + (p.at + e + 1)
+      pub lines_in_lem : p.line + x.lines + at ≤ n₀ + (p.at + x.end + 1)
       lines_in_lem = omega (arith, within.lines, a.count)
 
-      pub end_within : length s < 2 ^ 64 → Fits w64 (p.at + e)
-      end_within l = record { fits = omega (arith, end_in) }
-
-      pub place_within : length s < 2 ^ 64 → Fits w64 (p.at + e + 1)
-      place_within l = record { fits = omega (arith, end_in) }
-
-      pub lines_within : n₀ < 4294967296 → length s * 1 < 2 ^ 63 → Fits w64 (p.line + m)
-      lines_within z l = record { fits = omega (arith, end_in, lines_in_lem) }
-
-      pub line_there : Follows s at n₀ (nexts.Line p.at (p.at + e) p.line (record { at = p.at + e + 1; line = p.line + m }))
+      pub line_there : Follows s at n₀ (Ok (Some (record { from = p.at; end = p.at + x.end; line = p.line; next = record { at = p.at + x.end + 1; line = p.line + x.lines } })))
       line_there =
-          follows (nexts.Line p.at (p.at + e) p.line (record { at = p.at + e + 1; line = p.line + m }))
-          (ap (placed p.at p.line) (sym q) ∙ is_placed)
+          follows (placed p.at p.line (Ok (Some x))) (ap (placed p.at p.line) (sym q) ∙ is_placed)
           (record { on = a.on; number = a.count; low = omega arith; high = omega arith; fits = omega (arith, end_in); count = lines_in_lem })

@@ -1,4 +1,5 @@
 -- The whole reading: laying, then the check, is 01's joined lines.
+use Rattle.std.specs.Prelude.{Result, Ok, Err}
 use Prim.Native.Nat.{ℕ, zero, suc, ◌+◌, ◌-◌, ◌≤◌, ◌<◌}
 use mathlib.Core.Bool.{Bool, true, false}
 use mathlib.Core.List.{List, [], ◌∷◌, ◌++◌, append_assoc}
@@ -7,24 +8,23 @@ use native.Mathlib.Omega.{arith}
 use native.Mathlib.Numerals.{add-one}
 use borrow.Author.Tests.{lt-ltb, le-ltb, ltb-true, ltb-false, eqb-true, eqb-false, eq-eqb}
 use lib.Dec.{eqb, ltb}
-use lib.ListN.{length, get_or, take, drop, length-drop, length-append, length-take}
+use lib.ListN.{length, get_or, take, drop, length-drop, length-append}
 use lib.Seq.{take_at, drop_at, length-take-le}
 use Rattle.meaning.specs.declared.Limits.{Limits}
 use Rattle.meaning.specs.Base.{pick, before}
-use Rattle.meaning.specs.Limits.{of01}
 use Rattle.meaning.specs.declared.StringState.TheVariants.{Outside}
 use Rattle.meaning.specs.Quote.{up_to}
+use Rattle.meaning.specs.Numbered.{number}
 use Rattle.meaning.specs.Refusal.{Answer, accepted, refused, at_line}
 use Rattle.meaning.specs.Utf8.{valid}
 use Rattle.meaning.specs.Lines.{Line, closed, join, joined, drop_cr, kept, kept_lines, physical}
 use Rattle.meaning.specs.Lines as meant
 use Rattle.laws.specs.Cases.{on}
-use Rattle.text.specs.declared.Checked.{Checked}
-use Rattle.text.specs.declared.Checked.TheVariants as checks
-use Rattle.text.specs.declared.Reading.{Reading}
-use Rattle.text.specs.declared.Reading.TheVariants as readings
+use Rattle.meaning.specs.declared.Refused.TheVariants.{TextTooLong, NotUtf8}
+use Rattle.text.specs.declared.Laid.{Laid}
+use Rattle.text.specs.declared.AtLine.{AtLine}
 use Rattle.text.specs.Laid.{lines_of, laid, over, first_line, Begins, Lays}
-use Rattle.text.specs.Answers.{answer_of, checked_of, counted, measured, Between, Checks, Small, Roomy, Reads}
+use Rattle.text.specs.Answers.{answer_of, counted, measured, Checks, Small, Roomy, Reads}
 use Rattle.text.proofs.Cuts.{before_fits, physical_there, physical_last, laid_there, laid_last, lines_there}
 use Rattle.text.proofs.Laying.{whole_line, empty_line, cr_line, plain_line, Keeps, keeps}
 
@@ -113,19 +113,16 @@ checked_joined s = ap (join closed 1) (laid_lines (length s) s (omega arith))
 
 -- ---- the ways out of `lines`
 module _ (limits : Limits) (s room : List ℕ) where
-  pub too_long : limits.text < length s → Reads limits s room room readings.TooLong
+  pub too_long : limits.text < length s → Reads limits s room room (Err (record { refused = TextTooLong; line = 0 }))
   unfolding meant.lines
-  too_long h = record { says = rw (lt-ltb limits.text (length s) h); small = tt; left = rw (lt-ltb limits.text (length s) h) }
+  too_long h = record { says = rw (lt-ltb limits.text (length s) h); small = omega arith; left = rw (lt-ltb limits.text (length s) h) }
 
   module _ (h : length s ≤ limits.text) (v : Bool) (e : v ≡ valid s) where
-    pub not_utf8 : v ≡ false → Reads limits s room room readings.NotUtf8
+    pub not_utf8 : v ≡ false → Reads limits s room room (Err (record { refused = NotUtf8; line = 0 }))
     unfolding meant.lines
-    not_utf8 f = record { says = rw (le-ltb limits.text (length s) h, ← e, f); small = tt; left = rw (le-ltb limits.text (length s) h, ← e, f) }
+    not_utf8 f = record { says = rw (le-ltb limits.text (length s) h, ← e, f); small = omega arith; left = rw (le-ltb limits.text (length s) h, ← e, f) }
 
     module _ (t : v ≡ true) (room' : List ℕ) (used : ℕ) (y : Lays s room room' used) where
-      pub from_start : Roomy limits room → Between (take used room') 0 1
-      from_start r = record { high = omega arith; number = omega arith; small = omega (arith, r.small, y.most, length-take used room') }
-
       pub prefix_count : used ≡ length (take used room')
       prefix_count = sym (length-take-le used room' y.fits)
 
@@ -139,44 +136,28 @@ module _ (limits : Limits) (s room : List ℕ) where
       left_is : room' ≡ pick (ltb limits.text (length s)) room (pick (valid s) (over (laid s) room) room)
       left_is = rw (le-ltb limits.text (length s) h, ← e, t) y.left
 
-      module _ (c : Checked) (k : Checks (take used room') 0 1 c) where
-        counts : checked_of c ≡ counted (joined s)
-        counts = k.says ∙ ap (λ (x : List ℕ). counted (join closed 1 (lines_of x))) prefix_is ∙ ap counted (checked_joined s)
+      bound : length (take used room') + 1 ≤ limits.text + 2
+      bound = omega (arith, prefix_count, y.most)
 
-        reads : (r : Reading) → ((j : Answer (List Line)) → checked_of c ≡ counted j → answer_of r ≡ measured used j) → Small (limits.text + 2) r → Reads limits s room room' r
-        reads r f z = record {
-          says = f (joined s) counts ∙ rw (y.used, read_is);
-          small = z;
-          left = left_is;
-        }
+      -- an answer says of the text what the check says of the laid text
+      reads : (c : Result ℕ AtLine) (r : Result Laid AtLine) → Checks (take used room') 0 1 c → ((j : Answer (List Line)) → answer_of c ≡ counted j → answer_of r ≡ measured used j)
+          → Small (limits.text + 2) r → Reads limits s room room' r
+      reads c r k f z = record {
+        says = f (joined s) (k.says ∙ ap (λ (x : List ℕ). counted (join closed 1 (lines_of x))) prefix_is ∙ ap counted (checked_joined s)) ∙ rw (y.used, read_is);
+        small = z;
+        left = left_is;
+      }
 
-        bound : length (take used room') + 1 ≤ limits.text + 2
-        bound = omega (arith, prefix_count, y.most)
+      pub read_fine : (n : ℕ) → Checks (take used room') 0 1 (Ok n) → Reads limits s room room' (Ok (record { lines = n; used = used }))
+      read_fine n k = reads (Ok n) (Ok (record { lines = n; used = used })) k fine (omega (arith, k.most, bound), omega (arith, y.most))
+        where
+          fine : (j : Answer (List Line)) → accepted n ≡ counted j → accepted (record { lines = n; used = used }) ≡ measured used j
+          fine (accepted ls) i = let z : n ≡ length ls = cc in rw z
+          fine (refused f a p) i = cc
 
-        pub read_fine : (n : ℕ) → c ≡ checks.Fine n → Reads limits s room room' (readings.Fine n used)
-        read_fine n q = reads (readings.Fine n used) (λ j i. fine j (ap checked_of (sym q) ∙ i))
-            (let m : n ≤ length (take used room') + 1 = rw q at k.most in (omega (arith, bound), omega (arith, y.most)))
-          where
-            fine : (j : Answer (List Line)) → accepted n ≡ counted j → answer_of (readings.Fine n used) ≡ measured used j
-            fine (accepted ls) i = let z : n ≡ length ls = cc in rw z
-            fine (refused f a p) i = cc
-
-        pub read_over : (l : ℕ) → c ≡ checks.Over l → Reads limits s room room' (readings.Over l)
-        read_over l q = reads (readings.Over l) (λ j i. fault j (ap checked_of (sym q) ∙ i))
-            (let m : l ≤ length (take used room') + 1 = rw q at k.most in omega (arith, bound))
-          where
-            fault : (j : Answer (List Line)) → at_line 3 l ≡ counted j → at_line 3 l ≡ measured used j
-            fault (accepted ls) i = cc
-            fault (refused f a p) i = cc
-
-        pub read_open : (l : ℕ) → c ≡ checks.Open l → Reads limits s room room' (readings.Open l)
-        read_open l q = reads (readings.Open l) (λ j i. fault j (ap checked_of (sym q) ∙ i))
-            (let m : l ≤ length (take used room') + 1 = rw q at k.most in omega (arith, bound))
-          where
-            fault : (j : Answer (List Line)) → at_line 4 l ≡ counted j → at_line 4 l ≡ measured used j
-            fault (accepted ls) i = cc
-            fault (refused f a p) i = cc
-
--- 01's limits fit a scratch of 32,769 bytes
-pub roomy : (z : List ℕ) (lim : Limits) → 32769 ≤ length z → lim ≡ of01 → Roomy lim z
-roomy z lim h e = rw e (record { fits = omega arith; small = omega arith })
+      pub read_refused : (u : AtLine) → Checks (take used room') 0 1 (Err u) → Reads limits s room room' (Err u)
+      read_refused u k = reads (Err u) (Err u) k fault (omega (arith, k.most, bound))
+        where
+          fault : (j : Answer (List Line)) → at_line (number u.refused) u.line ≡ counted j → at_line (number u.refused) u.line ≡ measured used j
+          fault (accepted ls) i = cc
+          fault (refused f a p) i = cc

@@ -13,7 +13,7 @@ ghost use Rattle.text.specs.Runs as runs;
 ghost use Rattle.text.specs.Runs.{Quiet, Run, StringEnd};
 ghost use Rattle.text.specs.Parts.{Countable, Counts};
 
-use meaning::{Fate, Limits, Scan, StringState};
+use meaning::{Fate, Limits, Refused, Scan, StringState};
 
 // A place between joined lines of a laid text: an offset, and the number of the line there.
 #[derive(Clone, Copy)]
@@ -36,48 +36,37 @@ pub struct Counted {
     pub count: Scan,
 }
 
-// What the joined line at the head of a laid text comes to; nothing where it has no LF, and so no line.
+// How far a joined line reaches: where its last LF stands, and how many lines it joins.
 #[derive(Clone, Copy)]
-pub enum Joint {
-    Nothing,
-    Over,
-    Open,
-    Whole { end: usize, lines: usize },
+struct Extent {
+    end: usize,
+    lines: usize,
 }
 
-// The next joined line: none; refusal 3 or 4 at a line; or where it lies, its line and the place after it.
+// A joined line of a laid text: where it lies, the number of its first line, and the place after it.
 #[derive(Clone, Copy)]
-pub enum Next {
-    End,
-    Over(usize),
-    Open(usize),
-    Line {
-        from: usize,
-        end: usize,
-        line: usize,
-        next: Place,
-    },
+pub struct JoinedLine {
+    pub from: usize,
+    pub end: usize,
+    pub line: usize,
+    pub next: Place,
 }
 
-// What the check of a laid text says: how many joined lines, or refusal 3 or 4 at a line.
+// A text that is laid: how many joined lines it has, in how many bytes.
 #[derive(Clone, Copy)]
-pub enum Checked {
-    Fine(usize),
-    Over(usize),
-    Open(usize),
+pub struct Laid {
+    pub lines: usize,
+    pub used: usize,
 }
 
-// What a text comes to: how many joined lines in how many bytes, or refusal 1, 2, 3 or 4.
-#[derive(Clone, Copy)]
-pub enum Reading {
-    Fine { lines: usize, used: usize },
-    TooLong,
-    NotUtf8,
-    Over(usize),
-    Open(usize),
+// What a text is refused for, and the line where it is told, or 0.
+#[derive(Clone, Copy, Debug, PartialEq, Eq)]
+pub struct AtLine {
+    pub refused: Refused,
+    pub line: usize,
 }
 
-// The string state after a byte.
+// The string state after a byte. It returns early, since one expression of this makes `string_end` a tenth slower.
 fn state_after(state: StringState, b: u8) -> StringState
     ensures { result ≡ quotes.state_after state b }
 {
@@ -105,10 +94,7 @@ fn state_after(state: StringState, b: u8) -> StringState
 pub fn equals_outside(c: u8, state: StringState, b: u8) -> bool
     ensures { result ≡ quotes.equals_outside c state b }
 {
-    match state {
-        StringState::Outside => b == c,
-        _ => false,
-    }
+    state == StringState::Outside && b == c
 }
 
 // n and, where b is c outside a string, one more.
@@ -117,9 +103,10 @@ fn tally(c: u8, state: StringState, b: u8, n: usize) -> usize
     ensures { result ≡ quotes.tally c state b n }
 {
     if equals_outside(c, state, b) {
-        return n + 1;
+        n + 1
+    } else {
+        n
     }
-    n
 }
 
 // The scan after one byte.
@@ -127,14 +114,10 @@ pub fn step(c: Scan, b: u8) -> Scan
     requires { (c.opens < 18446744073709551615) × (c.closes < 18446744073709551615) }
     ensures { result ≡ quotes.step c b }
 {
-    let before = c.state;
-    let state = state_after(before, b);
-    let opens = tally(b'[', before, b, c.opens);
-    let closes = tally(b']', before, b, c.closes);
     Scan {
-        state,
-        opens,
-        closes,
+        state: state_after(c.state, b),
+        opens: tally(b'[', c.state, b, c.opens),
+        closes: tally(b']', c.state, b, c.closes),
     }
 }
 
@@ -166,60 +149,44 @@ fn may_leave_out(state: StringState, b: u8) -> bool
 fn left_out(s: &[u8], state: StringState) -> usize
     ensures { Run state s.now result }
 {
-    let mut i = 0;
-    while i < s.len() {
-        let b = s[i];
-        if may_leave_out(state, b) {
-            i += 1;
-        } else {
+    for (i, b) in s.iter().enumerate() {
+        if !may_leave_out(state, *b) {
             return i;
         }
     }
-    i
+    s.len()
 }
+
+// A line starts outside strings, with no brackets.
+const FRESH: Scan = Scan {
+    state: StringState::Outside,
+    opens: 0,
+    closes: 0,
+};
 
 // The string state and the brackets outside strings of s.
 pub fn scan(s: &[u8]) -> Scan
     ensures { result ≡ quotes.scan quotes.fresh s.now }
 {
-    let mut i = 0;
-    let mut x = Scan {
-        state: StringState::Outside,
-        opens: 0,
-        closes: 0,
-    };
-    while i < s.len() {
-        let b = s[i];
-        x = step(x, b);
-        i += 1;
+    let mut x = FRESH;
+    for b in s {
+        x = step(x, *b);
     }
     x
-}
-
-// Whether a string state is outside every string.
-fn quotes_closed(state: StringState) -> bool
-    ensures { result ≡ meant.quotes_closed state }
-{
-    match state {
-        StringState::Outside => true,
-        _ => false,
-    }
 }
 
 // How many bytes a string has from after its opening quote on, with the closing one; or all of them.
 fn string_end(s: &[u8]) -> usize
     ensures { StringEnd s.now result }
 {
-    let mut i = 0;
     let mut state = StringState::Inside;
-    while i < s.len() {
-        state = state_after(state, s[i]);
-        i += 1;
-        if quotes_closed(state) {
-            return i;
+    for (i, b) in s.iter().enumerate() {
+        state = state_after(state, *b);
+        if state == StringState::Outside {
+            return i + 1;
         }
     }
-    i
+    s.len()
 }
 
 // How many bytes stand before the first c outside a string, or all of them.
@@ -227,18 +194,12 @@ pub fn find_outside(s: &[u8], c: u8) -> usize
     ensures { result ≡ quotes.up_to c StringState.Outside s.now }
 {
     let mut i = 0;
-    while i < s.len() {
-        let b = s[i];
-        if b == c {
-            return i;
-        }
-        if b == b'"' {
-            i += 1;
-            let n = string_end(&s[i..]);
-            i += n;
+    while i < s.len() && s[i] != c {
+        i += if s[i] == b'"' {
+            1 + string_end(&s[i + 1..])
         } else {
-            i += 1;
-        }
+            1
+        };
     }
     i
 }
@@ -248,16 +209,12 @@ fn fate(c: Scan) -> Fate
     ensures { result ≡ meant.fate c }
 {
     if c.opens < c.closes {
-        return Fate::Over;
+        Fate::Over
+    } else if c.closes < c.opens || c.state != StringState::Outside {
+        Fate::Unended
+    } else {
+        Fate::Whole
     }
-    if c.closes < c.opens {
-        return Fate::Unended;
-    }
-    let state = c.state;
-    if quotes_closed(state) {
-        return Fate::Whole;
-    }
-    Fate::Unended
 }
 
 // How many bytes the first line of s has without the CR of a CRLF, where n bytes stand before its LF or its end.
@@ -265,16 +222,11 @@ fn line_bytes(s: &[u8], n: usize) -> usize
     requires { n ≤ length s.now }
     ensures { Begins n s.now result }
 {
-    if s.len() <= n {
-        return n;
+    if n < s.len() && 0 < n && s[n - 1] == b'\r' {
+        n - 1
+    } else {
+        n
     }
-    if n == 0 {
-        return 0;
-    }
-    if s[n - 1] == b'\r' {
-        return n - 1;
-    }
-    n
 }
 
 // How many bytes of a line stand before its comment, or all of them. Most lines have no `#`, and a search for one is
@@ -283,9 +235,10 @@ fn before_comment(line: &[u8]) -> usize
     ensures { result ≡ quotes.up_to 35 StringState.Outside line.now }
 {
     if slices::find(line, b'#') == line.len() {
-        return line.len();
+        line.len()
+    } else {
+        find_outside(line, b'#')
     }
-    find_outside(line, b'#')
 }
 
 // Lays a line and an LF at the head of out.
@@ -294,8 +247,7 @@ fn put_line(line: &[u8], out: &mut [u8])
     ensures { out.new ≡ over (ended line.now) out.old }
 {
     slices::copy(line, out);
-    let n = line.len();
-    out[n] = b'\n';
+    out[line.len()] = b'\n';
 }
 
 // Lays the kept bytes of the first line of rest and an LF at the head of out.
@@ -304,17 +256,10 @@ fn lay_line(rest: &[u8], out: &mut [u8]) -> Piece
     ensures { Lays1 rest.now out.old out.new result }
 {
     let n = slices::find(rest, b'\n');
-    let m = line_bytes(rest, n);
-    let k = before_comment(&rest[..m]);
+    let k = before_comment(&rest[..line_bytes(rest, n)]);
     put_line(&rest[..k], out);
-    if n < rest.len() {
-        return Piece {
-            taken: n + 1,
-            written: k + 1,
-        };
-    }
     Piece {
-        taken: n,
+        taken: (n + 1).min(rest.len()),
         written: k + 1,
     }
 }
@@ -325,64 +270,48 @@ pub fn lay(text: &[u8], scratch: &mut [u8]) -> usize
     requires { length text.now < length scratch.old }
     ensures { Lays text.now scratch.old scratch.new result }
 {
-    let mut i = 0;
-    let mut j = 0;
-    while i < text.len() {
-        let p = lay_line(&text[i..], &mut scratch[j..]);
-        i += p.taken;
-        j += p.written;
+    let mut rest = text;
+    let mut used = 0;
+    while !rest.is_empty() {
+        let p = lay_line(rest, &mut scratch[used..]);
+        rest = &rest[p.taken..];
+        used += p.written;
     }
-    j
+    used
 }
 
 // 0 for a byte that stays as it is where lines are laid.
 fn changed_when_laid(b: u8) -> u8
     ensures { result ≡ changed b }
 {
-    if b == b'#' {
-        return 1;
-    }
-    if b == b'\r' {
-        return 1;
-    }
-    0
+    u8::from(matches!(b, b'#' | b'\r'))
 }
 
 // Whether there is no `#` and no CR: of all bytes together, since that takes many at once.
 fn no_hash_no_cr(s: &[u8]) -> bool
     ensures { result ≡ all_bare s.now }
 {
-    let mut i = 0;
-    let mut m: u8 = 0;
-    while i < s.len() {
-        m = m | changed_when_laid(s[i]);
-        i += 1;
-    }
-    m == 0
+    s.iter()
+        .fold(0, |changes, b| changes | changed_when_laid(*b))
+        == 0
 }
 
 // Whether a text is empty, or ends in LF and has no `#` and no CR: then it is laid as it stands.
 pub fn clean(s: &[u8]) -> bool
     ensures { result ≡ lines.clean s.now }
 {
-    let n = s.len();
-    if n == 0 {
-        return true;
-    }
-    if s[n - 1] == b'\n' {
-        return no_hash_no_cr(s);
-    }
-    false
+    s.is_empty() || (s[s.len() - 1] == b'\n' && no_hash_no_cr(s))
 }
 
 // What a text comes to that ends after the LFs of m - 1 lines.
-fn ending(m: usize) -> Joint
+fn ending(m: usize) -> Result<Option<Extent>, Refused>
     ensures { result ≡ walk.ending m }
 {
     if m == 1 {
-        return Joint::Nothing;
+        Ok(None)
+    } else {
+        Err(Refused::NeverClosed)
     }
-    Joint::Open
 }
 
 // Counts brackets and quotes of the line at a place onward from c, up to its LF or the end of s.
@@ -390,68 +319,50 @@ fn count_line(s: &[u8], at: usize, c: Scan) -> Counted
     requires { Countable s.now at c }
     ensures { Counts s.now at c result }
 {
-    let mut i = at;
+    let mut end = at;
     let mut count = c;
-    while i < s.len() {
-        let state = count.state;
-        let n = left_out(&s[i..], state);
-        i += n;
-        if s.len() <= i {
-            return Counted { end: i, count };
+    while end < s.len() {
+        end += left_out(&s[end..], count.state);
+        if s.len() <= end || s[end] == b'\n' {
+            break;
         }
-        let b = s[i];
-        if b == b'\n' {
-            return Counted { end: i, count };
-        }
-        count = step(count, b);
-        i += 1;
+        count = step(count, s[end]);
+        end += 1;
     }
-    Counted { end: i, count }
+    Counted { end, count }
 }
 
 // What the joined line at the head of a laid text comes to: the count is carried from line to line, with the LF that
 // joins them, so each byte is counted once.
-fn join_line(s: &[u8]) -> Joint
+fn join_line(s: &[u8]) -> Result<Option<Extent>, Refused>
     ensures { walk.Joined s.now result }
 {
-    let mut i = 0;
-    let mut m = 1;
-    let mut c = Scan {
-        state: StringState::Outside,
-        opens: 0,
-        closes: 0,
-    };
-    while i < s.len() {
-        let l = count_line(s, i, c);
-        let e = l.end;
-        if s.len() <= e {
-            return ending(m);
+    let mut at = 0;
+    let mut lines = 1;
+    let mut carried = FRESH;
+    while at < s.len() {
+        let Counted { end, count } = count_line(s, at, carried);
+        if s.len() <= end {
+            break;
         }
-        let count = l.count;
-        let f = fate(count);
-        match f {
-            Fate::Over => {
-                return Joint::Over;
-            }
-            Fate::Whole => {
-                return Joint::Whole { end: e, lines: m };
-            }
+        match fate(count) {
+            Fate::Over => return Err(Refused::ClosedTooOften),
+            Fate::Whole => return Ok(Some(Extent { end, lines })),
             Fate::Unended => {
-                m += 1;
-                let fed = step(count, b'\n');
-                c = fed;
-                i = e + 1;
+                carried = step(count, b'\n');
+                lines += 1;
+                at = end + 1;
             }
         }
     }
-    ending(m)
+    ending(lines)
 }
 
 // Whether a line that begins with b is surely not blank.
 fn surely_not_blank(b: u8) -> bool
     ensures { result ≡ true → walk.Dark b }
 {
-    if b' ' < b { b < 128 } else { false }
+    b' ' < b && b < 128
 }
 
 // Passes blank lines; where no line is left, to the end or to what is after the last LF.
@@ -459,110 +370,83 @@ fn skip(s: &[u8], at: usize, line: usize) -> Place
     requires { line < 4294967296 }
     ensures { walk.Skipped s.now at line result }
 {
-    let mut i = at;
-    let mut n = line;
-    while i < s.len() {
-        if surely_not_blank(s[i]) {
-            return Place { at: i, line: n };
-        }
-        let k = slices::find(&s[i..], b'\n');
-        let e = i + k;
-        if s.len() <= e {
+    let mut p = Place { at, line };
+    while p.at < s.len() && !surely_not_blank(s[p.at]) {
+        let end = p.at + slices::find(&s[p.at..], b'\n');
+        if s.len() <= end {
             return Place {
                 at: s.len(),
-                line: n,
+                line: p.line,
             };
         }
-        if chars::blank(&s[i..e]) {
-            i = e + 1;
-            n += 1;
-        } else {
-            return Place { at: i, line: n };
+        if !chars::blank(&s[p.at..end]) {
+            return p;
         }
+        p = Place {
+            at: end + 1,
+            line: p.line + 1,
+        };
     }
-    Place { at: i, line: n }
+    p
 }
 
 // The next joined line of a laid text, from a place between joined lines on.
-pub fn next_line(s: &[u8], at: usize, line: usize) -> Next
+pub fn next_line(s: &[u8], at: usize, line: usize) -> Result<Option<JoinedLine>, AtLine>
     requires { line < 4294967296 }
     ensures { walk.Follows s.now at line result }
 {
-    let p = skip(s, at, line);
-    let from = p.at;
-    let n = p.line;
+    let Place { at: from, line } = skip(s, at, line);
     if s.len() <= from {
-        return Next::End;
+        return Ok(None);
     }
-    let j = join_line(&s[from..]);
-    match j {
-        Joint::Nothing => Next::End,
-        Joint::Over => Next::Over(n),
-        Joint::Open => Next::Open(n),
-        Joint::Whole { end, lines } => Next::Line {
+    match join_line(&s[from..]) {
+        Ok(None) => Ok(None),
+        Ok(Some(joined)) => Ok(Some(JoinedLine {
             from,
-            end: from + end,
-            line: n,
+            end: from + joined.end,
+            line,
             next: Place {
-                at: from + end + 1,
-                line: n + lines,
+                at: from + joined.end + 1,
+                line: line + joined.lines,
             },
-        },
+        })),
+        Err(refused) => Err(AtLine { refused, line }),
     }
 }
 
 // 3 and 4 over a laid text from a place between joined lines on: how many joined lines it has, or the first fault.
-pub fn check_joined(s: &[u8], at: usize, line: usize) -> Checked
+pub fn check_joined(s: &[u8], at: usize, line: usize) -> Result<usize, AtLine>
     requires { Between s.now at line }
     ensures { Checks s.now at line result }
 {
-    let mut i = at;
-    let mut n = line;
+    let mut place = Place { at, line };
     let mut found = 0;
-    while i < s.len() {
-        let r = next_line(s, i, n);
-        match r {
-            Next::End => {
-                return Checked::Fine(found);
-            }
-            Next::Over(l) => {
-                return Checked::Over(l);
-            }
-            Next::Open(l) => {
-                return Checked::Open(l);
-            }
-            Next::Line {
-                from: _,
-                end: _,
-                line: _,
-                next: p,
-            } => {
-                i = p.at;
-                n = p.line;
-                found += 1;
-            }
-        }
+    while let Some(joined) = next_line(s, place.at, place.line)? {
+        place = joined.next;
+        found += 1;
     }
-    Checked::Fine(found)
+    Ok(found)
+}
+
+// 1, 2 and 17 are told of no line.
+pub fn at_no_line(refused: Refused) -> AtLine
+    ensures { result ≡ record { refused = refused; line = 0 } }
+{
+    AtLine { refused, line: 0 }
 }
 
 // Lays a text into the scratch and judges its joined lines: refusals 1 to 4 in their order.
-pub fn lines(text: &[u8], scratch: &mut [u8], limits: Limits) -> Reading
+pub fn lines(text: &[u8], scratch: &mut [u8], limits: Limits) -> Result<Laid, AtLine>
     requires { Roomy limits scratch.old }
     ensures { Reads limits text.now scratch.old scratch.new result }
 {
     if limits.text < text.len() {
-        return Reading::TooLong;
+        return Err(at_no_line(Refused::TextTooLong));
     }
-    if chars::valid(text) {
-        let used = lay(text, scratch);
-        let c = check_joined(&scratch[..used], 0, 1);
-        match c {
-            Checked::Fine(n) => Reading::Fine { lines: n, used },
-            Checked::Over(l) => Reading::Over(l),
-            Checked::Open(l) => Reading::Open(l),
-        }
-    } else {
-        Reading::NotUtf8
+    if !chars::valid(text) {
+        return Err(at_no_line(Refused::NotUtf8));
     }
+    let used = lay(text, scratch);
+    let lines = check_joined(&scratch[..used], 0, 1)?;
+    Ok(Laid { lines, used })
 }

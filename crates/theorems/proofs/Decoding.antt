@@ -14,8 +14,7 @@ use Rattle.schema.specs.declared.Word.{Word}
 use Rattle.schema.specs.declared.Word.TheVariants as words
 use Rattle.schema.specs.declared.Text.{Text}
 use Rattle.schema.specs.declared.Text.TheVariants as texts
-use Rattle.schema.specs.declared.Number.{Number}
-use Rattle.schema.specs.declared.Number.TheVariants as numbers
+use Rattle.std.specs.Prelude.{Option, Some, None}
 use Rattle.schema.specs.declared.Features.{Features}
 use Rattle.schema.specs.declared.Features.TheVariants as lists
 use Rattle.schema.specs.declared.Chip.{Chip}
@@ -27,8 +26,6 @@ use Rattle.schema.specs.declared.Kind.TheVariants as kinds
 use Rattle.schema.specs.Words.{word, chip_meant, media_meant, kind_meant}
 use Rattle.schema.specs.Texts.{clip, spelled, optional, is_given, amount}
 use Rattle.features.specs.declared.Piece.{Piece}
-use Rattle.features.specs.declared.Feature.{Feature}
-use Rattle.features.specs.declared.Feature.TheVariants as items
 use Rattle.features.specs.Pieces.{pieces, bound}
 use Rattle.features.specs.Ordered.{bytes_all, bytes_length, Walks, walk_ordered}
 use Rattle.features.proofs.Tallying.{pieces_most, ordered_most}
@@ -82,10 +79,10 @@ unfolding flag_by
 flag_by_lem true = refl
 flag_by_lem false = refl
 
-pub amount_by_lem : (n : Number) → amount_by (amount_of n) ≡ some (amount n)
+pub amount_by_lem : (n : Option ℕ) → amount_by (amount_of n) ≡ some (amount n)
 unfolding amount_by
-amount_by_lem numbers.Absent = refl
-amount_by_lem (numbers.Of n) = refl
+amount_by_lem None = refl
+amount_by_lem (Some n) = refl
 
 -- ---- texts
 
@@ -125,11 +122,11 @@ features_by_lem lists.Absent h = refl
 features_by_lem (lists.Words from len) h = refl
 features_by_lem (lists.Items place) h = rw (lt-ltb place 65536 h)
 
-last_by : (p : Piece) → last_item 1 p.from p.len ≡ items.At p
+last_by : (p : Piece) → last_item 1 p.from p.len ≡ Some p
 unfolding last_item
 last_by p = refl
 
-first_by : last_item 0 0 0 ≡ items.Nothing
+first_by : last_item 0 0 0 ≡ None
 unfolding last_item
 first_by = refl
 
@@ -142,13 +139,13 @@ clip_most from len s =
 
 module _ (room store : List ℕ) (made : ℕ) (held : holds_values room made ≡ true) where
   walk_by : (us : List (List ℕ)) (calls : ℕ) (l : FeatureList) (f : Features) → features_by l.kind l.from l.len ≡ f
-      → (begun last size : ℕ) (after : Feature) → last_item begun last size ≡ after → Walks store (pieces room store made f) after us → length us < calls
+      → (begun last size : ℕ) (after : Option Piece) → last_item begun last size ≡ after → Walks store (pieces room store made f) after us → length us < calls
       → walked room store made calls l begun last size ≡ some us
   walk_by us zero l f d begun last size after e w h = absurd (omega arith)
   walk_by [] (suc calls) l f d begun last size after e w h = rw (held, d, e, w)
   walk_by (y ∷ ys) (suc calls) l f d begun last size after e w h =
       let p : Piece = w.0 in
-      let others = walk_by ys calls l f d 1 p.from p.len (items.At p) (last_by p) w.3 (omega (arith, h)) in
+      let others = walk_by ys calls l f d 1 p.from p.len (Some p) (last_by p) w.3 (omega (arith, h)) in
       rw (held, d, e, w.1, others, w.2)
 
   bound_most : (f : Features) → bound room store made f ≤ made + length store
@@ -161,5 +158,5 @@ module _ (room store : List ℕ) (made : ℕ) (held : holds_values room made ≡
   unfolding list_by
   list_by_lem f h =
       let ps = pieces room store made f in
-      walk_by (ordered (bytes_all store ps)) (suc (made + length store)) (list_of f) f (features_by_lem f h) 0 0 0 items.Nothing first_by (walk_ordered store ps)
+      walk_by (ordered (bytes_all store ps)) (suc (made + length store)) (list_of f) f (features_by_lem f h) 0 0 0 None first_by (walk_ordered store ps)
       (omega (arith, ordered_most (bytes_all store ps), bytes_length store ps, pieces_most room store made f 0, bound_most f))

@@ -10,8 +10,7 @@ use lib.ListN.{length}
 use Rattle.meaning.specs.Base.{ascii, nil?}
 use Rattle.laws.specs.Cases.{on, picked, never}
 use Rattle.tree.specs.declared.Slot.{Slot}
-use Rattle.tree.specs.declared.Found.{Found}
-use Rattle.tree.specs.declared.Found.TheVariants.{At, Nothing}
+use Rattle.std.specs.Prelude.{Option, Some, None}
 use Rattle.tree.specs.declared.Value.{Value}
 use Rattle.tree.specs.declared.Value.TheVariants as values
 use Rattle.tree.specs.declared.Fields.{Fields}
@@ -53,9 +52,9 @@ low_value v size place h =
 
 -- ---- numbers of values
 
-abbrev Below : ℕ → Found → Type 0
-Below end (At n) = n < end
-Below end Nothing = Unit {0}
+abbrev Below : ℕ → Option ℕ → Type 0
+Below end (Some n) = n < end
+Below end None = Unit {0}
 
 module _ (room store : List ℕ) where
   look_below : (from end parent : ℕ) (key : List ℕ) (k : ℕ) → k ≤ end - from → Below end (look_in room store from k parent key)
@@ -67,9 +66,9 @@ module _ (room store : List ℕ) where
   newest_most zero parent = omega arith
   newest_most (suc n) parent = picked (λ (x : ℕ). x ≤ suc n) (under room n parent) (λ e. omega arith) (λ e. omega (arith, newest_most n parent))
 
-  low_found : (end : ℕ) → end ≤ 65000 → (r : Found) → Below end r → LowValue (value_found room store r)
-  low_found end h (At n) b = low_value (slot_at room n) (length store) (n + 2) (omega (arith, h, b))
-  low_found end h Nothing b = tt
+  low_found : (end : ℕ) → end ≤ 65000 → (r : Option ℕ) → Below end r → LowValue (value_found room store r)
+  low_found end h (Some n) b = low_value (slot_at room n) (length store) (n + 2) (omega (arith, h, b))
+  low_found end h None b = tt
 
   field_low : (f : Fields) (key : List ℕ) → f.to ≤ 65000 → LowValue (field room store f key)
   unfolding field among

@@ -2,7 +2,6 @@
 use Prim.Native.Nat.{ℕ, zero, suc, ◌-◌, ◌<◌}
 use mathlib.Core.Bool.{true, false}
 use mathlib.Core.List.{List, [], ◌∷◌, ◌++◌}
-use mathlib.Core.Option.{some}
 use mathlib.Core.Path.{◌≡◌, refl}
 use native.Mathlib.Omega.{arith}
 use borrow.Author.Tests.{eqb-true, eqb-false, ltb-true}
@@ -11,8 +10,7 @@ use lib.ListN.{length, take, get_or}
 use Rattle.meaning.specs.Base.{ascii}
 use Rattle.meaning.specs.Utf8.{valid}
 use Rattle.laws.specs.Cases.{on, picked, never}
-use Rattle.tree.specs.declared.Found.{Found}
-use Rattle.tree.specs.declared.Found.TheVariants.{At, Nothing}
+use Rattle.std.specs.Prelude.{Option, Some, None}
 use Rattle.tree.specs.declared.Value.{Value}
 use Rattle.tree.specs.declared.Value.TheVariants as values
 use Rattle.tree.specs.declared.Fields.{Fields}
@@ -27,10 +25,6 @@ use Rattle.schema.specs.declared.Component.{Component}
 use Rattle.schema.specs.declared.Application.{Application}
 use Rattle.schema.specs.Words.{chip_word, target_word}
 use Rattle.schema.specs.Texts.{spelled, is_given, or_text, aic_of}
-use Rattle.parse.specs.declared.view.ComponentFound.{ComponentFound}
-use Rattle.parse.specs.declared.view.ComponentFound.TheVariants as components
-use Rattle.parse.specs.declared.view.ApplicationFound.{ApplicationFound}
-use Rattle.parse.specs.declared.view.ApplicationFound.TheVariants as applications
 use Rattle.parse.specs.Fields.{first_fault, text_read, text_at, text_needed, kind_at, missing}
 use Rattle.parse.specs.Reads.{Kept, text_kept}
 use Rattle.parse.specs.Meant.{image_meant}
@@ -48,14 +42,9 @@ use Rattle.plan.specs.declared.component.Build.{Build}
 use Rattle.plan.specs.declared.component.Source.{Source}
 use Rattle.plan.specs.declared.component.Source.TheVariants as sources
 use Rattle.plan.specs.declared.component.Planned.{Planned}
-use Rattle.plan.specs.declared.component.PlannedFound.{PlannedFound}
-use Rattle.plan.specs.declared.component.PlannedFound.TheVariants as founds
-use Rattle.plan.specs.declared.builds.BuildFound.{BuildFound}
-use Rattle.plan.specs.declared.builds.BuildFound.TheVariants as builds
 use Rattle.plan.specs.Planned as plans
 use Rattle.plan.specs.Builds as needed
 use Rattle.plan.specs.Stems as stems
-use Rattle.plan.specs.PlannedSaid.{source_meant, planned_meant, planned_sourced}
 use Rattle.theorems.proofs.Decoding.{Given, Low}
 use Rattle.theorems.proofs.Places.{LowIn, component_low, application_low}
 
@@ -192,13 +181,13 @@ pub record ApplicationWhole (a : Application) : Type 0 where
   pub attr : Given a.attr
   pub list : Low a.features
 
-abbrev pub WholeComponent : ComponentFound → Type 0
-WholeComponent components.Nothing = Unit {0}
-WholeComponent (components.At c) = ComponentWhole c
+abbrev pub WholeComponent : Option Component → Type 0
+WholeComponent None = Unit {0}
+WholeComponent (Some c) = ComponentWhole c
 
-abbrev pub WholeApplication : ApplicationFound → Type 0
-WholeApplication applications.Nothing = Unit {0}
-WholeApplication (applications.At a) = ApplicationWhole a
+abbrev pub WholeApplication : Option Application → Type 0
+WholeApplication None = Unit {0}
+WholeApplication (Some a) = ApplicationWhole a
 
 -- a component without a fault has a name
 head_named : (room store : List ℕ) (f : Fields) → (component.head_read room store f).fault ≡ 0 → Given (component.head_read room store f).head.name
@@ -253,17 +242,17 @@ module _ (room store : List ℕ) (made : ℕ) (held : holds_values room made ≡
       }
 
   -- by number
-  pub component_found_lem : (limit : ℕ) (r : Found) → WholeComponent (views.component_of room store made limit r)
+  pub component_found_lem : (limit : ℕ) (r : Option ℕ) → WholeComponent (views.component_of room store made limit r)
   unfolding views.good_component
-  component_found_lem limit (At n) =
+  component_found_lem limit (Some n) =
       let fault : ℕ = (component_at room store made n limit).fault in
       picked WholeComponent (eqb fault 0) (λ e. component_whole n limit (eqb-true fault 0 e)) (λ e. tt)
-  component_found_lem limit Nothing = tt
+  component_found_lem limit None = tt
 
-  pub application_found : (limit : ℕ) (r : Found) → WholeApplication (views.application_of room store made limit r)
+  pub application_found : (limit : ℕ) (r : Option ℕ) → WholeApplication (views.application_of room store made limit r)
   unfolding views.good_application
-  application_found limit (At n) = picked WholeApplication (eqb (application_at room store made n limit).fault 0) (λ e. application_whole n limit) (λ e. tt)
-  application_found limit Nothing = tt
+  application_found limit (Some n) = picked WholeApplication (eqb (application_at room store made n limit).fault 0) (λ e. application_whole n limit) (λ e. tt)
+  application_found limit None = tt
 
 -- ---- a plan
 
@@ -272,14 +261,14 @@ pub record BuildWhole (b : Build) : Type 0 where
   pub bin : Given b.bin
   pub list : Low b.features
 
-abbrev pub WholeSource : Source → Type 0
-WholeSource sources.Nothing = Unit {0}
-WholeSource (sources.Package b) = BuildWhole b
-WholeSource (sources.File t) = Given t
+abbrev pub WholeSource : Option Source → Type 0
+WholeSource None = Unit {0}
+WholeSource (Some (sources.Package b)) = BuildWhole b
+WholeSource (Some (sources.File t)) = Given t
 
-abbrev pub WholeBuild : BuildFound → Type 0
-WholeBuild builds.Nothing = Unit {0}
-WholeBuild (builds.At b) = BuildWhole b
+abbrev pub WholeBuild : Option Build → Type 0
+WholeBuild None = Unit {0}
+WholeBuild (Some b) = BuildWhole b
 
 -- each of them
 abbrev Each : {X : Type 0} → (X → Type 0) → List X → Type 0
@@ -317,13 +306,12 @@ first_whole store earlier (b ∷ bs) h =
 module _ (room store : List ℕ) (made : ℕ) (held : holds_values room made ≡ true) (name : List ℕ) where
   pub record PlannedWhole (p : Planned) : Type 0 where
     pub spec : ComponentWhole p.spec
-    pub source : WholeSource p.source
+    pub source : WholeSource (Some p.source)
     pub pbp : WholeSource p.pbp_source
-    pub sourced : source_meant room store made name p.source ≡ some (planned_meant room store made name p).source
 
-  abbrev pub WholePlanned : PlannedFound → Type 0
-  WholePlanned founds.Nothing = Unit {0}
-  WholePlanned (founds.At p) = PlannedWhole p
+  abbrev pub WholePlanned : Option Planned → Type 0
+  WholePlanned None = Unit {0}
+  WholePlanned (Some p) = PlannedWhole p
 
   planned_whole : (c : Component) → ComponentWhole c → PlannedWhole (plans.planned c)
   unfolding plans.planned plans.payload plans.pbp_payload plans.head_left
@@ -333,17 +321,16 @@ module _ (room store : List ℕ) (made : ℕ) (held : holds_values room made ≡
       record {
         spec = record { name = h.name; filename = h.filename; partition = h.partition; attr = h.attr; lists = h.lists };
         source =
-            picked WholeSource (is_given pack) (λ e. record { pack = e; bin = or_given c.head.bin pack e; list = h.lists.0 })
+            picked (λ (s : Source). WholeSource (Some s)) (is_given pack) (λ e. record { pack = e; bin = or_given c.head.bin pack e; list = h.lists.0 })
             (λ e. or_given c.head.file (texts.Stored 0 0) refl);
         pbp =
             picked WholeSource (is_given c.boot.pbp) (λ e. e)
             (λ e. picked WholeSource (is_given own) (λ d. record { pack = d; bin = d; list = h.lists.1 }) (λ d. tt));
-        sourced = planned_sourced room store made name c;
       }
 
-  found_whole : (f : ComponentFound) → WholeComponent f → WholePlanned (plans.planned_found f)
-  found_whole components.Nothing h = tt
-  found_whole (components.At c) h = planned_whole c h
+  found_whole : (f : Option Component) → WholeComponent f → WholePlanned (plans.planned_found f)
+  found_whole None h = tt
+  found_whole (Some c) h = planned_whole c h
 
   abbrev numbers : List ℕ
   numbers = items room (views.component_list room store made).end (views.component_list room store made).place 0

@@ -17,12 +17,11 @@ use Rattle.tree.specs.Doors.{fields_of, items, nth_of}
 use Rattle.schema.specs.declared.Text.{Text}
 use Rattle.schema.specs.declared.Board.{Board}
 use Rattle.schema.specs.declared.Image.{Image}
-use Rattle.parse.specs.declared.view.PartitionFound.{PartitionFound}
-use Rattle.parse.specs.declared.view.PartitionFound.TheVariants as partitions
-use Rattle.parse.specs.declared.view.ComponentFound.{ComponentFound}
-use Rattle.parse.specs.declared.view.ComponentFound.TheVariants as components
-use Rattle.parse.specs.declared.view.ApplicationFound.{ApplicationFound}
-use Rattle.parse.specs.declared.view.ApplicationFound.TheVariants as applications
+use Rattle.std.specs.Prelude.{Option as Maybe, Some, None}
+use Rattle.plan.specs.declared.component.Build.{Build}
+use Rattle.schema.specs.declared.Application.{Application}
+use Rattle.schema.specs.declared.Component.{Component}
+use Rattle.schema.specs.declared.Partition.{Partition}
 use Rattle.parse.specs.Front.{front_of, board_read, front_read}
 use Rattle.parse.specs.Refused.{lent_text}
 use Rattle.parse.specs.Views as views
@@ -38,16 +37,12 @@ use Rattle.plan.specs.declared.choice.Choice.TheVariants as choices
 use Rattle.plan.specs.declared.component.Source.{Source}
 use Rattle.plan.specs.declared.component.Source.TheVariants as sources
 use Rattle.plan.specs.declared.component.Planned.{Planned}
-use Rattle.plan.specs.declared.component.PlannedFound.{PlannedFound}
-use Rattle.plan.specs.declared.component.PlannedFound.TheVariants as founds
-use Rattle.plan.specs.declared.builds.BuildFound.{BuildFound}
-use Rattle.plan.specs.declared.builds.BuildFound.TheVariants as builds
 use Rattle.plan.specs.Choices.{fault}
 use Rattle.plan.specs.ChoiceSaid.{selection, selected, plan_says}
 use Rattle.plan.specs.Builds as needed
 use Rattle.plan.specs.Stems as stems
 use Rattle.plan.specs.TargetSaid.{target_meant}
-use Rattle.plan.specs.PlannedSaid.{source_meant, planned_meant, found_meant}
+use Rattle.plan.specs.PlannedSaid.{source_if, planned_meant, found_meant}
 use Rattle.host.specs.declared.documents.Outcome.{Outcome}
 use Rattle.host.specs.declared.plans.PlanCounts.{PlanCounts}
 use Rattle.host.specs.Records as records
@@ -81,13 +76,13 @@ module _ (room store : List ℕ) (made : ℕ) (name : List ℕ) where
         text_by_lem store name i.app h.app,
       )
 
-  partition_by_lem : (f : PartitionFound) → partition_by room store made name (records.partition_of f) ≡ some (partition_seen room store made name f)
-  partition_by_lem partitions.Nothing = refl
-  partition_by_lem (partitions.At p) = rw (flag_by_lem p.locked)
+  partition_by_lem : (f : Maybe Partition) → partition_by room store made name (records.partition_of f) ≡ some (partition_seen room store made name f)
+  partition_by_lem None = refl
+  partition_by_lem (Some p) = rw (flag_by_lem p.locked)
 
-  head_by_lem : (f : ComponentFound) → WholeComponent f → head_by room store made name (records.head_of f) ≡ some (part_of (λ (c : schemas.Component). c.head) (component_seen room store made name f))
-  head_by_lem components.Nothing h = refl
-  head_by_lem (components.At c) h =
+  head_by_lem : (f : Maybe Component) → WholeComponent f → head_by room store made name (records.head_of f) ≡ some (part_of (λ (c : schemas.Component). c.head) (component_seen room store made name f))
+  head_by_lem None h = refl
+  head_by_lem (Some c) h =
       rw (
         kind_by_lem c.head.kind,
         text_by_lem store name c.head.name h.name,
@@ -97,9 +92,9 @@ module _ (room store : List ℕ) (made : ℕ) (name : List ℕ) where
         text_by_lem store name c.head.filename h.filename,
       )
 
-  boot_by_lem : (f : ComponentFound) → boot_by room store made name (records.boot_of f) ≡ some (part_of (λ (c : schemas.Component). c.boot) (component_seen room store made name f))
-  boot_by_lem components.Nothing = refl
-  boot_by_lem (components.At c) =
+  boot_by_lem : (f : Maybe Component) → boot_by room store made name (records.boot_of f) ≡ some (part_of (λ (c : schemas.Component). c.boot) (component_seen room store made name f))
+  boot_by_lem None = refl
+  boot_by_lem (Some c) =
       rw (
         flag_by_lem c.boot.updater,
         amount_by_lem c.boot.ram,
@@ -108,9 +103,9 @@ module _ (room store : List ℕ) (made : ℕ) (name : List ℕ) where
         optional_by_lem store name c.boot.private,
       )
 
-  load_by_lem : (f : ComponentFound) → load_by room store made name (records.load_of f) ≡ some (part_of (λ (c : schemas.Component). c.load) (component_seen room store made name f))
-  load_by_lem components.Nothing = refl
-  load_by_lem (components.At c) =
+  load_by_lem : (f : Maybe Component) → load_by room store made name (records.load_of f) ≡ some (part_of (λ (c : schemas.Component). c.load) (component_seen room store made name f))
+  load_by_lem None = refl
+  load_by_lem (Some c) =
       rw (
         amount_by_lem c.load.load_address,
         amount_by_lem c.load.entry_point,
@@ -120,10 +115,10 @@ module _ (room store : List ℕ) (made : ℕ) (name : List ℕ) where
       )
 
   module _ (held : holds_values room made ≡ true) where
-    role_by_lem : (f : ComponentFound) → WholeComponent f
+    role_by_lem : (f : Maybe Component) → WholeComponent f
         → role_by room store made name (records.role_of f) ≡ some (part_of (λ (c : schemas.Component). c.role) (component_seen room store made name f))
-    role_by_lem components.Nothing h = refl
-    role_by_lem (components.At c) h =
+    role_by_lem None h = refl
+    role_by_lem (Some c) h =
         rw (
           list_by_lem room store made held c.role.features h.lists.0,
           list_by_lem room store made held c.role.pbp_features h.lists.1,
@@ -133,10 +128,10 @@ module _ (room store : List ℕ) (made : ℕ) (name : List ℕ) where
           optional_by_lem store name c.role.target_filename,
         )
 
-    application_by_lem : (f : ApplicationFound) → WholeApplication f
+    application_by_lem : (f : Maybe Application) → WholeApplication f
         → application_by room store made name (records.application_of f) ≡ some (application_seen room store made name f)
-    application_by_lem applications.Nothing h = refl
-    application_by_lem (applications.At a) h =
+    application_by_lem None h = refl
+    application_by_lem (Some a) h =
         rw (
           text_by_lem store name a.«package» h.pack,
           text_by_lem store name a.name h.name,
@@ -148,43 +143,43 @@ module _ (room store : List ℕ) (made : ℕ) (name : List ℕ) where
           amount_by_lem a.entry_offset,
         )
 
-    source_by_lem : (s : Source) → WholeSource s → source_by room store made name (plans.source_of s) ≡ some (source_meant room store made name s)
-    source_by_lem sources.Nothing h = refl
-    source_by_lem (sources.Package b) h = rw (text_by_lem store name b.«package» h.pack, text_by_lem store name b.bin h.bin, list_by_lem room store made held b.features h.list)
-    source_by_lem (sources.File t) h = rw (text_by_lem store name t h)
+    source_by_lem : (s : Maybe Source) → WholeSource s → source_by room store made name (plans.source_of s) ≡ some (source_if room store made name s)
+    source_by_lem None h = refl
+    source_by_lem (Some (sources.Package b)) h = rw (text_by_lem store name b.«package» h.pack, text_by_lem store name b.bin h.bin, list_by_lem room store made held b.features h.list)
+    source_by_lem (Some (sources.File t)) h = rw (text_by_lem store name t h)
 
-    build_by_lem : (f : BuildFound) → WholeBuild f → build_by room store made name (plans.build_of f) ≡ some (built_meant room store made name f)
-    build_by_lem builds.Nothing h = refl
-    build_by_lem (builds.At b) h = rw (text_by_lem store name b.«package» h.pack, text_by_lem store name b.bin h.bin, list_by_lem room store made held b.features h.list)
+    build_by_lem : (f : Maybe Build) → WholeBuild f → build_by room store made name (plans.build_of f) ≡ some (built_meant room store made name f)
+    build_by_lem None h = refl
+    build_by_lem (Some b) h = rw (text_by_lem store name b.«package» h.pack, text_by_lem store name b.bin h.bin, list_by_lem room store made held b.features h.list)
 
     -- ---- of a planned component
 
     -- a group of its record is shown as a component's
-    planned_group : {View Y : Type 0} (by : View → Option (Option Y)) (of : ComponentFound → View) (group : schemas.Component → Y)
-        → ((f : ComponentFound) → WholeComponent f → by (of f) ≡ some (part_of group (component_seen room store made name f)))
-        → (f : PlannedFound) → WholePlanned room store made held name f
+    planned_group : {View Y : Type 0} (by : View → Option (Option Y)) (of : Maybe Component → View) (group : schemas.Component → Y)
+        → ((f : Maybe Component) → WholeComponent f → by (of f) ≡ some (part_of group (component_seen room store made name f)))
+        → (f : Maybe Planned) → WholePlanned room store made held name f
         → by (of (plans.spec_of f)) ≡ some (part_of (λ (c : meant.PlannedComponent). group c.spec) (found_meant room store made name f))
-    planned_group by of group law founds.Nothing h = law components.Nothing tt
-    planned_group by of group law (founds.At p) h = law (components.At p.spec) h.spec
+    planned_group by of group law None h = law None tt
+    planned_group by of group law (Some p) h = law (Some p.spec) h.spec
 
-    planned_source : (f : PlannedFound) → WholePlanned room store made held name f
+    planned_source : (f : Maybe Planned) → WholePlanned room store made held name f
         → source_by room store made name (plans.payload f) ≡ some (part_of (λ (c : meant.PlannedComponent). c.source) (found_meant room store made name f))
-    planned_source founds.Nothing h = refl
-    planned_source (founds.At p) h = source_by_lem p.source h.source ∙ ap some h.sourced
+    planned_source None h = refl
+    planned_source (Some p) h = source_by_lem (Some p.source) h.source
 
-    planned_pbp : (f : PlannedFound) → WholePlanned room store made held name f
+    planned_pbp : (f : Maybe Planned) → WholePlanned room store made held name f
         → source_by room store made name (plans.pbp f) ≡ some (part_in (λ (c : meant.PlannedComponent). c.pbp_source) (found_meant room store made name f))
-    planned_pbp founds.Nothing h = refl
-    planned_pbp (founds.At p) h = source_by_lem p.pbp_source h.pbp
+    planned_pbp None h = refl
+    planned_pbp (Some p) h = source_by_lem p.pbp_source h.pbp
 
   -- the partition of a planned component, where it is the one that 01 finds
-  planned_target : (ps : List schemas.Partition) (f : PlannedFound)
-      → ((p : Planned) → f ≡ founds.At p
+  planned_target : (ps : List schemas.Partition) (f : Maybe Planned)
+      → ((p : Planned) → f ≡ Some p
       → target_meant room store made name (plans.target_of room store made f) ≡ meant.partition_for ps (planned_meant room store made name p).spec.role.partition)
       → partition_by room store made name (records.partition_of (plans.target_of room store made f))
       ≡ some (part_in (λ (c : meant.PlannedComponent). meant.partition_for ps c.spec.role.partition) (found_meant room store made name f))
-  planned_target ps founds.Nothing h = refl
-  planned_target ps (founds.At p) h = partition_by_lem (plans.target_of room store made (founds.At p)) ∙ ap some (h p refl)
+  planned_target ps None h = refl
+  planned_target ps (Some p) h = partition_by_lem (plans.target_of room store made (Some p)) ∙ ap some (h p refl)
 
 -- ---- no lent name changes the image, or whether there is one
 
@@ -237,8 +232,8 @@ module _ (name store tree : List ℕ) (p : Read) (h : Recorded name store tree p
   application_whole i = application_found tree store made h.stands 32 (nth_key tree store (views.application_list tree store made) i)
 
   -- a group of component number i
-  group_is : {View Y : Type 0} (by : View → Option (Option Y)) (of : ComponentFound → View) (group : schemas.Component → Y)
-      → ((f : ComponentFound) → WholeComponent f → by (of f) ≡ some (part_of group (component_seen tree store made name f)))
+  group_is : {View Y : Type 0} (by : View → Option (Option Y)) (of : Maybe Component → View) (group : schemas.Component → Y)
+      → ((f : Maybe Component) → WholeComponent f → by (of f) ≡ some (part_of group (component_seen tree store made name f)))
       → (i : ℕ) (v : View) → v ≡ of (records.component tree store made i) → by v ≡ some (part_of group (entry_at p.preset.components i))
   group_is by of group law i v e =
       rw (e, h.stands)
@@ -278,8 +273,8 @@ module _ (name store tree : List ℕ) (made app : ℕ) (key : List ℕ) (q : mea
   whole i = rw held (planned_found_lem tree store made held name (plans.chosen tree store made app key) i)
 
   -- what is shown of component number i
-  planned_is : {View Y : Type 0} (by : View → Option (Option Y)) (of : PlannedFound → View) (Some-of : Option meant.PlannedComponent → Option Y)
-      → ((f : PlannedFound) → WholePlanned tree store made held name f → by (of f) ≡ some (Some-of (found_meant tree store made name f)))
+  planned_is : {View Y : Type 0} (by : View → Option (Option Y)) (of : Maybe Planned → View) (Some-of : Option meant.PlannedComponent → Option Y)
+      → ((f : Maybe Planned) → WholePlanned tree store made held name f → by (of f) ≡ some (Some-of (found_meant tree store made name f)))
       → (i : ℕ) (v : View) → v ≡ of (plans.component tree store made app key i) → by v ≡ some (Some-of (entry_at q.components i))
   planned_is by of Some-of law i v e =
       rw e
@@ -287,8 +282,8 @@ module _ (name store tree : List ℕ) (made app : ℕ) (key : List ℕ) (q : mea
       ∙ ap (λ (c : Option meant.PlannedComponent). some (Some-of c)) (g.components i))
 
   -- a group of its record
-  spec_is : {View Y : Type 0} (by : View → Option (Option Y)) (of : ComponentFound → View) (group : schemas.Component → Y)
-      → ((f : ComponentFound) → WholeComponent f → by (of f) ≡ some (part_of group (component_seen tree store made name f)))
+  spec_is : {View Y : Type 0} (by : View → Option (Option Y)) (of : Maybe Component → View) (group : schemas.Component → Y)
+      → ((f : Maybe Component) → WholeComponent f → by (of f) ≡ some (part_of group (component_seen tree store made name f)))
       → (i : ℕ) (v : View) → v ≡ of (plans.spec_of (plans.component tree store made app key i))
       → by v ≡ some (part_of (λ (c : meant.PlannedComponent). group c.spec) (entry_at q.components i))
   spec_is by of group law =

@@ -7,7 +7,10 @@ use native.Mathlib.Omega.{arith}
 use borrow.Author.Tests.{eq-eqb}
 use lib.ListN.{length, take, drop, length-append}
 use lib.Seq.{length-take-le, take_at}
+use Rattle.std.specs.Prelude.{Result, Ok, Err}
 use Rattle.meaning.specs.declared.Limits.{Limits}
+use Rattle.meaning.specs.declared.Refused.{Refused}
+use Rattle.meaning.specs.declared.Refused.TheVariants.{NoKey}
 use Rattle.meaning.specs.Base.{nil?, zeros}
 use Rattle.meaning.specs.Refusal.{R, ok, bad}
 use Rattle.laws.specs.Stored.{stored}
@@ -15,17 +18,15 @@ use Rattle.scalar.specs.Stores.{over}
 use Rattle.slices.proofs.Zeroing.{length_zeros}
 use Rattle.tree.specs.declared.Slot.{Slot}
 use Rattle.values.specs.declared.State.{State}
-use Rattle.values.specs.declared.Reply.{Reply}
-use Rattle.values.specs.declared.Reply.TheVariants as replies
-use Rattle.values.specs.Out.{Out, cells, Ready, Filled}
+use Rattle.values.specs.declared.Stopped.{Stopped}
+use Rattle.values.specs.Out.{Out, cells, Filled}
 use Rattle.values.specs.Fill.{value_out}
 use Rattle.values.specs.Carries.{slots_of, AllSized, Carries, AllWithin, Grows}
 use Rattle.values.specs.Doc.{Doc, set_s, assign_by}
 use Rattle.values.proofs.Outs.{Left, left_of, Went, went, Failed, failed, same_store, same_tree}
 use Rattle.values.proofs.Carrying.{length_cells, cells_append, length_slots, over_over, over_carries, slots_of_lem, carries_grows}
 use Rattle.values.proofs.Beginning.{within_more, within_append}
-use Rattle.toml_lite.specs.declared.LineRead.{LineRead}
-use Rattle.toml_lite.specs.declared.LineRead.TheVariants.{Fault}
+use Rattle.toml_lite.specs.declared.Progress.{Progress}
 use Rattle.toml_lite.specs.Rooms.{doc_of, hang_k, Taking, Hanging, Wrote, Lined}
 use Rattle.toml_lite.proofs.Sizes.{Bare, value_bare, value_adds}
 
@@ -41,7 +42,7 @@ pub record Stepped (n : ℕ) (store tree store' tree' : List ℕ) (st next : Sta
   pub grew : st.made ≤ next.made
 
 -- what is read then is read from the start
-pub lined_from : (limits : Limits) (n k total : ℕ) (store tree store' tree' store'' tree'' : List ℕ) (st next : State) (m : R Doc) (r : LineRead)
+pub lined_from : (limits : Limits) (n k total : ℕ) (store tree store' tree' store'' tree'' : List ℕ) (st next : State) (m : R Doc) (r : Result Progress Refused)
     → Stepped n store tree store' tree' st next → n + k ≤ total → Lined limits k store' tree' store'' tree'' next m r → Lined limits total store tree store'' tree'' st m r
 lined_from limits n k total store tree store' tree' store'' tree'' st next (ok d) r a l h =
     let w : Wrote limits k store' tree' store'' tree'' next d = h.kept in
@@ -76,19 +77,9 @@ some_nil [] e = absurd (e refl)
 some_nil (b ∷ k) e = refl
 
 module _ (limits : Limits) (k v store tree : List ℕ) (st : State) (here : ℕ) (h : Taking limits (length k + length v) store tree st) where
-  pub setting_none : length k ≡ 0 → Lined limits (length k + length v) store tree store tree st (set_s limits k v (doc_of store tree st here)) (Fault 6)
+  pub setting_none : length k ≡ 0 → Lined limits (length k + length v) store tree store tree st (set_s limits k v (doc_of store tree st here)) (Err NoKey)
   unfolding set_s
   setting_none e = rw (empty_nil k e) (record { says = refl; store_long = refl; tree_long = refl; kept = tt })
-
-  pub setting_ready : Ready limits.values v store tree st
-  setting_ready =
-      record {
-        room = omega (arith, h.room);
-        low = omega (arith, h.low);
-        slots = h.holding.grows.room;
-        few = h.holding.grows.few;
-        made = h.holding.grows.most;
-      }
 
   abbrev out : Out
   out = value_out limits.values limits.arrays 0 st.used st.made v
@@ -97,7 +88,7 @@ module _ (limits : Limits) (k v store tree : List ℕ) (st : State) (here : ℕ)
   unfolding set_s
   meant_by_lem f = rw (some_nil k f, length-take-le st.used store h.holding.fits, length_slots tree st.made)
 
-  module _ (f : length k ≡ 0 → ⊥) (store' tree' : List ℕ) (r : Reply) (a : Filled limits.values v store tree store' tree' st out r) where
+  module _ (f : length k ≡ 0 → ⊥) (store' tree' : List ℕ) (r : Result State Stopped) (a : Filled limits.values v store tree store' tree' st out r) where
     left : Left limits.values (length v) store tree store' tree' st out
     left = left_of a
 
@@ -107,11 +98,11 @@ module _ (limits : Limits) (k v store tree : List ℕ) (st : State) (here : ℕ)
     tree_same : length tree' ≡ length tree
     tree_same = same_tree left h.holding.grows.room
 
-    pub setting_fault : (n : ℕ) (next : State) → r ≡ replies.Fault n next
-        → Lined limits (length k + length v) store tree store' tree' st (set_s limits k v (doc_of store tree st here)) (Fault n)
-    setting_fault n next e =
-        let x : Failed st out n next = failed st out r a.says n next e in
-        rw (meant_by_lem f, x.fails, x.code) (record { says = refl; store_long = store_same; tree_long = tree_same; kept = tt })
+    pub setting_fault : (e : Stopped) → r ≡ Err e → (q : Result Progress Refused) → q ≡ Err e.refused
+        → Lined limits (length k + length v) store tree store' tree' st (set_s limits k v (doc_of store tree st here)) q
+    setting_fault e z q w =
+        let x : Failed st out e = failed st out r a.says e z in
+        rw (meant_by_lem f, x.fails, x.code, w) (record { says = refl; store_long = store_same; tree_long = tree_same; kept = tt })
 
     bare : Bare out
     bare = value_bare limits.values h.holding.grows.few limits.arrays 0 st.used st.made v (omega arith) (omega (arith, h.low)) h.holding.grows.most
@@ -152,7 +143,7 @@ module _ (limits : Limits) (k v store tree : List ℕ) (st : State) (here : ℕ)
     unfolding stored
     store_over = a.store_is ∙ rw bytes_long (sym (append_assoc (take st.used store) out.bytes (drop (st.used + length out.bytes) store)))
 
-    module _ (next : State) (e : r ≡ replies.Fine next) where
+    module _ (next : State) (e : r ≡ Ok next) where
       there : Went st out next
       there = went st out r a.says next e
 
@@ -207,15 +198,15 @@ module _ (limits : Limits) (k v store tree : List ℕ) (st : State) (here : ℕ)
       unfolding hang_k
       same_meant = rw (meant_by_lem f, eq-eqb out.fault 0 there.calm, bytes_then, slots_then, length_slots tree st.made)
 
-      pub setting_done : (store'' tree'' : List ℕ) (q : LineRead) → Lined limits (length k) store' tree' store'' tree'' next (hang_k limits k st.made (doc_of store' tree' next here)) q
+      pub setting_done : (store'' tree'' : List ℕ) (q : Result Progress Refused) → Lined limits (length k) store' tree' store'' tree'' next (hang_k limits k st.made (doc_of store' tree' next here)) q
           → Lined limits (length k + length v) store tree store'' tree'' st (set_s limits k v (doc_of store tree st here)) q
       setting_done store'' tree'' q w =
           lined_from limits (length v) (length k) (length k + length v) store tree store' tree' store'' tree'' st next (set_s limits k v (doc_of store tree st here)) q stepped (omega arith) (rw same_meant at w)
 
 -- whatever the place and the key's n bytes
 pub setting_hangs : (limits : Limits) (n : ℕ) (v store tree : List ℕ) (st : State) → Taking limits (n + length v) store tree st → (n ≡ 0 → ⊥)
-    → (store' tree' : List ℕ) (r : Reply) → Filled limits.values v store tree store' tree' st (value_out limits.values limits.arrays 0 st.used st.made v) r
-    → (next : State) → r ≡ replies.Fine next → Hanging limits n store' tree' next st.made
+    → (store' tree' : List ℕ) (r : Result State Stopped) → Filled limits.values v store tree store' tree' st (value_out limits.values limits.arrays 0 st.used st.made v) r
+    → (next : State) → r ≡ Ok next → Hanging limits n store' tree' next st.made
 setting_hangs limits n v store tree st h f store' tree' r a next e =
     let z : length (zeros n) ≡ n = length_zeros n in
     let x : Hanging limits (length (zeros n)) store' tree' next st.made =

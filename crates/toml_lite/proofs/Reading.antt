@@ -4,11 +4,15 @@ use mathlib.Core.Bool.{Bool, true, false}
 use mathlib.Core.List.{List, []}
 use mathlib.Core.Path.{◌≡◌, refl, sym, ap, ◌∙◌}
 use native.Mathlib.Omega.{arith}
-use borrow.Author.Tests.{lt-ltb, le-ltb, ltb-false}
-use lib.Dec.{ltb}
+use borrow.Author.Tests.{lt-ltb, le-ltb, ltb-false, lt-leb, le-leb, leb-true, leb-false}
+use lib.Dec.{ltb, leb}
 use lib.ListN.{length, take, drop}
 use lib.Seq.{take_at, length-take-le}
+use Rattle.std.specs.Prelude.{Result, Ok, Err}
 use Rattle.meaning.specs.declared.Limits.{Limits}
+use Rattle.meaning.specs.declared.Refused.{Refused}
+use Rattle.meaning.specs.declared.Refused.TheVariants.{TextTooLong, NotUtf8, RoomTooSmall}
+use Rattle.meaning.specs.Numbered.{number}
 use Rattle.meaning.specs.Base.{pick, zeros}
 use Rattle.meaning.specs.Limits.{of01}
 use Rattle.meaning.specs.Refusal.{Answer, accepted, refused, accepted_then, in_text, at_line}
@@ -16,44 +20,37 @@ use Rattle.meaning.specs.Utf8.{valid}
 use Rattle.meaning.specs.Lines.{Line, closed, join}
 use Rattle.laws.specs.Cases.{on}
 use Rattle.text.specs.declared.Place.{Place}
-use Rattle.text.specs.declared.Checked.{Checked}
-use Rattle.text.specs.declared.Checked.TheVariants as checks
-use Rattle.text.specs.Answers.{checked_of, counted, Checks}
+use Rattle.text.specs.declared.AtLine.{AtLine}
+use Rattle.text.specs.Answers.{answer_of, counted, Checks}
 use Rattle.text.specs.Laid.{lines_of, laid, clean, Lays}
 use Rattle.text.proofs.Standing.{clean_stands}
 use Rattle.text.proofs.Whole.{checked_joined}
 use Rattle.values.specs.Doc.{lines_s, empty, document_s}
 use Rattle.values.proofs.Carrying.{carries_none, carries_grows}
-use Rattle.toml_lite.specs.declared.Read.{Read}
-use Rattle.toml_lite.specs.declared.Read.TheVariants.{Fault}
+use Rattle.values.specs.declared.State.{State}
 use Rattle.toml_lite.specs.Rooms.{whole_of, AfterLine, fault_after, Told, Begun, Cleared, Ready, Standing, Roomy, Empty, suffice, judged}
 use Rattle.slices.proofs.Zeroing.{length_zeros}
 
 -- ---- 3 and 4 after a refused line
-module _ (s : List ℕ) (p : Place) (number line : ℕ) (c : Checked) (k : Checks s p.at p.line c) where
+module _ (s : List ℕ) (p : Place) (fault : AtLine) (c : Result ℕ AtLine) (k : Checks s p.at p.line c) where
   abbrev rest : Answer (List Line)
   rest = join closed p.line (lines_of (drop p.at s))
 
-  pub fault_alone : (n : ℕ) → AfterLine s p line → c ≡ checks.Fine n → Told (length s) (fault_after s p number line) (Fault number line)
-  fault_alone n h e = go rest (ap checked_of (sym e) ∙ k.says)
+  pub fault_alone : (n : ℕ) → AfterLine s p fault.line → c ≡ Ok n → Told (length s) (fault_after s p (number fault.refused) fault.line) (Err fault)
+  fault_alone n h e = go rest (ap answer_of (sym e) ∙ k.says)
     where
-      go : (j : Answer (List Line)) → accepted n ≡ counted j → Told (length s) (accepted_then j (λ _. at_line number line)) (Fault number line)
+      go : (j : Answer (List Line)) → accepted n ≡ counted j → Told (length s) (accepted_then j (λ _. at_line (number fault.refused) fault.line)) (Err fault)
       go (accepted ls) q = record { says = refl; small = h.number; text = refl }
       go (refused f a w) q = let z : ◌≡◌ {A = ℕ} 0 1 = cc in absurd (omega arith)
 
-  -- 3 or 4 at line l
-  sooner : (n l : ℕ) → at_line n l ≡ counted rest → l ≤ length s + 1 → Told (length s) (fault_after s p number line) (Fault n l)
-  sooner n l e h = go rest e
+  -- 3 or 4 at a later line
+  pub fault_sooner : (u : AtLine) → c ≡ Err u → Told (length s) (fault_after s p (number fault.refused) fault.line) (Err u)
+  fault_sooner u e = go rest (ap answer_of (sym e) ∙ k.says)
     where
-      go : (j : Answer (List Line)) → at_line n l ≡ counted j → Told (length s) (accepted_then j (λ _. at_line number line)) (Fault n l)
+      go : (j : Answer (List Line)) → at_line (number u.refused) u.line ≡ counted j
+          → Told (length s) (accepted_then j (λ _. at_line (number fault.refused) fault.line)) (Err u)
       go (accepted ls) q = let z : ◌≡◌ {A = ℕ} 0 1 = cc in absurd (omega arith)
-      go (refused f a w) q = record { says = cc; small = h; text = let z : in_text ≡ a = cc in sym z }
-
-  pub fault_over : (l : ℕ) → c ≡ checks.Over l → Told (length s) (fault_after s p number line) (Fault 3 l)
-  fault_over l e = sooner 3 l (ap checked_of (sym e) ∙ k.says) (rw e at k.most)
-
-  pub fault_open : (l : ℕ) → c ≡ checks.Open l → Told (length s) (fault_after s p number line) (Fault 4 l)
-  fault_open l e = sooner 4 l (ap checked_of (sym e) ∙ k.says) (rw e at k.most)
+      go (refused f a w) q = record { says = cc; small = rw e at k.most; text = let z : in_text ≡ a = cc in sym z }
 
 -- ---- a laid text t of s
 pub lines_begun : (limits : Limits) (t store tree : List ℕ) → 32 * limits.values ≤ length tree → limits.values < 65000 → limits.segments ≤ 16
@@ -79,20 +76,20 @@ lines_are limits s t e l v =
 -- ---- 1, 2, then the lines
 module _ (limits : Limits) (s scratch store tree : List ℕ) (h : Ready limits (length s) scratch store tree) where
   -- a refusal leaves the empty rooms
-  refuses : (n : ℕ) → document_s limits s ≡ at_line n 0 → Cleared store tree store tree (document_s limits s) (Fault n 0)
-  refuses n e = rw e (record { told = record { says = refl; small = omega arith; text = refl }; store_is = h.store_empty; tree_is = h.tree_empty; carried = tt })
+  refuses : (r : Refused) (v : AtLine) → v ≡ record { refused = r; line = 0 } → document_s limits s ≡ at_line (number r) 0 → Cleared store tree store tree (document_s limits s) (Err v)
+  refuses r v q e = rw (e, q) (record { told = record { says = refl; small = omega arith; text = refl }; store_is = h.store_empty; tree_is = h.tree_empty; carried = tt })
 
-  pub too_long : limits.text < length s → Cleared store tree store tree (document_s limits s) (Fault 1 0)
+  pub too_long : limits.text < length s → (v : AtLine) → v ≡ record { refused = TextTooLong; line = 0 } → Cleared store tree store tree (document_s limits s) (Err v)
   unfolding document_s
-  too_long l = refuses 1 (rw (lt-ltb limits.text (length s) l))
+  too_long l w q = refuses TextTooLong w q (rw (lt-ltb limits.text (length s) l))
 
   pub lay_fits : length s ≤ limits.text → length s < length scratch
   lay_fits l = h.fits l
 
   module _ (l : length s ≤ limits.text) (v : Bool) (e : v ≡ valid s) where
-    pub not_utf8 : v ≡ false → Cleared store tree store tree (document_s limits s) (Fault 2 0)
+    pub not_utf8 : v ≡ false → (a : AtLine) → a ≡ record { refused = NotUtf8; line = 0 } → Cleared store tree store tree (document_s limits s) (Err a)
     unfolding document_s
-    not_utf8 f = refuses 2 (rw (le-ltb limits.text (length s) l, ← e, f))
+    not_utf8 f a q = refuses NotUtf8 a q (rw (le-ltb limits.text (length s) l, ← e, f))
 
     module _ (t : v ≡ true) (scratch' : List ℕ) (used : ℕ) (y : Lays s scratch scratch' used) where
       pub laid_count : used ≡ length (take used scratch')
@@ -106,22 +103,25 @@ module _ (limits : Limits) (s scratch store tree : List ℕ) (h : Ready limits (
           lines_begun limits (take used scratch') store tree h.tree_fits h.few h.segs
           (omega (arith, laid_count, y.most, h.store_fits)) (omega (arith, laid_count, y.most, h.low))
 
-      pub laid_read : (store' tree' : List ℕ) (r : Read) → Cleared store tree store' tree' (whole_of limits (take used scratch')) r → Cleared store tree store' tree' (document_s limits s) r
+      pub laid_read : (store' tree' : List ℕ) (r : Result State AtLine) → Cleared store tree store' tree' (whole_of limits (take used scratch')) r → Cleared store tree store' tree' (document_s limits s) r
       laid_read store' tree' r c = rw (← (lines_are limits s (take used scratch') laid_is l (sym t ∙ e))) c
 
 -- ---- 17 first
-pub small_store : (n m : ℕ) → n < 32768 → false ≡ suffice n m
+pub small_store : (n m : ℕ) → n < 32768 → leb 32768 n ≡ suffice n m
 unfolding suffice
-small_store n m h = rw (lt-ltb n 32768 h)
+small_store n m h = rw (lt-ltb n 32768 h, lt-leb 32768 n h) refl
 
 module _ (n m c : ℕ) (ec : c ≡ m / 32) (h : 32768 ≤ n) where
-  pub small_tree : c < 2048 → false ≡ suffice n m
+  small_tree : c < 2048 → leb 2048 c ≡ suffice n m
   unfolding suffice
-  small_tree l = let k : m < 65536 = omega arith in rw (le-ltb n 32768 h, lt-ltb m 65536 k)
+  small_tree l = let k : m < 65536 = omega arith in rw (le-ltb n 32768 h, lt-ltb m 65536 k, lt-leb 2048 c l) refl
 
-  pub both_large : 2048 ≤ c → true ≡ suffice n m
+  both_large : 2048 ≤ c → leb 2048 c ≡ suffice n m
   unfolding suffice
-  both_large l = let k : 65536 ≤ m = omega arith in rw (le-ltb n 32768 h, le-ltb m 65536 k)
+  both_large l = let k : 65536 ≤ m = omega arith in rw (le-ltb n 32768 h, le-ltb m 65536 k, le-leb 2048 c l) refl
+
+  pub large_store : leb 2048 c ≡ suffice n m
+  large_store = on (leb 2048 c) (λ t. both_large (leb-true 2048 c t)) (λ f. small_tree (leb-false 2048 c f))
 
 abbrev Large : ℕ → ℕ → Type 0
 Large n m = (32768 ≤ n) × (65536 ≤ m)
@@ -136,11 +136,11 @@ suffices n m e =
     else f = let z : ◌≡◌ {A = ℕ} 0 1 = ap (λ (b : Bool). pick b 1 0) f in omega arith
 
 module _ (s store tree : List ℕ) (b : Bool) (e : b ≡ suffice (length store) (length tree)) (h : Empty store tree) where
-  pub too_small : b ≡ false → Cleared store tree store tree (judged s (length store) (length tree)) (Fault 17 0)
+  pub too_small : b ≡ false → (v : AtLine) → v ≡ record { refused = RoomTooSmall; line = 0 } → Cleared store tree store tree (judged s (length store) (length tree)) (Err v)
   unfolding judged
-  too_small f =
+  too_small f v q =
       let k : judged s (length store) (length tree) ≡ at_line 17 0 = rw (← e, f) in
-      rw k (record { told = record { says = refl; small = omega arith; text = refl }; store_is = h.store_empty; tree_is = h.tree_empty; carried = tt })
+      rw (k, q) (record { told = record { says = refl; small = omega arith; text = refl }; store_is = h.store_empty; tree_is = h.tree_empty; carried = tt })
 
   module _ (t : b ≡ true) where
     pub rooms_ready : Roomy store tree
@@ -148,7 +148,7 @@ module _ (s store tree : List ℕ) (b : Bool) (e : b ≡ suffice (length store) 
         let k : Large (length store) (length tree) = suffices (length store) (length tree) (sym e ∙ t) in
         record { store_fits = k.0; tree_fits = k.1; empty = h }
 
-    pub text_read_lem : (store' tree' : List ℕ) (r : Read) → Cleared store tree store' tree' (document_s of01 s) r
+    pub text_read_lem : (store' tree' : List ℕ) (r : Result State AtLine) → Cleared store tree store' tree' (document_s of01 s) r
         → Cleared store tree store' tree' (judged s (length store) (length tree)) r
     unfolding judged
     text_read_lem store' tree' r c = rw (← e, t) c
@@ -161,7 +161,7 @@ module _ (n m : ℕ) (store tree : List ℕ) (es : store ≡ zeros n) (et : tree
   pub emptied : Empty store tree
   emptied = record { store_empty = es ∙ ap zeros (sym (long store n es)); tree_empty = et ∙ ap zeros (sym (long tree m et)) }
 
-  pub emptied_read : (s store' tree' : List ℕ) (r : Read) → Cleared store tree store' tree' (judged s (length store) (length tree)) r
+  pub emptied_read : (s store' tree' : List ℕ) (r : Result State AtLine) → Cleared store tree store' tree' (judged s (length store) (length tree)) r
       → Cleared (zeros n) (zeros m) store' tree' (judged s n m) r
   emptied_read s store' tree' r c = rw (es, et, length_zeros n, length_zeros m) at c
 
@@ -177,7 +177,7 @@ module _ (limits : Limits) (el : limits ≡ of01) (s store tree : List ℕ) (h :
       (lines_begun of01 s store tree (omega (arith, h.tree_fits)) (omega arith) (omega arith)
       (omega (arith, k.fits, h.store_fits)) (omega (arith, k.fits)))
 
-  pub standing_read : (store' tree' : List ℕ) (r : Read) → Cleared store tree store' tree' (whole_of limits s) r → Cleared store tree store' tree' (document_s of01 s) r
+  pub standing_read : (store' tree' : List ℕ) (r : Result State AtLine) → Cleared store tree store' tree' (whole_of limits s) r → Cleared store tree store' tree' (document_s of01 s) r
   standing_read store' tree' r c = rw (el, lines_are of01 s s (sym k.is) k.fits k.well) at c
 
 -- ---- the scratch
@@ -202,5 +202,5 @@ module _ (limits : Limits) (el : limits ≡ of01) (store tree : List ℕ) (h : R
   pub short_ready : (scratch : List ℕ) (n : ℕ) → 4096 ≤ length scratch → n < 4096 → Ready limits n scratch store tree
   short_ready scratch n z l = scratch_ready scratch n (λ k. omega arith)
 
-  pub limits_01 : (s store' tree' : List ℕ) (r : Read) → Cleared store tree store' tree' (document_s limits s) r → Cleared store tree store' tree' (document_s of01 s) r
+  pub limits_01 : (s store' tree' : List ℕ) (r : Result State AtLine) → Cleared store tree store' tree' (document_s limits s) r → Cleared store tree store' tree' (document_s of01 s) r
   limits_01 s store' tree' r c = rw (← el) c

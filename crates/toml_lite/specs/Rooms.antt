@@ -1,43 +1,29 @@
 -- What the rooms hold between lines, what reading a line asks of them, and what it leaves.
-use Rattle.std.specs.Prelude.{ℕ, ◌+◌, ◌*◌, ◌≤◌, ◌<◌, Bool, true, false, List, [], ◌≡◌, ltb, length, take, drop}
+use Rattle.std.specs.Prelude.{ℕ, ◌+◌, ◌*◌, ◌≤◌, ◌<◌, Bool, true, false, List, [], ◌≡◌, ltb, length, take, drop, Result, Ok, Err}
 use Rattle.meaning.specs.declared.Limits.{Limits}
 use Rattle.meaning.specs.Limits.{of01}
+use Rattle.meaning.specs.declared.Refused.{Refused}
+use Rattle.meaning.specs.Numbered.{number}
 use Rattle.meaning.specs.Refusal.{Answer, accepted, refused, accepted_then, number_of, in_text, at_line, at_no_line, R, ok, bad}
 use Rattle.meaning.specs.Base.{pick, zeros}
 use Rattle.meaning.specs.Utf8.{valid}
 use Rattle.meaning.specs.Keys.{keys}
 use Rattle.meaning.specs.Lines.{closed, join}
+use Rattle.text.specs.declared.AtLine.{AtLine}
 use Rattle.text.specs.declared.Place.{Place}
-use Rattle.text.specs.Answers.{Between}
+use Rattle.text.specs.Answers.{answer_of, Between}
 use Rattle.text.specs.Laid.{lines_of, laid}
 use Rattle.scalar.specs.Stores.{over}
-use Rattle.scalar.specs.declared.key.Verdict.{Verdict}
-use Rattle.scalar.specs.declared.key.Verdict.TheVariants as verdicts
 use Rattle.values.specs.declared.State.{State}
-use Rattle.values.specs.declared.grow.Grown as code
-use Rattle.values.specs.declared.grow.Grown.TheVariants.{At, Full, Clash}
 use Rattle.values.specs.Out.{cells}
-use Rattle.values.specs.Carries.{slots_of, Carries, AllWithin, Grows}
+use Rattle.values.specs.Carries.{slots_of, Carries, AllWithin, Grows, numbered}
 use Rattle.values.specs.Grow.{to_last_s, hang_s}
 use Rattle.values.specs.Doc.{Doc, settle_s, path_by, lines_s, empty, document_s}
-use Rattle.toml_lite.specs.declared.LineRead.{LineRead}
-use Rattle.toml_lite.specs.declared.LineRead.TheVariants.{Fine, Fault}
-use Rattle.toml_lite.specs.declared.Read.{Read}
-use Rattle.toml_lite.specs.declared.Read.TheVariants as reads
+use Rattle.toml_lite.specs.declared.Progress.{Progress}
 
--- 01's number of a refused key, 0 of an accepted one
-abbrev pub verdict_number : Verdict → ℕ
-verdict_number verdicts.Fine = 0
-verdict_number verdicts.Malformed = 7
-verdict_number verdicts.Escape = 8
-verdict_number verdicts.Unended = 9
-verdict_number verdicts.TooMany = 15
-
--- where a walk of the tree came to, and the place f of it where assignments go; 16 and 13
-abbrev pub line_after : (ℕ → ℕ) → ℕ → code.Grown → LineRead
-line_after f used (At m p) = Fine (record { used = used; made = m }) (f p)
-line_after f used Full = Fault 16
-line_after f used Clash = Fault 13
+-- so many values made, so many bytes used, and the place where assignments go
+abbrev pub progress_at : ℕ → ℕ → ℕ → Progress
+progress_at made used here = record { st = record { used = used; made = made }; here = here }
 
 -- the document that the rooms hold
 abbrev pub doc_of : List ℕ → List ℕ → State → ℕ → Doc
@@ -83,14 +69,14 @@ abbrev pub Kept : Limits → ℕ → List ℕ → List ℕ → List ℕ → List
 Kept limits n store tree store' tree' st (ok d) = Wrote limits n store tree store' tree' st d
 Kept limits n store tree store' tree' st (bad f) = Unit
 
--- the answer of the code
-abbrev pub line_of : R Doc → LineRead
-line_of (ok d) = Fine (record { used = length d.bytes; made = length d.slots }) d.here
-line_of (bad n) = Fault n
+-- what the code answers to it
+abbrev pub line_of : R Doc → R Progress
+line_of (ok d) = ok (progress_at (length d.slots) (length d.bytes) d.here)
+line_of (bad n) = bad n
 
 -- what reading n bytes that mean m leaves
-pub record Lined (limits : Limits) (n : ℕ) (store tree store' tree' : List ℕ) (st : State) (m : R Doc) (r : LineRead) : Type 0 where
-  pub says : r ≡ line_of m
+pub record Lined (limits : Limits) (n : ℕ) (store tree store' tree' : List ℕ) (st : State) (m : R Doc) (r : Result Progress Refused) : Type 0 where
+  pub says : numbered r ≡ line_of m
   pub store_long : length store' ≡ length store
   pub tree_long : length tree' ≡ length tree
   pub kept : Kept limits n store tree store' tree' st m
@@ -119,15 +105,15 @@ pub record Begun (limits : Limits) (s store tree : List ℕ) : Type 0 where
   pub room : length s ≤ length store + 1
   pub low : length s < 65536
 
--- the answer of the code
-abbrev pub read_of : Answer Doc → Read
-read_of (accepted d) = reads.Fine (record { used = length d.bytes; made = length d.slots })
-read_of (refused f section line) = reads.Fault (number_of f) line
+-- what the code is to answer
+abbrev pub read_of : Answer Doc → Answer State
+read_of (accepted d) = accepted (record { used = length d.bytes; made = length d.slots })
+read_of (refused f section line) = at_line (number_of f) line
 
 -- no number of an answer is large
-abbrev pub Small : ℕ → Read → Type 0
-Small n (reads.Fine st) = (st.used ≤ n) × (st.made ≤ 65000)
-Small n (reads.Fault number line) = line ≤ n + 1
+abbrev pub Small : ℕ → Result State AtLine → Type 0
+Small n (Ok st) = (st.used ≤ n) × (st.made ≤ 65000)
+Small n (Err e) = e.line ≤ n + 1
 
 -- a refusal is told of a text, not of an entry
 abbrev pub OfText : Answer Doc → Type 0
@@ -135,8 +121,8 @@ OfText (accepted d) = Unit
 OfText (refused f section line) = section ≡ in_text
 
 -- what is said of n bytes that mean m
-pub record Told (n : ℕ) (m : Answer Doc) (r : Read) : Type 0 where
-  pub says : r ≡ read_of m
+pub record Told (n : ℕ) (m : Answer Doc) (r : Result State AtLine) : Type 0 where
+  pub says : answer_of r ≡ read_of m
   pub small : Small n r
   pub text : OfText m
 
@@ -145,7 +131,7 @@ KeptAll limits n store tree store' tree' (accepted d) = Wrote limits n store tre
 KeptAll limits n store tree store' tree' (refused f section line) = Unit
 
 -- what reading all lines of n bytes that mean m leaves
-pub record Reads (limits : Limits) (n : ℕ) (store tree store' tree' : List ℕ) (m : Answer Doc) (r : Read) : Type 0 where
+pub record Reads (limits : Limits) (n : ℕ) (store tree store' tree' : List ℕ) (m : Answer Doc) (r : Result State AtLine) : Type 0 where
   pub told : Told n m r
   pub store_long : length store' ≡ length store
   pub tree_long : length tree' ≡ length tree
@@ -165,7 +151,7 @@ abbrev pub Carried : List ℕ → Answer Doc → Type 0
 Carried tree' (accepted d) = Carries tree' d.slots
 Carried tree' (refused f section line) = Unit
 
-pub record Cleared (store tree store' tree' : List ℕ) (m : Answer Doc) (r : Read) : Type 0 where
+pub record Cleared (store tree store' tree' : List ℕ) (m : Answer Doc) (r : Result State AtLine) : Type 0 where
   pub told : Told 65536 m r
   pub store_is : store' ≡ store_of store m
   pub tree_is : tree' ≡ tree_of tree m

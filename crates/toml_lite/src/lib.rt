@@ -2,23 +2,23 @@
 
 #![tactic(auto)]
 
-ghost use Rattle.std.specs.Prelude.{◌≡◌, true, ◌+◌, ◌<◌, length};
+ghost use Rattle.std.specs.Prelude.{◌≡◌, true, ◌+◌, ◌<◌, length, Err};
 ghost use Rattle.meaning.specs.Document as meant;
 ghost use Rattle.meaning.specs.Space as space;
 ghost use Rattle.meaning.specs.Base.{zeros};
 ghost use Rattle.meaning.specs.Limits.{of01};
+ghost use Rattle.meaning.specs.Numbered.{number};
 ghost use Rattle.values.specs.Doc.{line_s, set_s, document_s};
-ghost use Rattle.toml_lite.specs.Rooms.{verdict_number, line_after, doc_of, hang_k, Taking, Hanging, Lined, whole_of};
+ghost use Rattle.toml_lite.specs.Rooms.{progress_at, doc_of, hang_k, Taking, Hanging, Lined, whole_of};
 ghost use Rattle.toml_lite.specs.Rooms.{AfterLine, fault_after, Told, Begun, Reads, Cleared, Ready, Standing};
 ghost use Rattle.toml_lite.specs.Rooms.{Roomy, Empty, suffice, judged};
 
-use meaning::{Limits, TEXT_BYTES};
-use scalar::key::Verdict;
-use text::{Checked, Next, Place};
+use meaning::{Limits, Refused, TEXT_BYTES};
+use text::{AtLine, Place, at_no_line};
+use values::State;
 use values::form::Form;
-use values::grow::{Grown, Here, assign, enter_path, push_path};
+use values::grow::{Here, assign, enter_path, push_path};
 use values::value::Allowed;
-use values::{Reply, State};
 
 // The longest text, and the LF that its last line may lack.
 pub const SCRATCH_BYTES: usize = TEXT_BYTES + 1;
@@ -32,105 +32,63 @@ pub struct Progress {
     pub here: u16,
 }
 
-// What a line comes to: the state after it and the place where assignments go; or the number of its fault.
-#[derive(Clone, Copy)]
-pub enum LineRead {
-    Fine { st: State, here: u16 },
-    Fault(u32),
-}
-
-// What a text comes to: the state after it; or the number of its fault and the line where it is told.
-#[derive(Clone, Copy)]
-pub enum Read {
-    Fine(State),
-    Fault { number: u32, line: usize },
-}
-
-// The number of a refused key, or 0.
-pub fn key_fault(v: Verdict) -> u32
-    ensures { result ≡ verdict_number v }
+// Where a line came to, with so many bytes used and assignments going there.
+fn progress_to(there: Here, used: usize, here: u16) -> Progress
+    ensures { result ≡ progress_at there.made used here }
 {
-    match v {
-        Verdict::Fine => 0,
-        Verdict::Malformed => 7,
-        Verdict::Escape => 8,
-        Verdict::Unended => 9,
-        Verdict::TooMany => 15,
-    }
-}
-
-// Where a header came to: assignments go there.
-fn after_header(g: Grown, used: usize) -> LineRead
-    ensures { result ≡ line_after (λ p. p) used g }
-{
-    match g {
-        Grown::At { made, place } => LineRead::Fine {
-            st: State { used, made },
-            here: place,
+    Progress {
+        st: State {
+            used,
+            made: there.made,
         },
-        Grown::Full => LineRead::Fault(16),
-        Grown::Clash => LineRead::Fault(13),
-    }
-}
-
-// Where an assignment came to: the next goes to the same place.
-fn after_assignment(g: Grown, used: usize, here: u16) -> LineRead
-    ensures { result ≡ line_after (λ _. here) used g }
-{
-    match g {
-        Grown::At { made, place: _ } => LineRead::Fine {
-            st: State { used, made },
-            here,
-        },
-        Grown::Full => LineRead::Fault(16),
-        Grown::Clash => LineRead::Fault(13),
+        here,
     }
 }
 
 // A header `[..]`.
-fn header(s: &[u8], store: &mut [u8], tree: &mut [u8], st: State, limits: Limits) -> LineRead
+fn header(
+    s: &[u8],
+    store: &mut [u8],
+    tree: &mut [u8],
+    st: State,
+    limits: Limits,
+) -> Result<Progress, Refused>
     requires { Taking limits (length s.now) store.old tree.old st }
     ensures { Lined limits (length s.now) store.old tree.old store.new
         tree.new st
         (line_s limits (meant.heads s.now) (doc_of store.old tree.old st 1)) result }
 {
-    let used = st.used;
+    let key = scalar::key::put_key(s, store, st.used, limits.segments)?;
     let root = Here {
         made: st.made,
         limit: limits.values,
         place: tree::ROOT,
     };
-    let key = scalar::key::put_key(s, store, used, limits.segments);
-    let verdict = key.verdict;
-    let fault = key_fault(verdict);
-    if fault != 0 {
-        return LineRead::Fault(fault);
-    }
-    let g = enter_path(tree, store, root, key, used, key.n);
-    after_header(g, key.used)
+    let there = enter_path(tree, store, root, key, st.used, key.n)?;
+    Ok(progress_to(there, key.used, there.place))
 }
 
 // A header `[[..]]`.
-fn header_item(s: &[u8], store: &mut [u8], tree: &mut [u8], st: State, limits: Limits) -> LineRead
+fn header_item(
+    s: &[u8],
+    store: &mut [u8],
+    tree: &mut [u8],
+    st: State,
+    limits: Limits,
+) -> Result<Progress, Refused>
     requires { Taking limits (length s.now) store.old tree.old st }
     ensures { Lined limits (length s.now) store.old tree.old store.new
         tree.new st
         (line_s limits (meant.pushes s.now) (doc_of store.old tree.old st 1)) result }
 {
-    let used = st.used;
+    let key = scalar::key::put_key(s, store, st.used, limits.segments)?;
     let root = Here {
         made: st.made,
         limit: limits.values,
         place: tree::ROOT,
     };
-    let key = scalar::key::put_key(s, store, used, limits.segments);
-    let verdict = key.verdict;
-    let fault = key_fault(verdict);
-    if fault != 0 {
-        return LineRead::Fault(fault);
-    }
-    let g = push_path(tree, store, root, key, used);
-    after_header(g, key.used)
+    let there = push_path(tree, store, root, key, st.used)?;
+    Ok(progress_to(there, key.used, there.place))
 }
 
 // Hangs value number n up under a key, from the place where assignments go.
@@ -141,27 +99,21 @@ fn hang_key(
     progress: Progress,
     n: usize,
     limits: Limits,
-) -> LineRead
+) -> Result<Progress, Refused>
     requires { Hanging limits (length s.now) store.old tree.old progress.st n }
     ensures { Lined limits (length s.now) store.old tree.old store.new
         tree.new progress.st (hang_k limits s.now n
         (doc_of store.old tree.old progress.st progress.here)) result }
 {
     let st = progress.st;
-    let used = st.used;
-    let key = scalar::key::put_key(s, store, used, limits.segments);
-    let verdict = key.verdict;
-    let fault = key_fault(verdict);
-    if fault != 0 {
-        return LineRead::Fault(fault);
-    }
+    let key = scalar::key::put_key(s, store, st.used, limits.segments)?;
     let here = Here {
         made: st.made,
         limit: limits.values,
         place: progress.here,
     };
-    let g = assign(tree, store, here, key, used, n);
-    after_assignment(g, key.used, progress.here)
+    let there = assign(tree, store, here, key, st.used, n)?;
+    Ok(progress_to(there, key.used, progress.here))
 }
 
 // An assignment: 6, the value, then the key.
@@ -172,32 +124,22 @@ fn setting(
     tree: &mut [u8],
     progress: Progress,
     limits: Limits,
-) -> LineRead
+) -> Result<Progress, Refused>
     requires { Taking limits (length k.now + length v.now) store.old tree.old progress.st }
     ensures { Lined limits (length k.now + length v.now) store.old
         tree.old store.new tree.new progress.st (set_s limits k.now
         v.now (doc_of store.old tree.old progress.st progress.here)) result }
 {
-    if k.len() == 0 {
-        return LineRead::Fault(6);
+    if k.is_empty() {
+        return Err(Refused::NoKey);
     }
     let allowed = Allowed {
         values: limits.values,
         arrays: limits.arrays,
     };
-    let st = progress.st;
-    let made = st.made;
-    let r = values::value::value(v, store, tree, st, 0, allowed);
-    match r {
-        Reply::Fault(n, _) => LineRead::Fault(n),
-        Reply::Fine(after) => {
-            let next = Progress {
-                st: after,
-                here: progress.here,
-            };
-            hang_key(k, store, tree, next, made, limits)
-        }
-    }
+    let st = values::value::value(v, store, tree, progress.st, 0, allowed)?;
+    let next = Progress { st, ..progress };
+    hang_key(k, store, tree, next, progress.st.made, limits)
 }
 
 // An assignment whose key may have white space around it.
@@ -208,7 +150,7 @@ fn assignment(
     tree: &mut [u8],
     progress: Progress,
     limits: Limits,
-) -> LineRead
+) -> Result<Progress, Refused>
     requires { Taking limits (length k.now + length v.now) store.old tree.old progress.st }
     ensures { Lined limits (length k.now + length v.now) store.old
         tree.old store.new tree.new progress.st (line_s limits
@@ -216,9 +158,7 @@ fn assignment(
         (doc_of store.old tree.old progress.st progress.here)) result }
 {
     let t = chars::trim(k);
-    let from = t.from;
-    let end = t.end;
-    setting(&k[from..end], v, store, tree, progress, limits)
+    setting(&k[t.from..t.end], v, store, tree, progress, limits)
 }
 
 // A line without white space around it.
@@ -228,28 +168,19 @@ fn read_form(
     tree: &mut [u8],
     progress: Progress,
     limits: Limits,
-) -> LineRead
+) -> Result<Progress, Refused>
     requires { Taking limits (length l.now) store.old tree.old progress.st }
     ensures { Lined limits (length l.now) store.old tree.old store.new
         tree.new progress.st (line_s limits (meant.form l.now)
         (doc_of store.old tree.old progress.st progress.here)) result }
 {
-    let st = progress.st;
-    let f = values::form::classify(l);
-    match f {
-        Form::Pushes => {
-            let e = l.len() - 2;
-            header_item(&l[2..e], store, tree, st, limits)
-        }
-        Form::Heads => {
-            let e = l.len() - 1;
-            header(&l[1..e], store, tree, st, limits)
-        }
-        Form::Sets(at) => {
-            let b = at + 1;
-            assignment(&l[..at], &l[b..], store, tree, progress, limits)
-        }
-        Form::Neither => LineRead::Fault(5),
+    let Some(form) = values::form::classify(l) else {
+        return Err(Refused::NoForm);
+    };
+    match form {
+        Form::Pushes => header_item(&l[2..l.len() - 2], store, tree, progress.st, limits),
+        Form::Heads => header(&l[1..l.len() - 1], store, tree, progress.st, limits),
+        Form::Sets(at) => assignment(&l[..at], &l[at + 1..], store, tree, progress, limits),
     }
 }
 
@@ -260,89 +191,76 @@ pub fn read_line(
     tree: &mut [u8],
     progress: Progress,
     limits: Limits,
-) -> LineRead
+) -> Result<Progress, Refused>
     requires { Taking limits (length l.now) store.old tree.old progress.st }
     ensures { Lined limits (length l.now) store.old tree.old store.new
         tree.new progress.st (line_s limits (meant.form (space.trim l.now))
         (doc_of store.old tree.old progress.st progress.here)) result }
 {
     let t = chars::trim(l);
-    let from = t.from;
-    let end = t.end;
-    read_form(&l[from..end], store, tree, progress, limits)
+    read_form(&l[t.from..t.end], store, tree, progress, limits)
 }
 
 // A refused line: 3 and 4 come before it, wherever they stand, so the lines after it are checked for them.
-fn first_fault(s: &[u8], next: Place, number: u32, line: usize) -> Read
-    requires { AfterLine s.now next line }
-    ensures { Told (length s.now) (fault_after s.now next number line) result }
+fn first_fault(s: &[u8], next: Place, fault: AtLine) -> AtLine
+    requires { AfterLine s.now next fault.line }
+    ensures { Told (length s.now) (fault_after s.now next (number fault.refused) fault.line) (Err result) }
 {
-    let c = text::check_joined(s, next.at, next.line);
-    match c {
-        Checked::Fine(_) => Read::Fault { number, line },
-        Checked::Over(l) => Read::Fault { number: 3, line: l },
-        Checked::Open(l) => Read::Fault { number: 4, line: l },
+    match text::check_joined(s, next.at, next.line) {
+        Ok(_) => fault,
+        Err(sooner) => sooner,
     }
 }
 
 // All joined lines of a laid text.
-pub fn read_lines(s: &[u8], store: &mut [u8], tree: &mut [u8], limits: Limits) -> Read
+pub fn read_lines(
+    s: &[u8],
+    store: &mut [u8],
+    tree: &mut [u8],
+    limits: Limits,
+) -> Result<State, AtLine>
     requires { Begun limits s.now store.old tree.old }
     ensures { Reads limits (length s.now) store.old tree.old store.new
         tree.new (whole_of limits s.now) result }
 {
-    let mut at = 0;
-    let mut line = 1;
+    let mut place = Place { at: 0, line: 1 };
     let mut progress = Progress {
         st: State { used: 0, made: 0 },
         here: tree::ROOT,
     };
-    while at < s.len() {
-        let n = text::next_line(s, at, line);
-        match n {
-            Next::End => {
-                let st = progress.st;
-                return Read::Fine(st);
-            }
-            Next::Over(l) => return Read::Fault { number: 3, line: l },
-            Next::Open(l) => return Read::Fault { number: 4, line: l },
-            Next::Line {
-                from,
-                end,
-                line: l,
-                next: p,
-            } => {
-                let r = read_line(&s[from..end], store, tree, progress, limits);
-                match r {
-                    LineRead::Fault(number) => return first_fault(s, p, number, l),
-                    LineRead::Fine { st, here } => {
-                        progress = Progress { st, here };
-                        at = p.at;
-                        line = p.line;
-                    }
-                }
+    while let Some(l) = text::next_line(s, place.at, place.line)? {
+        match read_line(&s[l.from..l.end], store, tree, progress, limits) {
+            Ok(after) => progress = after,
+            Err(refused) => {
+                let fault = AtLine {
+                    refused,
+                    line: l.line,
+                };
+                return Err(first_fault(s, l.next, fault));
             }
         }
+        place = l.next;
     }
-    let st = progress.st;
-    Read::Fine(st)
+    Ok(progress.st)
 }
 
 // The same, with both rooms zeroed where a line is refused.
-pub fn read_laid(s: &[u8], store: &mut [u8], tree: &mut [u8], limits: Limits) -> Read
+pub fn read_laid(
+    s: &[u8],
+    store: &mut [u8],
+    tree: &mut [u8],
+    limits: Limits,
+) -> Result<State, AtLine>
     requires { Begun limits s.now store.old tree.old }
     ensures { Cleared store.old tree.old store.new tree.new
         (whole_of limits s.now) result }
 {
-    let r = read_lines(s, store, tree, limits);
-    match r {
-        Read::Fine(st) => Read::Fine(st),
-        Read::Fault { number, line } => {
-            slices::zero(store);
-            slices::zero(tree);
-            Read::Fault { number, line }
-        }
+    let read = read_lines(s, store, tree, limits);
+    if read.is_err() {
+        slices::zero(store);
+        slices::zero(tree);
     }
+    read
 }
 
 // A text for which both rooms, which hold zeros, are large enough: 1, 2, then its lines.
@@ -352,23 +270,23 @@ fn read_text(
     store: &mut [u8],
     tree: &mut [u8],
     limits: Limits,
-) -> Read
+) -> Result<State, AtLine>
     requires { Ready limits (length text.now) scratch.old store.old tree.old }
     ensures { Cleared store.old tree.old store.new tree.new
         (document_s limits text.now) result }
 {
     if limits.text < text.len() {
-        return Read::Fault { number: 1, line: 0 };
+        return Err(at_no_line(Refused::TextTooLong));
     }
-    if chars::valid(text) {
-        let used = text::lay(text, scratch);
-        return read_laid(&scratch[..used], store, tree, limits);
+    if !chars::valid(text) {
+        return Err(at_no_line(Refused::NotUtf8));
     }
-    Read::Fault { number: 2, line: 0 }
+    let used = text::lay(text, scratch);
+    read_laid(&scratch[..used], store, tree, limits)
 }
 
 // A short text within 01's limits, laid into a short scratch.
-fn read_short(text: &[u8], store: &mut [u8], tree: &mut [u8]) -> Read
+fn read_short(text: &[u8], store: &mut [u8], tree: &mut [u8]) -> Result<State, AtLine>
     requires { Roomy store.old tree.old × (length text.now < 4096) }
     ensures { Cleared store.old tree.old store.new tree.new
         (document_s of01 text.now) result }
@@ -378,7 +296,7 @@ fn read_short(text: &[u8], store: &mut [u8], tree: &mut [u8]) -> Read
 }
 
 // Any text within 01's limits.
-fn read_long(text: &[u8], store: &mut [u8], tree: &mut [u8]) -> Read
+fn read_long(text: &[u8], store: &mut [u8], tree: &mut [u8]) -> Result<State, AtLine>
     requires { Roomy store.old tree.old }
     ensures { Cleared store.old tree.old store.new tree.new
         (document_s of01 text.now) result }
@@ -391,17 +309,11 @@ fn read_long(text: &[u8], store: &mut [u8], tree: &mut [u8]) -> Read
 fn stands(text: &[u8]) -> bool
     ensures { result ≡ true → Standing text.now }
 {
-    if TEXT_BYTES < text.len() {
-        return false;
-    }
-    if text::clean(text) {
-        return chars::valid(text);
-    }
-    false
+    text.len() <= TEXT_BYTES && text::clean(text) && chars::valid(text)
 }
 
 // Such a text: its lines.
-fn read_standing(text: &[u8], store: &mut [u8], tree: &mut [u8]) -> Read
+fn read_standing(text: &[u8], store: &mut [u8], tree: &mut [u8]) -> Result<State, AtLine>
     requires { Roomy store.old tree.old × Standing text.now }
     ensures { Cleared store.old tree.old store.new tree.new
         (document_s of01 text.now) result }
@@ -409,7 +321,7 @@ fn read_standing(text: &[u8], store: &mut [u8], tree: &mut [u8]) -> Read
     read_laid(text, store, tree, meaning::of01())
 }
 
-fn read_roomy(text: &[u8], store: &mut [u8], tree: &mut [u8]) -> Read
+fn read_roomy(text: &[u8], store: &mut [u8], tree: &mut [u8]) -> Result<State, AtLine>
     requires { Roomy store.old tree.old }
     ensures { Cleared store.old tree.old store.new tree.new
         (document_s of01 text.now) result }
@@ -427,17 +339,11 @@ fn read_roomy(text: &[u8], store: &mut [u8], tree: &mut [u8]) -> Read
 pub fn rooms_suffice(store: &[u8], tree: &[u8]) -> bool
     ensures { result ≡ suffice (length store.now) (length tree.now) }
 {
-    if store.len() < TEXT_BYTES {
-        return false;
-    }
-    if tree::capacity(tree) < meaning::VALUES {
-        return false;
-    }
-    true
+    TEXT_BYTES <= store.len() && meaning::VALUES <= tree::capacity(tree)
 }
 
 // A text into empty rooms: 17 first.
-fn read_empty(text: &[u8], store: &mut [u8], tree: &mut [u8]) -> Read
+fn read_empty(text: &[u8], store: &mut [u8], tree: &mut [u8]) -> Result<State, AtLine>
     requires { Empty store.old tree.old }
     ensures { Cleared store.old tree.old store.new tree.new
         (judged text.now (length store.old) (length tree.old)) result }
@@ -445,14 +351,11 @@ fn read_empty(text: &[u8], store: &mut [u8], tree: &mut [u8]) -> Read
     if rooms_suffice(store, tree) {
         return read_roomy(text, store, tree);
     }
-    Read::Fault {
-        number: 17,
-        line: 0,
-    }
+    Err(at_no_line(Refused::RoomTooSmall))
 }
 
 // A text into both rooms, whatever they hold.
-pub fn read_tree(text: &[u8], store: &mut [u8], tree: &mut [u8]) -> Read
+pub fn read_tree(text: &[u8], store: &mut [u8], tree: &mut [u8]) -> Result<State, AtLine>
     ensures { Cleared (zeros (length store.old)) (zeros (length tree.old))
         store.new tree.new
         (judged text.now (length store.old) (length tree.old)) result }

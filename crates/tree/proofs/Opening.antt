@@ -6,8 +6,7 @@ use mathlib.Core.Path.{◌≡◌, refl, sym, ap, ◌∙◌}
 use native.Mathlib.Omega.{arith}
 use lib.ListN.{length}
 use Rattle.tree.specs.declared.Slot.{Slot}
-use Rattle.tree.specs.declared.Found.{Found}
-use Rattle.tree.specs.declared.Found.TheVariants.{At, Nothing}
+use Rattle.std.specs.Prelude.{Option, Some, None, unwrap_or}
 use Rattle.tree.specs.declared.Value.{Value}
 use Rattle.tree.specs.declared.Value.TheVariants.{Absent, Number, Flag, Array, Table}
 use Rattle.tree.specs.declared.Fields.{Fields}
@@ -73,14 +72,9 @@ module _ (tree : List ℕ) (made place to : ℕ) (e : to ≡ newest tree made pl
   pub newest_room : Holds tree made → Holds tree to
   newest_room h = record { fits = omega (arith, h.fits, newest_high tree place made) }
 
-  module _ (r : Found) (h : Finds 0 to (child tree to place 0) r) where
-    pub fields_some : (n : ℕ) → r ≡ At n → record { place = place; from = n; to = to } ≡ fields_of tree made place
-    unfolding fields_of
-    fields_some n f = let c : child tree to place 0 ≡ At n = sym h.is ∙ f in rw (← e, c)
-
-    pub fields_none : r ≡ Nothing → record { place = place; from = to; to = to } ≡ fields_of tree made place
-    unfolding fields_of
-    fields_none f = let c : child tree to place 0 ≡ Nothing = sym h.is ∙ f in rw (← e, c)
+  pub fields_is : (r : Option ℕ) → Finds 0 to (child tree to place 0) r → record { place = place; from = unwrap_or r to; to = to } ≡ fields_of tree made place
+  unfolding fields_of
+  fields_is r h = rw (← e, h.is)
 
 -- ---- seek
 pub record Seeking (tree store key : List ℕ) (from to place i : ℕ) : Type 0 where
@@ -96,7 +90,7 @@ module _ (tree store key : List ℕ) (from to place : ℕ) where
     pub seek_room : Holds tree to → from < i → Holds tree (i - 1 + 1)
     seek_room h l = record { fits = omega (arith, h.fits) }
 
-    pub seek_end : i ≤ from → Finds from to (look_in tree store from (to - from) place key) Nothing
+    pub seek_end : i ≤ from → Finds from to (look_in tree store from (to - from) place key) None
     seek_end l =
         let d : i - from ≡ 0 = omega arith in
         record { is = rw d at k.left; from = tt; below = tt }
@@ -111,29 +105,29 @@ module _ (tree store key : List ℕ) (from to place : ℕ) where
       pub seek_on : r ≡ false → Seeking tree store key from to place (i - 1)
       seek_on t = record { low = omega arith; high = omega arith; left = rw (there, here, ← e, t) at k.left }
 
-      pub seek_hit : r ≡ true → Finds from to (look_in tree store from (to - from) place key) (At (i - 1))
+      pub seek_hit : r ≡ true → Finds from to (look_in tree store from (to - from) place key) (Some (i - 1))
       seek_hit t = record { is = rw (there, here, ← e, t) at k.left; from = omega arith; below = omega arith }
 
 -- ---- among
-pub among_is : (tree store key : List ℕ) (f : Fields) (r : Found) → Finds f.from f.to (look_in tree store f.from (f.to - f.from) f.place key) r
+pub among_is : (tree store key : List ℕ) (f : Fields) (r : Option ℕ) → Finds f.from f.to (look_in tree store f.from (f.to - f.from) f.place key) r
     → Finds f.from f.to (among tree store f key) r
 unfolding among
 among_is tree store key f r h = h
 
 -- ---- field
-module _ (tree store key : List ℕ) (f : Fields) (r : Found) (h : Finds f.from f.to (among tree store f key) r) where
-  pub field_stood : (n : ℕ) → Spread tree f → r ≡ At n → Stood tree n
+module _ (tree store key : List ℕ) (f : Fields) (r : Option ℕ) (h : Finds f.from f.to (among tree store f key) r) where
+  pub field_stood : (n : ℕ) → Spread tree f → r ≡ Some n → Stood tree n
   field_stood n s e =
       let b : n < f.to = found_below r f.to n h.below e in
       record { fits = record { fits = omega (arith, s.fits.fits) }; low = omega (arith, s.low) }
 
-  pub field_some : (n : ℕ) (v : Value) → r ≡ At n → v ≡ value_at tree store n → v ≡ field tree store f key
+  pub field_some : (n : ℕ) (v : Value) → r ≡ Some n → v ≡ value_at tree store n → v ≡ field tree store f key
   unfolding field
-  field_some n v e g = let c : among tree store f key ≡ At n = sym h.is ∙ e in rw c g
+  field_some n v e g = let c : among tree store f key ≡ Some n = sym h.is ∙ e in rw c g
 
-  pub field_none : r ≡ Nothing → Absent ≡ field tree store f key
+  pub field_none : r ≡ None → Absent ≡ field tree store f key
   unfolding field
-  field_none e = let c : among tree store f key ≡ Nothing = sym h.is ∙ e in rw c
+  field_none e = let c : among tree store f key ≡ None = sym h.is ∙ e in rw c
 
 -- ---- nth
 pub record Passing (tree : List ℕ) (made parent i left from : ℕ) : Type 0 where
@@ -145,7 +139,7 @@ module _ (tree : List ℕ) (made parent i : ℕ) where
   pass_start = record { rest = refl }
 
   module _ (left from : ℕ) (k : Passing tree made parent i left from) where
-    pub pass_end : made ≤ from → Finds 0 made (nth_of (items tree made parent 0) i) Nothing
+    pub pass_end : made ≤ from → Finds 0 made (nth_of (items tree made parent 0) i) None
     pass_end l =
         let d : made - from ≡ 0 = omega arith in
         record { is = rw d at k.rest; from = tt; below = tt }
@@ -162,5 +156,5 @@ module _ (tree : List ℕ) (made parent i : ℕ) where
           let d : left ≡ suc (left - 1) = omega arith in
           record { rest = rw (step, ← e, t) at (rw d at k.rest) }
 
-      pub pass_hit : r ≡ true → left ≡ 0 → Finds 0 made (nth_of (items tree made parent 0) i) (At from)
+      pub pass_hit : r ≡ true → left ≡ 0 → Finds 0 made (nth_of (items tree made parent 0) i) (Some from)
       pass_hit t z = record { is = rw (step, ← e, t) at (rw z at k.rest); from = omega arith; below = l }

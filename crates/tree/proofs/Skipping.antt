@@ -8,8 +8,8 @@ use native.Mathlib.Nat.{add-zero}
 use borrow.Author.Tests.{ltb-true, ltb-false}
 use lib.Dec.{ltb}
 use Rattle.laws.specs.Cases.{on, never}
-use Rattle.tree.specs.declared.Found.{Found}
-use Rattle.tree.specs.declared.Found.TheVariants.{At, Nothing}
+use Rattle.std.specs.Prelude.{Option, Some, None, is_some}
+use Rattle.std.specs.Option.{option_or}
 use Rattle.tree.specs.Room.{Holds, Clear, Finds, under, mine, idle, first, child, look}
 use Rattle.tree.specs.Doors.{newest, look_in}
 use Rattle.tree.proofs.Walks.{Walking, mine_not}
@@ -139,17 +139,17 @@ sink_skipped tree made parent i c =
 
 -- ---- seek_block
 module _ (tree store key : List ℕ) (parent : ℕ) where
-  seek_clear : (k i : ℕ) → ((j : ℕ) → i ≤ j → j < i + k → under tree j parent ≡ false) → look_in tree store i k parent key ≡ Nothing
+  seek_clear : (k i : ℕ) → ((j : ℕ) → i ≤ j → j < i + k → under tree j parent ≡ false) → look_in tree store i k parent key ≡ None
   seek_clear zero i h = refl
   seek_clear (suc k) i h =
       rw (sym (mine_not tree store key (i + k) parent false (sym (h (i + k) (omega arith) (omega arith))) refl))
       (seek_clear k i (λ (j : ℕ). λ (g : i ≤ j). λ (l : j < i + k). h j g (omega arith)))
 
-  pub seek_idle : (i : ℕ) (r : Bool) → r ≡ idle tree parent 8 i → r ≡ true → Finds i (i + 8) (look_in tree store i 8 parent key) Nothing
+  pub seek_idle : (i : ℕ) (r : Bool) → r ≡ idle tree parent 8 i → r ≡ true → Finds i (i + 8) (look_in tree store i 8 parent key) None
   seek_idle i r e t =
       record { is = sym (seek_clear 8 i (λ (j : ℕ). λ (h : i ≤ j). λ (l : j < i + 8). clear_idle tree parent 8 i j (sym e ∙ t) h l)); from = tt; below = tt }
 
-  pub seek_eight : (i : ℕ) (r : Found) → Finds i (i + 8) (look_in tree store i (i + 8 - i) parent key) r → Finds i (i + 8) (look_in tree store i 8 parent key) r
+  pub seek_eight : (i : ℕ) (r : Option ℕ) → Finds i (i + 8) (look_in tree store i (i + 8 - i) parent key) r → Finds i (i + 8) (look_in tree store i 8 parent key) r
   seek_eight i r h = let d : i + 8 - i ≡ 8 = omega arith in rw d at h
 
 -- ---- find
@@ -157,18 +157,13 @@ pub record Looking (tree store key : List ℕ) (made parent i : ℕ) : Type 0 wh
   pub high : i ≤ made
   pub left : look tree store i parent key ≡ look tree store made parent key
 
--- the first, where it found something
-abbrev or_found : Found → Found → Found
-or_found (At n) d = At n
-or_found Nothing d = d
-
 -- nothing after it
-none_left : (r : Found) → or_found r Nothing ≡ r
-none_left (At n) = refl
-none_left Nothing = refl
+none_left : (r : Option ℕ) → option_or r None ≡ r
+none_left (Some n) = refl
+none_left None = refl
 
 module _ (tree store key : List ℕ) (parent : ℕ) where
-  look_seek : (k i : ℕ) → look tree store (i + k) parent key ≡ or_found (look_in tree store i k parent key) (look tree store i parent key)
+  look_seek : (k i : ℕ) → look tree store (i + k) parent key ≡ option_or (look_in tree store i k parent key) (look tree store i parent key)
   look_seek zero i = rw (add-zero i)
   look_seek (suc k) i =
       let d : i + suc k ≡ suc (i + k) = omega arith in
@@ -182,24 +177,27 @@ module _ (tree store key : List ℕ) (made parent : ℕ) where
     pub look_room : Holds tree made → 8 ≤ i → Holds tree (i - 8 + 8)
     look_room h l = record { fits = omega (arith, h.fits, k.high) }
 
-    module _ (r : Found) (h : Finds (i - 8) (i - 8 + 8) (look_in tree store (i - 8) 8 parent key) r) (l : 8 ≤ i) where
-      both : look tree store i parent key ≡ or_found r (look tree store (i - 8) parent key)
+    module _ (r : Option ℕ) (h : Finds (i - 8) (i - 8 + 8) (look_in tree store (i - 8) 8 parent key) r) (l : 8 ≤ i) where
+      both : look tree store i parent key ≡ option_or r (look tree store (i - 8) parent key)
       both =
           let d : i - 8 + 8 ≡ i = omega arith in
           rw (d, ← h.is) at (look_seek tree store key parent 8 (i - 8))
 
-      pub look_on : r ≡ Nothing → Looking tree store key made parent (i - 8)
+      pub look_on : r ≡ None → Looking tree store key made parent (i - 8)
       look_on e = record { high = omega (arith, k.high); left = sym (rw e at both) ∙ k.left }
 
-      pub look_hit : (n : ℕ) → r ≡ At n → Finds 0 made (look tree store made parent key) (At n)
-      look_hit n e =
-          let b : n < i - 8 + 8 = rw e at h.below in
-          record { is = sym (rw e at both) ∙ k.left; from = omega arith; below = omega (arith, k.high) }
+      pub look_hit : (q : Bool) → q ≡ is_some r → q ≡ true → Finds 0 made (look tree store made parent key) r
+      look_hit q d t = by r h both (sym d ∙ t)
+        where
+          by : (p : Option ℕ) → Finds (i - 8) (i - 8 + 8) (look_in tree store (i - 8) 8 parent key) p
+              → look tree store i parent key ≡ option_or p (look tree store (i - 8) parent key) → is_some p ≡ true → Finds 0 made (look tree store made parent key) p
+          by None g b e = never {b = false} e refl
+          by (Some n) g b e = record { is = sym b ∙ k.left; from = omega arith; below = omega (arith, g.below, k.high) }
 
     pub look_few : Holds tree made → Holds tree i
     look_few h = record { fits = omega (arith, h.fits, k.high) }
 
-    pub look_end : (r : Found) → Finds 0 i (look_in tree store 0 (i - 0) parent key) r → Finds 0 made (look tree store made parent key) r
+    pub look_end : (r : Option ℕ) → Finds 0 i (look_in tree store 0 (i - 0) parent key) r → Finds 0 made (look tree store made parent key) r
     look_end r h = by r h
       where
         d : i - 0 ≡ i
@@ -210,8 +208,8 @@ module _ (tree store key : List ℕ) (made parent : ℕ) where
             let z : 0 + i ≡ i = omega arith in
             rw z at (look_seek tree store key parent i 0) ∙ none_left (look_in tree store 0 i parent key)
 
-        by : (q : Found) → Finds 0 i (look_in tree store 0 (i - 0) parent key) q → Finds 0 made (look tree store made parent key) q
-        by Nothing g = record { is = rw d at g.is ∙ sym whole ∙ k.left; from = tt; below = tt }
-        by (At n) g =
+        by : (q : Option ℕ) → Finds 0 i (look_in tree store 0 (i - 0) parent key) q → Finds 0 made (look tree store made parent key) q
+        by None g = record { is = rw d at g.is ∙ sym whole ∙ k.left; from = tt; below = tt }
+        by (Some n) g =
             let b : n < i = g.below in
             record { is = rw d at g.is ∙ sym whole ∙ k.left; from = omega arith; below = omega (arith, k.high) }

@@ -14,7 +14,7 @@ use Rattle.laws.specs.Cases.{on}
 use Rattle.laws.specs.Order.{same_eq}
 use Rattle.slices.specs.Numbers.{number}
 use Rattle.tree.specs.declared.Slot.{Slot}
-use Rattle.tree.specs.declared.Found.TheVariants.{At, Nothing}
+use Rattle.std.specs.Prelude.{Some, None}
 use Rattle.tree.specs.Room.{Holds, slot_at, under, keyed, mine, first, child, count, Finds, Counts}
 
 -- ---- one value
@@ -78,13 +78,13 @@ module _ (tree : List ℕ) (made parent from : ℕ) where
         let m : under tree i parent ≡ false = sym e ∙ f in
         record { low = omega arith; left = rw (d, m) at k.left }
 
-    pub walk_hit : Walking tree made parent from i → i < made → r ≡ under tree i parent → r ≡ true → Finds from made (child tree made parent from) (At i)
+    pub walk_hit : Walking tree made parent from i → i < made → r ≡ under tree i parent → r ≡ true → Finds from made (child tree made parent from) (Some i)
     walk_hit k h e f =
         let d : made - i ≡ suc (made - (i + 1)) = omega arith in
         let m : under tree i parent ≡ true = sym e ∙ f in
         record { is = rw (d, m) at k.left; from = k.low; below = h }
 
-  pub walk_end : (i : ℕ) → Walking tree made parent from i → made ≤ i → Finds from made (child tree made parent from) Nothing
+  pub walk_end : (i : ℕ) → Walking tree made parent from i → made ≤ i → Finds from made (child tree made parent from) None
   walk_end i k h =
       let d : made - i ≡ 0 = omega arith in
       record { is = rw d at k.left; from = tt; below = tt }

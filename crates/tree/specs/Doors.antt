@@ -1,9 +1,7 @@
 -- Reading doors: what a value is, where a table's children stand, a field of it, and the items of an array.
-use Rattle.std.specs.Prelude.{ℕ, zero, suc, ◌+◌, ◌-◌, ◌/◌, ◌%◌, ◌≤◌, ◌<◌, Bool, true, false, List, [], ◌∷◌, eqb, leb, length}
+use Rattle.std.specs.Prelude.{ℕ, zero, suc, ◌+◌, ◌-◌, ◌/◌, ◌%◌, ◌≤◌, ◌<◌, Bool, true, false, List, [], ◌∷◌, eqb, leb, length, unwrap_or, Option, Some, None}
 use Rattle.meaning.specs.Base.{pick}
 use Rattle.tree.specs.declared.Slot.{Slot}
-use Rattle.tree.specs.declared.Found.{Found}
-use Rattle.tree.specs.declared.Found.TheVariants.{At, Nothing}
 use Rattle.tree.specs.declared.Value.{Value}
 use Rattle.tree.specs.declared.Value.TheVariants.{Absent, Text, Number, Flag, Array, Table}
 use Rattle.tree.specs.declared.Fields.{Fields}
@@ -48,16 +46,12 @@ abbrev pub newest : List ℕ → ℕ → ℕ → ℕ
 newest room zero parent = 0
 newest room (suc n) parent = pick (under room n parent) (suc n) (newest room n parent)
 
-abbrev pub or_else : Found → ℕ → ℕ
-or_else (At n) d = n
-or_else Nothing d = d
-
 -- a table's place, its first child and one past its newest
 unfoldable pub fields_of : List ℕ → ℕ → ℕ → Fields
 fields_of room made place =
     record {
       place = place;
-      from = or_else (child room (newest room made place) place 0) (newest room made place);
+      from = unwrap_or (child room (newest room made place) place 0) (newest room made place);
       to = newest room made place;
     }
 
@@ -72,20 +66,20 @@ pub record Spread (room : List ℕ) (f : Fields) : Type 0 where
   pub low : f.to ≤ 65000
 
 -- the newest of k values from number from on that has the parent and the key
-abbrev pub look_in : List ℕ → List ℕ → ℕ → ℕ → ℕ → List ℕ → Found
-look_in room store from zero parent key = Nothing
-look_in room store from (suc k) parent key = pick (mine room store (from + k) parent key) (At (from + k)) (look_in room store from k parent key)
+abbrev pub look_in : List ℕ → List ℕ → ℕ → ℕ → ℕ → List ℕ → Option ℕ
+look_in room store from zero parent key = None
+look_in room store from (suc k) parent key = pick (mine room store (from + k) parent key) (Some (from + k)) (look_in room store from k parent key)
 
 -- the newest from one number to before another
-abbrev pub sought : List ℕ → List ℕ → ℕ → ℕ → ℕ → List ℕ → Found
+abbrev pub sought : List ℕ → List ℕ → ℕ → ℕ → ℕ → List ℕ → Option ℕ
 sought room store from to parent key = look_in room store from (to - from) parent key
 
-unfoldable pub among : List ℕ → List ℕ → Fields → List ℕ → Found
+unfoldable pub among : List ℕ → List ℕ → Fields → List ℕ → Option ℕ
 among room store f key = look_in room store f.from (f.to - f.from) f.place key
 
-abbrev pub value_found : List ℕ → List ℕ → Found → Value
-value_found room store (At n) = value_at room store n
-value_found room store Nothing = Absent
+abbrev pub value_found : List ℕ → List ℕ → Option ℕ → Value
+value_found room store (Some n) = value_at room store n
+value_found room store None = Absent
 
 -- a table's field
 unfoldable pub field : List ℕ → List ℕ → Fields → List ℕ → Value
@@ -103,11 +97,11 @@ unfoldable pub items : List ℕ → ℕ → ℕ → ℕ → List ℕ
 items room made parent from = items_in room parent (made - from) from
 
 -- the first of some numbers, and number i of them
-abbrev pub first_of : List ℕ → Found
-first_of [] = Nothing
-first_of (n ∷ ns) = At n
+abbrev pub first_of : List ℕ → Option ℕ
+first_of [] = None
+first_of (n ∷ ns) = Some n
 
-abbrev pub nth_of : List ℕ → ℕ → Found
-nth_of [] i = Nothing
-nth_of (n ∷ ns) zero = At n
+abbrev pub nth_of : List ℕ → ℕ → Option ℕ
+nth_of [] i = None
+nth_of (n ∷ ns) zero = Some n
 nth_of (n ∷ ns) (suc i) = nth_of ns i

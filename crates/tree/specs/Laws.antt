@@ -1,5 +1,5 @@
 -- A value once made is read back as made, and making or hanging up another leaves it alone.
-use Rattle.std.specs.Prelude.{ℕ, zero, suc, ◌+◌, ◌*◌, ◌-◌, ◌≤◌, ◌<◌, List, ◌≡◌, refl, ltb, length}
+use Rattle.std.specs.Prelude.{ℕ, zero, suc, ◌+◌, ◌*◌, ◌-◌, ◌≤◌, ◌<◌, List, ◌≡◌, refl, ltb, length, Option, Some}
 use Rattle.std.proofs.Common.{sym, ◌∙◌, arith, add-zero}
 use Rattle.std.proofs.Math.Path.{ap}
 use Rattle.std.proofs.Math.Dec.{eqb}
@@ -10,8 +10,6 @@ use Rattle.laws.specs.Cases.{on}
 use Rattle.laws.specs.Stored.{stored, length_stored, stored_in, stored_again}
 use Rattle.slices.specs.Numbers.{number, number_little, number_in, number_before, number_after}
 use Rattle.tree.specs.declared.Slot.{Slot}
-use Rattle.tree.specs.declared.Found.{Found}
-use Rattle.tree.specs.declared.Found.TheVariants.{At}
 use Rattle.tree.specs.Room.{Holds, Sized, From, Below, place, body, cell, slot_at, hung, under, mine, look, first, child, count}
 
 pub length_cell : (v : Slot) → length (cell v) ≡ 32
@@ -124,10 +122,10 @@ slot_zeros k n =
     )
 
 -- ---- the bounds of a number that was found
-pub found_below : (r : Found) (high n : ℕ) → Below high r → r ≡ At n → n < high
+pub found_below : (r : Option ℕ) (high n : ℕ) → Below high r → r ≡ Some n → n < high
 found_below r high n b e = rw e at b
 
-pub found_from : (r : Found) (low n : ℕ) → From low r → r ≡ At n → low ≤ n
+pub found_from : (r : Option ℕ) (low n : ℕ) → From low r → r ≡ Some n → low ≤ n
 found_from r low n b e = rw e at b
 
 -- what was put is got

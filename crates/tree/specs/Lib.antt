@@ -1,5 +1,6 @@
 pub mod Room
 pub mod Doors
+pub mod Both
 pub mod Spans
 pub mod Short
 pub mod Laws

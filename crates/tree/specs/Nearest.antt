@@ -1,13 +1,11 @@
 -- What the walk in byte order finds: of the keys above, the least, and of its values the newest. On any values and any store.
-use Rattle.std.specs.Prelude.{ℕ, zero, suc, ◌≤◌, ◌<◌, Bool, true, false, List, ◌≡◌, refl, eqb, ltb}
+use Rattle.std.specs.Prelude.{ℕ, zero, suc, ◌≤◌, ◌<◌, Bool, true, false, List, ◌≡◌, refl, eqb, ltb, Option, Some, None}
 use Rattle.std.proofs.Common.{sym, ap, ◌∙◌, arith}
 use borrow.Author.Tests.{eqb-true, eqb-false, eq-eqb, ltb-true, ltb-false}
 use Rattle.meaning.specs.Base.{pick, less}
 use Rattle.laws.specs.Cases.{on, never}
 use Rattle.laws.specs.Order.{less_self, less_on, less_most}
 use Rattle.tree.specs.declared.Slot.{Slot}
-use Rattle.tree.specs.declared.Found.{Found}
-use Rattle.tree.specs.declared.Found.TheVariants.{At, Nothing}
 use Rattle.tree.specs.Room.{Below}
 use Rattle.tree.specs.Order.{key_of, has_key, before, above, nearer, follows, better, nearest, is_made, next, ahead}
 
@@ -51,34 +49,34 @@ module _ (store : List ℕ) where
       ∙ less_most (key_of store u) (key_of store v) (key_of store w) a.is (sym (before_less w v h a.right) ∙ f)
 
 module _ (at : ℕ → Slot) (store : List ℕ) where
-  above_key : (f : Found) (v : Slot) → above at store f v ≡ true → has_key store v ≡ true
-  above_key (At m) v e = (before_says store (at m) v e).right
-  above_key Nothing v e = e
+  above_key : (f : Option ℕ) (v : Slot) → above at store f v ≡ true → has_key store v ≡ true
+  above_key (Some m) v e = (before_says store (at m) v e).right
+  above_key None v e = e
 
   -- what is above what is above is above
-  above_on : (f : Found) (v w : Slot) → above at store f v ≡ true → before store v w ≡ true → above at store f w ≡ true
-  above_on (At m) v w e h = before_on store (at m) v w e h
-  above_on Nothing v w e h = (before_says store v w h).right
+  above_on : (f : Option ℕ) (v w : Slot) → above at store f v ≡ true → before store v w ≡ true → above at store f w ≡ true
+  above_on (Some m) v w e h = before_on store (at m) v w e h
+  above_on None v w e h = (before_says store v w h).right
 
   module _ (parent : ℕ) where
-    pub record Follows (after : Found) (n : ℕ) : Type 0 where
+    pub record Follows (after : Option ℕ) (n : ℕ) : Type 0 where
       pub under : (at n).parent ≡ parent
       pub has : has_key store (at n) ≡ true
       pub over : above at store after (at n) ≡ true
 
-    pub follows_says : (after : Found) (n : ℕ) → follows at store parent after n ≡ true → Follows after n
+    pub follows_says : (after : Option ℕ) (n : ℕ) → follows at store parent after n ≡ true → Follows after n
     unfolding follows
     follows_says after n e =
         let a = both (eqb (at n).parent parent) (above at store after (at n)) e in
         record { under = eqb-true (at n).parent parent a.0; has = above_key after (at n) a.1; over = a.1 }
 
-    pub follows_where : (after : Found) (n : ℕ) → eqb (at n).parent parent ≡ true → above at store after (at n) ≡ true → follows at store parent after n ≡ true
+    pub follows_where : (after : Option ℕ) (n : ℕ) → eqb (at n).parent parent ≡ true → above at store after (at n) ≡ true → follows at store parent after n ≡ true
     unfolding follows
     follows_where after n e f = rw (e, f)
 
     -- ---- the nearest
 
-    module _ (after : Found) where
+    module _ (after : Option ℕ) where
       -- value number n is the next among those from low to before high
       pub record Next (low high n : ℕ) : Type 0 where
         pub from : low ≤ n
@@ -87,9 +85,9 @@ module _ (at : ℕ → Slot) (store : List ℕ) where
         pub least : (m : ℕ) → low ≤ m → m < high → follows at store parent after m ≡ true → before store (at m) (at n) ≡ false
         pub newest : (m : ℕ) → n < m → m < high → follows at store parent after m ≡ true → before store (at n) (at m) ≡ true
 
-      abbrev pub Best : ℕ → ℕ → Found → Type 0
-      Best low high (At n) = Next low high n
-      Best low high Nothing = (m : ℕ) → low ≤ m → m < high → follows at store parent after m ≡ false
+      abbrev pub Best : ℕ → ℕ → Option ℕ → Type 0
+      Best low high (Some n) = Next low high n
+      Best low high None = (m : ℕ) → low ≤ m → m < high → follows at store parent after m ≡ false
 
       -- there is one next value
       pub next_one : (low high m n : ℕ) → Next low high m → Next low high n → m ≡ n
@@ -100,8 +98,8 @@ module _ (at : ℕ → Slot) (store : List ℕ) where
           (λ l. never (b.newest m (omega (arith, ltb-false m n l, eqb-false m n e)) a.below a.here) (a.least n b.from b.below b.here)))
 
       module _ (i high : ℕ) (l : i < high) where
-        same_best : (best : Found) → Best (suc i) high best → (follows at store parent after i ≡ true → nearer at store best (at i) ≡ false) → Best i high best
-        same_best (At n) h c =
+        same_best : (best : Option ℕ) → Best (suc i) high best → (follows at store parent after i ≡ true → nearer at store best (at i) ≡ false) → Best i high best
+        same_best (Some n) h c =
             record {
               from = omega (arith, h.from);
               below = h.below;
@@ -111,13 +109,13 @@ module _ (at : ℕ → Slot) (store : List ℕ) where
                   (λ t. h.least m (omega (arith, eqb-false m i t)) b e);
               newest = h.newest;
             }
-        same_best Nothing h c =
+        same_best None h c =
             λ m a b. on (eqb m i)
             (λ t. let d : m ≡ i = eqb-true m i t in rw d (on (follows at store parent after i) (λ e. never {b = true} refl (c e)) (λ e. e)))
             (λ t. h m (omega (arith, eqb-false m i t)) b)
 
-        new_best : (best : Found) → Best (suc i) high best → follows at store parent after i ≡ true → nearer at store best (at i) ≡ true → Next i high i
-        new_best (At n) h e c =
+        new_best : (best : Option ℕ) → Best (suc i) high best → follows at store parent after i ≡ true → nearer at store best (at i) ≡ true → Next i high i
+        new_best (Some n) h e c =
             record {
               from = omega arith;
               below = l;
@@ -128,7 +126,7 @@ module _ (at : ℕ → Slot) (store : List ℕ) where
                   (λ g. never (before_on store (at m) (at i) (at n) g c) (h.least m (omega (arith, eqb-false m i t)) b f)) (λ g. g));
               newest = λ m a b f. before_most store (at i) (at n) (at m) c (follows_says after m f).has (h.least m (omega arith) b f);
             }
-        new_best Nothing h e c =
+        new_best None h e c =
             record {
               from = omega arith;
               below = l;
@@ -139,14 +137,14 @@ module _ (at : ℕ → Slot) (store : List ℕ) where
               newest = λ m a b f. never f (h m (omega arith) b);
             }
 
-        better_best : (best : Found) → Best (suc i) high best → Best i high (better at store parent after best i)
+        better_best : (best : Option ℕ) → Best (suc i) high best → Best i high (better at store parent after best i)
         unfolding better
         better_best best h =
             on (follows at store parent after i)
             (λ e. on (nearer at store best (at i)) (λ c. rw (e, c) (new_best best h e c)) (λ c. rw (e, c) (same_best best h (λ _. c))))
             (λ e. rw e (same_best best h (λ f. never f e)))
 
-      nearest_best : (i high : ℕ) (best : Found) → i ≤ high → Best i high best → Best 0 high (nearest at store parent after i best)
+      nearest_best : (i high : ℕ) (best : Option ℕ) → i ≤ high → Best i high best → Best 0 high (nearest at store parent after i best)
       nearest_best zero high best l h = h
       nearest_best (suc i) high best l h =
           nearest_best i high (better at store parent after best i) (omega arith) (better_best i high (omega arith) best h)
@@ -154,69 +152,69 @@ module _ (at : ℕ → Slot) (store : List ℕ) where
       -- what is found is the next value, and there is none where nothing is found
       pub next_best : (made : ℕ) → is_made made after ≡ true → Best 0 made (next at store made parent after)
       unfolding next
-      next_best made e = rw e (nearest_best made made Nothing (omega arith) (λ m a b. absurd (omega arith)))
+      next_best made e = rw e (nearest_best made made None (omega arith) (λ m a b. absurd (omega arith)))
 
       -- the next value is found
-      pub next_found : (made n : ℕ) → is_made made after ≡ true → Next 0 made n → next at store made parent after ≡ At n
+      pub next_found : (made n : ℕ) → is_made made after ≡ true → Next 0 made n → next at store made parent after ≡ Some n
       next_found made n e h = go (next at store made parent after) (next_best made e)
         where
-          go : (r : Found) → Best 0 made r → r ≡ At n
-          go (At m) b = ap At (next_one 0 made m n b h)
-          go Nothing b = never h.here (b n h.from h.below)
+          go : (r : Option ℕ) → Best 0 made r → r ≡ Some n
+          go (Some m) b = ap Some (next_one 0 made m n b h)
+          go None b = never h.here (b n h.from h.below)
 
       -- after what is not made comes nothing
-      pub next_unmade : (made : ℕ) → is_made made after ≡ false → next at store made parent after ≡ Nothing
+      pub next_unmade : (made : ℕ) → is_made made after ≡ false → next at store made parent after ≡ None
       unfolding next
       next_unmade made e = rw e
 
       -- nothing is found where no value follows
-      pub next_nothing : (made : ℕ) → ((m : ℕ) → m < made → follows at store parent after m ≡ false) → next at store made parent after ≡ Nothing
+      pub next_nothing : (made : ℕ) → ((m : ℕ) → m < made → follows at store parent after m ≡ false) → next at store made parent after ≡ None
       next_nothing made h = on (is_made made after) (λ e. go (next at store made parent after) (next_best made e)) (λ e. next_unmade made e)
         where
-          go : (r : Found) → Best 0 made r → r ≡ Nothing
-          go (At m) b = never b.here (h m b.below)
-          go Nothing b = refl
+          go : (r : Option ℕ) → Best 0 made r → r ≡ None
+          go (Some m) b = never b.here (h m b.below)
+          go None b = refl
 
     -- ---- the walk ends
 
     -- what follows the next value follows
-    follows_on : (after : Found) (n m : ℕ) → follows at store parent after n ≡ true → follows at store parent (At n) m ≡ true → follows at store parent after m ≡ true
+    follows_on : (after : Option ℕ) (n m : ℕ) → follows at store parent after n ≡ true → follows at store parent (Some n) m ≡ true → follows at store parent after m ≡ true
     follows_on after n m e f =
         let a : Follows after n = follows_says after n e in
-        let b : Follows (At n) m = follows_says (At n) m f in
+        let b : Follows (Some n) m = follows_says (Some n) m f in
         follows_where after m (eq-eqb (at m).parent parent b.under) (above_on after (at n) (at m) a.over b.over)
 
-    not_itself : (n : ℕ) → follows at store parent (At n) n ≡ false
+    not_itself : (n : ℕ) → follows at store parent (Some n) n ≡ false
     not_itself n =
-        on (follows at store parent (At n) n)
-        (λ e. never (follows_says (At n) n e).over (before_self store (at n))) (λ e. e)
+        on (follows at store parent (Some n) n)
+        (λ e. never (follows_says (Some n) n e).over (before_self store (at n))) (λ e. e)
 
-    pub ahead_most : (after : Found) (k : ℕ) → ahead at store parent after k ≤ k
+    pub ahead_most : (after : Option ℕ) (k : ℕ) → ahead at store parent after k ≤ k
     ahead_most after zero = omega arith
     ahead_most after (suc k) = on (follows at store parent after k) (λ e. rw e (omega (arith, ahead_most after k))) (λ e. rw e (omega (arith, ahead_most after k)))
 
-    ahead_on : (after : Found) (n k : ℕ) → follows at store parent after n ≡ true → ahead at store parent (At n) k ≤ ahead at store parent after k
+    ahead_on : (after : Option ℕ) (n k : ℕ) → follows at store parent after n ≡ true → ahead at store parent (Some n) k ≤ ahead at store parent after k
     ahead_on after n zero e = omega arith
     ahead_on after n (suc k) e =
-        on (follows at store parent (At n) k)
+        on (follows at store parent (Some n) k)
         (λ f. rw (f, follows_on after n k e f) (omega (arith, ahead_on after n k e)))
         (λ f. on (follows at store parent after k) (λ g. rw (f, g) (omega (arith, ahead_on after n k e))) (λ g. rw (f, g) (ahead_on after n k e)))
 
-    pub ahead_less : (after : Found) (n k : ℕ) → n < k → follows at store parent after n ≡ true → ahead at store parent (At n) k < ahead at store parent after k
+    pub ahead_less : (after : Option ℕ) (n k : ℕ) → n < k → follows at store parent after n ≡ true → ahead at store parent (Some n) k < ahead at store parent after k
     ahead_less after n zero l e = absurd (omega arith)
     ahead_less after n (suc k) l e =
         on (eqb n k)
         (λ t. let d : n ≡ k = eqb-true n k t in
-        let a : follows at store parent (At n) k ≡ false = rw (← d) (not_itself n) in
+        let a : follows at store parent (Some n) k ≡ false = rw (← d) (not_itself n) in
         let b : follows at store parent after k ≡ true = rw (← d) e in
         rw (a, b) (omega (arith, ahead_on after n k e)))
-        (λ t. let i : ahead at store parent (At n) k < ahead at store parent after k = ahead_less after n k (omega (arith, eqb-false n k t)) e in
-        on (follows at store parent (At n) k)
+        (λ t. let i : ahead at store parent (Some n) k < ahead at store parent after k = ahead_less after n k (omega (arith, eqb-false n k t)) e in
+        on (follows at store parent (Some n) k)
         (λ f. rw (f, follows_on after n k e f) (omega arith))
         (λ f. on (follows at store parent after k) (λ g. rw (f, g) (omega arith)) (λ g. rw (f, g) i)))
 
     -- fewer values follow what is found
-    pub next_less : (made n : ℕ) (after : Found) → next at store made parent after ≡ At n → ahead at store parent (At n) made < ahead at store parent after made
+    pub next_less : (made n : ℕ) (after : Option ℕ) → next at store made parent after ≡ Some n → ahead at store parent (Some n) made < ahead at store parent after made
     next_less made n after e =
         on (is_made made after)
         (λ t. let h : Next after 0 made n = rw e at (next_best after made t) in ahead_less after n made h.below h.here)
@@ -224,16 +222,16 @@ module _ (at : ℕ → Slot) (store : List ℕ) where
 
 -- ---- values read in two ways
 
-pub better_below : (at : ℕ → Slot) (store : List ℕ) (made parent n : ℕ) (after best : Found) → n < made → Below made best → Below made (better at store parent after best n)
+pub better_below : (at : ℕ → Slot) (store : List ℕ) (made parent n : ℕ) (after best : Option ℕ) → n < made → Below made best → Below made (better at store parent after best n)
 unfolding better
 better_below at store made parent n after best l h =
     on (follows at store parent after n)
     (λ t. rw t (on (nearer at store best (at n)) (λ u. rw u l) (λ u. rw u h)))
     (λ t. rw t h)
 
-pub made_below : (made : ℕ) (f : Found) → is_made made f ≡ true → Below made f
-made_below made (At n) e = ltb-true n made e
-made_below made Nothing e = tt
+pub made_below : (made : ℕ) (f : Option ℕ) → is_made made f ≡ true → Below made f
+made_below made (Some n) e = ltb-true n made e
+made_below made None e = tt
 
 -- the values made are the same, and so are their keys
 pub record Alike (made : ℕ) (at bt : ℕ → Slot) (store bytes : List ℕ) : Type 0 where
@@ -246,32 +244,32 @@ module _ (made : ℕ) (at bt : ℕ → Slot) (store bytes : List ℕ) (h : Alike
   unfolding before
   before_same m n l k = rw (h.each m l, h.each n k, h.has m l, h.has n k, h.key m l, h.key n k)
 
-  above_same : (f : Found) (n : ℕ) → Below made f → n < made → above at store f (at n) ≡ above bt bytes f (bt n)
-  above_same (At m) n l k = before_same m n l k
-  above_same Nothing n l k = rw (h.each n k) (h.has n k)
+  above_same : (f : Option ℕ) (n : ℕ) → Below made f → n < made → above at store f (at n) ≡ above bt bytes f (bt n)
+  above_same (Some m) n l k = before_same m n l k
+  above_same None n l k = rw (h.each n k) (h.has n k)
 
-  nearer_same : (f : Found) (n : ℕ) → Below made f → n < made → nearer at store f (at n) ≡ nearer bt bytes f (bt n)
-  nearer_same (At m) n l k = before_same n m k l
-  nearer_same Nothing n l k = refl
+  nearer_same : (f : Option ℕ) (n : ℕ) → Below made f → n < made → nearer at store f (at n) ≡ nearer bt bytes f (bt n)
+  nearer_same (Some m) n l k = before_same n m k l
+  nearer_same None n l k = refl
 
-  module _ (parent : ℕ) (after : Found) (low : Below made after) where
+  module _ (parent : ℕ) (after : Option ℕ) (low : Below made after) where
     follows_same : (n : ℕ) → n < made → follows at store parent after n ≡ follows bt bytes parent after n
     unfolding follows
     follows_same n l = rw (above_same after n low l, h.each n l)
 
-    better_same : (best : Found) (n : ℕ) → Below made best → n < made → better at store parent after best n ≡ better bt bytes parent after best n
+    better_same : (best : Option ℕ) (n : ℕ) → Below made best → n < made → better at store parent after best n ≡ better bt bytes parent after best n
     unfolding better
     better_same best n b l = rw (follows_same n l, nearer_same best n b l)
 
-    nearest_same : (i : ℕ) (best : Found) → i ≤ made → Below made best → nearest at store parent after i best ≡ nearest bt bytes parent after i best
+    nearest_same : (i : ℕ) (best : Option ℕ) → i ≤ made → Below made best → nearest at store parent after i best ≡ nearest bt bytes parent after i best
     nearest_same zero best l b = refl
     nearest_same (suc i) best l b =
         nearest_same i (better at store parent after best i) (omega arith) (better_below at store made parent i after best (omega arith) b)
         ∙ ap (nearest bt bytes parent after i) (better_same best i b (omega arith))
 
   -- the same is found
-  pub next_same : (parent : ℕ) (after : Found) → next at store made parent after ≡ next bt bytes made parent after
+  pub next_same : (parent : ℕ) (after : Option ℕ) → next at store made parent after ≡ next bt bytes made parent after
   unfolding next
   next_same parent after =
       on (is_made made after)
-      (λ e. rw e (nearest_same parent after (made_below made after e) made Nothing (omega arith) tt)) (λ e. rw e)
+      (λ e. rw e (nearest_same parent after (made_below made after e) made None (omega arith) tt)) (λ e. rw e)

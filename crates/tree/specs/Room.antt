@@ -1,11 +1,9 @@
 -- The tree room: value number n is the 32 bytes from 32 * n on, and hangs under a parent: 0 none yet, 1 the root, n + 2 value number n.
-use Rattle.std.specs.Prelude.{ℕ, zero, suc, ◌+◌, ◌*◌, ◌-◌, ◌^◌, ◌≤◌, ◌<◌, Bool, true, false, List, ◌∷◌, ◌++◌, ◌≡◌, eqb, leb, length, get_or}
+use Rattle.std.specs.Prelude.{ℕ, zero, suc, ◌+◌, ◌*◌, ◌-◌, ◌^◌, ◌≤◌, ◌<◌, Bool, true, false, List, ◌∷◌, ◌++◌, ◌≡◌, eqb, leb, length, get_or, Option, Some, None}
 use Rattle.meaning.specs.Base.{pick, zeros, same, part}
 use Rattle.laws.specs.Stored.{stored}
 use Rattle.slices.specs.Numbers.{little, number}
 use Rattle.tree.specs.declared.Slot.{Slot}
-use Rattle.tree.specs.declared.Found.{Found}
-use Rattle.tree.specs.declared.Found.TheVariants.{At, Nothing}
 
 -- there is room for n values
 pub record Holds (room : List ℕ) (n : ℕ) : Type 0 where
@@ -61,17 +59,17 @@ unfoldable pub mine : List ℕ → List ℕ → ℕ → ℕ → List ℕ → Boo
 mine room store n parent key = pick (under room n parent) (keyed store (slot_at room n) key) false
 
 -- the newest of the values made that has the parent and the key: a key's value is what was hung up last
-abbrev pub look : List ℕ → List ℕ → ℕ → ℕ → List ℕ → Found
-look room store zero parent key = Nothing
-look room store (suc n) parent key = pick (mine room store n parent key) (At n) (look room store n parent key)
+abbrev pub look : List ℕ → List ℕ → ℕ → ℕ → List ℕ → Option ℕ
+look room store zero parent key = None
+look room store (suc n) parent key = pick (mine room store n parent key) (Some n) (look room store n parent key)
 
 -- the first of k values from number i on that has the parent
-abbrev pub first : List ℕ → ℕ → ℕ → ℕ → Found
-first room parent zero i = Nothing
-first room parent (suc k) i = pick (under room i parent) (At i) (first room parent k (i + 1))
+abbrev pub first : List ℕ → ℕ → ℕ → ℕ → Option ℕ
+first room parent zero i = None
+first room parent (suc k) i = pick (under room i parent) (Some i) (first room parent k (i + 1))
 
 -- the first child from a number on: the items of an array stand in the order of their numbers
-unfoldable pub child : List ℕ → ℕ → ℕ → ℕ → Found
+unfoldable pub child : List ℕ → ℕ → ℕ → ℕ → Option ℕ
 child room made parent from = first room parent (made - from) from
 
 -- none of k values from number i on has the parent
@@ -90,16 +88,16 @@ count room zero parent = 0
 count room (suc n) parent = pick (under room n parent) (count room n parent + 1) (count room n parent)
 
 -- the number found is at least low, and below high
-abbrev pub From : ℕ → Found → Type 0
-From low (At n) = low ≤ n
-From low Nothing = Unit
+abbrev pub From : ℕ → Option ℕ → Type 0
+From low (Some n) = low ≤ n
+From low None = Unit
 
-abbrev pub Below : ℕ → Found → Type 0
-Below high (At n) = n < high
-Below high Nothing = Unit
+abbrev pub Below : ℕ → Option ℕ → Type 0
+Below high (Some n) = n < high
+Below high None = Unit
 
 -- what a search among values from low to before high says
-pub record Finds (low high : ℕ) (meant r : Found) : Type 0 where
+pub record Finds (low high : ℕ) (meant r : Option ℕ) : Type 0 where
   pub is : r ≡ meant
   pub from : From low r
   pub below : Below high r

@@ -1,10 +1,8 @@
 -- A text that is read is short: it begins below 65,536 and has fewer than 65,536 bytes, whatever stands in the room.
-use Rattle.std.specs.Prelude.{ℕ, ◌+◌, ◌/◌, ◌%◌, ◌<◌, List, ◌≡◌, eqb, leb, length}
+use Rattle.std.specs.Prelude.{ℕ, ◌+◌, ◌/◌, ◌%◌, ◌<◌, List, ◌≡◌, eqb, leb, length, Option, Some, None}
 use Rattle.std.proofs.Common.{arith, leb-true}
 use Rattle.laws.specs.Cases.{on}
 use Rattle.tree.specs.declared.Slot.{Slot}
-use Rattle.tree.specs.declared.Found.{Found}
-use Rattle.tree.specs.declared.Found.TheVariants.{At, Nothing}
 use Rattle.tree.specs.declared.Value.{Value}
 use Rattle.tree.specs.declared.Value.TheVariants.{Absent, Text, Number, Flag, Array, Table}
 use Rattle.tree.specs.declared.Fields.{Fields}
@@ -52,9 +50,9 @@ short_value v size place =
     (λ e. rw (a, b, c, d, f, e) tt)
     (λ e. rw (a, b, c, d, f, e) tt))))))
 
-short_found : (room store : List ℕ) (r : Found) → Short (value_found room store r)
-short_found room store (At n) = short_value (slot_at room n) (length store) (n + 2)
-short_found room store Nothing = tt
+short_found : (room store : List ℕ) (r : Option ℕ) → Short (value_found room store r)
+short_found room store (Some n) = short_value (slot_at room n) (length store) (n + 2)
+short_found room store None = tt
 
 -- what a value is
 pub text_short : (room store : List ℕ) (n from len : ℕ) → value_at room store n ≡ Text from len → (from < 65536) × (len < 65536)

@@ -1,16 +1,14 @@
 -- What a table's fields and an array's items are: the children all stand between from and to, and the items go from child to child.
 use Prim.Native.Nat.{ℕ, zero, suc, ◌+◌, ◌-◌, ◌≤◌, ◌<◌}
-use Rattle.std.specs.Prelude.{false, List, [], ◌∷◌, ◌≡◌, refl, leb, ltb, length}
+use Rattle.std.specs.Prelude.{false, List, [], ◌∷◌, ◌≡◌, refl, leb, ltb, length, unwrap_or, Option, Some, None}
 use Rattle.std.proofs.Math.Path.{sym}
 use Rattle.std.proofs.Common.{ap, ◌∙◌, add-one, add-zero}
 use native.Mathlib.Omega.{arith}
 use borrow.Author.Tests.{leb-true, leb-false, ltb-true, ltb-false}
 use Rattle.meaning.specs.Base.{pick}
 use Rattle.laws.specs.Cases.{on}
-use Rattle.tree.specs.declared.Found.{Found}
-use Rattle.tree.specs.declared.Found.TheVariants.{At, Nothing}
 use Rattle.tree.specs.Room.{Holds, Finds, under, mine, look, first, child, count}
-use Rattle.tree.specs.Doors.{Spread, newest, or_else, fields_of, look_in, among, items_in, items, first_of, nth_of}
+use Rattle.tree.specs.Doors.{Spread, newest, fields_of, look_in, among, items_in, items, first_of, nth_of}
 
 module _ (room : List ℕ) (parent : ℕ) where
   -- ---- the newest child
@@ -20,14 +18,14 @@ module _ (room : List ℕ) (parent : ℕ) where
 
   -- ---- the first child
   -- among k values from number i on it stands below their end
-  first_high : (k i : ℕ) → or_else (first room parent k i) (i + k) ≤ i + k
+  first_high : (k i : ℕ) → unwrap_or (first room parent k i) (i + k) ≤ i + k
   first_high zero i = omega arith
   first_high (suc k) i =
       let e : i + suc k ≡ i + 1 + k = omega arith in
       on (under room i parent) (λ p. rw p (omega arith)) (λ p. rw (p, e) (first_high k (i + 1)))
 
   -- and below it no value hangs under the parent
-  first_clear : (k i j : ℕ) → i ≤ j → j < or_else (first room parent k i) (i + k) → under room j parent ≡ false
+  first_clear : (k i j : ℕ) → i ≤ j → j < unwrap_or (first room parent k i) (i + k) → under room j parent ≡ false
   first_clear zero i j h l = absurd (omega arith)
   first_clear (suc k) i j h l =
       let e : i + suc k ≡ i + 1 + k = omega arith in
@@ -68,12 +66,12 @@ module _ (room : List ℕ) (parent : ℕ) where
       rw (s, e, p) (first_items d k (i + 1) (λ j l m. h j (omega arith) (omega arith)))
 
   -- from a child on: the child, and the items after it
-  cons_items : (k i n : ℕ) → first room parent k i ≡ At n → items_in room parent k i ≡ n ∷ items_in room parent (i + k - (n + 1)) (n + 1)
+  cons_items : (k i n : ℕ) → first room parent k i ≡ Some n → items_in room parent k i ≡ n ∷ items_in room parent (i + k - (n + 1)) (n + 1)
   cons_items zero i n e = let z : ◌≡◌ {A = ℕ} 0 1 = cc in absurd (omega arith)
   cons_items (suc k) i n e =
       on (under room i parent)
       (λ p.
-      let f : At i ≡ At n = rw p at e in
+      let f : Some i ≡ Some n = rw p at e in
       let g : i ≡ n = cc in
       let d : n + suc k - (n + 1) ≡ k = omega arith in
       rw (p, g, d))
@@ -82,11 +80,11 @@ module _ (room : List ℕ) (parent : ℕ) where
       rw (p, d) (cons_items k (i + 1) n (rw p at e)))
 
   -- each stands among the k values
-  among_items : (k j i n : ℕ) → nth_of (items_in room parent k j) i ≡ At n → (j ≤ n) × (n < j + k)
+  among_items : (k j i n : ℕ) → nth_of (items_in room parent k j) i ≡ Some n → (j ≤ n) × (n < j + k)
   among_items zero j i n e = let z : ◌≡◌ {A = ℕ} 0 1 = cc in absurd (omega arith)
   among_items (suc k) j zero n e =
       on (under room j parent)
-      (λ p. let f : At j ≡ At n = rw p at e in let g : j ≡ n = cc in (omega arith, omega arith))
+      (λ p. let f : Some j ≡ Some n = rw p at e in let g : j ≡ n = cc in (omega arith, omega arith))
       (λ p. let b = among_items k (j + 1) zero n (rw p at e) in (omega (arith, b.0), omega (arith, b.1)))
   among_items (suc k) j (suc i) n e =
       on (under room j parent)
@@ -95,11 +93,11 @@ module _ (room : List ℕ) (parent : ℕ) where
 
 -- ---- a table's fields
 module _ (room : List ℕ) (to place : ℕ) where
-  from_high : or_else (child room to place 0) to ≤ to
+  from_high : unwrap_or (child room to place 0) to ≤ to
   unfolding child
   from_high = let d : to - 0 ≡ to = omega arith in let z : 0 + to ≡ to = omega arith in rw d (rw z at (first_high room place to 0))
 
-  from_clear : (j : ℕ) → j < or_else (child room to place 0) to → under room j place ≡ false
+  from_clear : (j : ℕ) → j < unwrap_or (child room to place 0) to → under room j place ≡ false
   unfolding child
   from_clear j l =
       let d : to - 0 ≡ to = omega arith in
@@ -126,7 +124,7 @@ module _ (room store : List ℕ) (place : ℕ) (key : List ℕ) where
   look_newest zero = refl
   look_newest (suc n) = on (under room n place) (λ p. rw p) (λ p. rw (p, mine_not n p) (look_newest n))
 
-  look_clear : (from : ℕ) → ((j : ℕ) → j < from → under room j place ≡ false) → look room store from place key ≡ Nothing
+  look_clear : (from : ℕ) → ((j : ℕ) → j < from → under room j place ≡ false) → look room store from place key ≡ None
   look_clear zero h = refl
   look_clear (suc n) h = rw (mine_not n (h n (omega arith))) (look_clear n (λ (j : ℕ). λ (l : j < n). h j (omega arith)))
 
@@ -139,7 +137,7 @@ pub among_look : (room store : List ℕ) (made place : ℕ) (key : List ℕ) →
 unfolding among fields_of
 among_look room store made place key =
     let to : ℕ = newest room made place in
-    let from : ℕ = or_else (child room to place 0) to in
+    let from : ℕ = unwrap_or (child room to place 0) to in
     let e : from + (to - from) ≡ to = omega (arith, from_high room to place) in
     let f : look_in room store from (to - from) place key ≡ look room store (from + (to - from)) place key
     = look_from room store place key from (to - from) (from_clear room to place) in
@@ -150,7 +148,7 @@ nth_first : (ns : List ℕ) → nth_of ns 0 ≡ first_of ns
 nth_first [] = refl
 nth_first (n ∷ ns) = refl
 
-first_none : (ns : List ℕ) → first_of ns ≡ Nothing → ns ≡ []
+first_none : (ns : List ℕ) → first_of ns ≡ None → ns ≡ []
 first_none [] e = refl
 first_none (n ∷ ns) e = let z : ◌≡◌ {A = ℕ} 0 1 = cc in absurd (omega arith)
 
@@ -160,11 +158,11 @@ module _ (room : List ℕ) (made parent from : ℕ) where
   items_child = sym (first_of_items room parent (made - from) from)
 
   -- number i of the items stands among the values made, from the number on
-  pub items_from_lem : (i n : ℕ) → nth_of (items room made parent from) i ≡ At n → from ≤ n
+  pub items_from_lem : (i n : ℕ) → nth_of (items room made parent from) i ≡ Some n → from ≤ n
   unfolding items
   items_from_lem i n e = (among_items room parent (made - from) from i n e).0
 
-  pub items_below : (i n : ℕ) → nth_of (items room made parent from) i ≡ At n → n < made
+  pub items_below : (i n : ℕ) → nth_of (items room made parent from) i ≡ Some n → n < made
   unfolding items
   items_below i n e =
       on (leb from made)
@@ -174,28 +172,28 @@ module _ (room : List ℕ) (made parent from : ℕ) where
       absurd (omega (arith, among_items room parent 0 from i n (rw d at e))))
 
   -- a walk's step: the child and the items after it, or none
-  pub items_next : (n : ℕ) → child room made parent from ≡ At n → items room made parent from ≡ n ∷ items room made parent (n + 1)
+  pub items_next : (n : ℕ) → child room made parent from ≡ Some n → items room made parent from ≡ n ∷ items room made parent (n + 1)
   unfolding child items
   items_next n e =
-      let f : first_of (items room made parent from) ≡ At n = sym items_child ∙ e in
+      let f : first_of (items room made parent from) ≡ Some n = sym items_child ∙ e in
       let b : n < made = items_below 0 n (nth_first (items room made parent from) ∙ f) in
       let d : from + (made - from) - (n + 1) ≡ made - (n + 1) = omega (arith, items_from_lem 0 n (nth_first (items room made parent from) ∙ f)) in
       rw d at (cons_items room parent (made - from) from n e)
 
-  pub items_none : child room made parent from ≡ Nothing → items room made parent from ≡ []
+  pub items_none : child room made parent from ≡ None → items room made parent from ≡ []
   items_none e = first_none (items room made parent from) (sym items_child ∙ e)
 
   -- the same as the code learns of it
-  pub items_step : (n : ℕ) (r : Found) → Finds from made (child room made parent from) r → r ≡ At n
+  pub items_step : (n : ℕ) (r : Option ℕ) → Finds from made (child room made parent from) r → r ≡ Some n
       → items room made parent from ≡ n ∷ items room made parent (n + 1)
   items_step n r h e = items_next n (sym h.is ∙ e)
 
-  pub items_end : (r : Found) → Finds from made (child room made parent from) r → r ≡ Nothing → items room made parent from ≡ []
+  pub items_end : (r : Option ℕ) → Finds from made (child room made parent from) r → r ≡ None → items room made parent from ≡ []
   items_end r h e = items_none (sym h.is ∙ e)
 
   -- and as a walk over the list of items learns of it
   module _ (n : ℕ) (ns : List ℕ) (e : items room made parent from ≡ n ∷ ns) where
-    pub item_child : child room made parent from ≡ At n
+    pub item_child : child room made parent from ≡ Some n
     item_child = items_child ∙ ap first_of e
 
 -- its items are those from the first child to the newest, and nothing is lost
@@ -212,10 +210,10 @@ module _ (room : List ℕ) (place : ℕ) where
   items_newest zero = refl
   items_newest (suc n) = on (under room n place) (λ p. rw p) (λ p. rw p (items_newest n ∙ sym (fewer_items n p)))
 
-  items_first : (to : ℕ) → items room to place (or_else (child room to place 0) to) ≡ items room to place 0
+  items_first : (to : ℕ) → items room to place (unwrap_or (child room to place 0) to) ≡ items room to place 0
   unfolding items
   items_first to =
-      let from : ℕ = or_else (child room to place 0) to in
+      let from : ℕ = unwrap_or (child room to place 0) to in
       let d : to - 0 ≡ to - from + from = omega (arith, from_high room to place) in
       let z : 0 + from ≡ from = omega arith in
       sym (rw d (rw z at (first_items room place from (to - from) 0 (λ j l m. from_clear room to place j (rw z at m)))))

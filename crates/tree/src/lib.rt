@@ -3,7 +3,9 @@
 
 #![tactic(auto)]
 
-ghost use Rattle.std.specs.Prelude.{◌≡◌, [], ◌∷◌, ◌+◌, ◌*◌, ◌/◌, ◌-◌, ◌≤◌, length};
+mod rooms;
+
+ghost use Rattle.std.specs.Prelude.{◌≡◌, [], ◌∷◌, ◌+◌, ◌*◌, ◌/◌, ◌-◌, ◌≤◌, length, None};
 ghost use Rattle.meaning.specs.Limits.{value_bytes};
 ghost use Rattle.laws.specs.Stored.{stored};
 ghost use Rattle.tree.specs.Room as room;
@@ -14,6 +16,8 @@ ghost use Rattle.tree.specs.Order as order;
 ghost use Rattle.tree.specs.Order.{Stands};
 ghost use Rattle.tree.specs.Steps as steps;
 ghost use Rattle.tree.specs.Steps.{Gives, Ready, Begins, KeyGives};
+
+pub use rooms::Rooms;
 
 // How many values a search tests before it decides to go on.
 const BLOCK: usize = 8;
@@ -56,12 +60,6 @@ pub const VALUE_BYTES: usize = meaning::VALUE_BYTES;
 // The most that a string's data can be: both its start and its length below the unit.
 const STRING_MOST: u64 = 4294967295;
 
-#[derive(Clone, Copy)]
-pub enum Found {
-    At(usize),
-    Nothing,
-}
-
 // What a value is: a string's bytes in the text store, an integer, a boolean, or the place where an array's items or
 // a table's fields hang.
 #[derive(Clone, Copy)]
@@ -98,13 +96,6 @@ pub struct Items {
     pub end: usize,
 }
 
-// The next of them, and the walk over the rest.
-#[derive(Clone, Copy)]
-pub enum Item {
-    End,
-    At { value: usize, rest: Items },
-}
-
 // A walk over a table's keys in byte order, each key once. It goes on after a value; below a low number nothing
 // hangs under the place.
 #[derive(Clone, Copy)]
@@ -112,14 +103,14 @@ pub struct Keys {
     pub place: u16,
     pub low: usize,
     pub end: usize,
-    pub after: Found,
+    pub after: Option<usize>,
 }
 
-// The newest value of the next key, and the walk over the rest.
+// What a step of a walk gives: the next value, of a key its newest, and the walk over the rest.
 #[derive(Clone, Copy)]
-pub enum Key {
-    End,
-    At { value: usize, rest: Keys },
+pub struct Step<W> {
+    pub value: usize,
+    pub rest: W,
 }
 
 // Bytes per value.
@@ -325,7 +316,7 @@ fn is_named_child(tree: &[u8], store: &[u8], n: usize, parent: u16, key: &[u8]) 
 }
 
 // The newest of the values from one number to before another that hangs under the parent with the key.
-fn seek(tree: &[u8], store: &[u8], from: usize, to: usize, parent: u16, key: &[u8]) -> Found
+fn seek(tree: &[u8], store: &[u8], from: usize, to: usize, parent: u16, key: &[u8]) -> Option<usize>
     requires { (from ≤ to) × Holds tree.now to }
     ensures { Finds from to
         (doors.sought tree.now store.now from to parent key.now) result }
@@ -334,26 +325,26 @@ fn seek(tree: &[u8], store: &[u8], from: usize, to: usize, parent: u16, key: &[u
     while from < i {
         i -= 1;
         if is_named_child(tree, store, i, parent, key) {
-            return Found::At(i);
+            return Some(i);
         }
     }
-    Found::Nothing
+    None
 }
 
 // The same of a block: where none of its values hangs under the parent, no key is looked at.
-fn seek_block(tree: &[u8], store: &[u8], n: usize, parent: u16, key: &[u8]) -> Found
+fn seek_block(tree: &[u8], store: &[u8], n: usize, parent: u16, key: &[u8]) -> Option<usize>
     requires { Holds tree.now (n + 8) }
     ensures { Finds n (n + 8)
         (doors.look_in tree.now store.now n 8 parent key.now) result }
 {
     if none_under(tree, n, parent) {
-        return Found::Nothing;
+        return None;
     }
     seek(tree, store, n, n + BLOCK, parent, key)
 }
 
 // The newest of the values made that hangs under the parent with the key.
-pub fn find_child(tree: &[u8], store: &[u8], made: usize, parent: u16, key: &[u8]) -> Found
+pub fn find_child(tree: &[u8], store: &[u8], made: usize, parent: u16, key: &[u8]) -> Option<usize>
     requires { Holds tree.now made }
     ensures { Finds 0 made (room.look tree.now store.now made parent key.now) result }
 {
@@ -361,27 +352,26 @@ pub fn find_child(tree: &[u8], store: &[u8], made: usize, parent: u16, key: &[u8
     while BLOCK <= i {
         i -= BLOCK;
         let found = seek_block(tree, store, i, parent, key);
-        match found {
-            Found::At(n) => return Found::At(n),
-            Found::Nothing => {}
+        if found.is_some() {
+            return found;
         }
     }
     seek(tree, store, 0, i, parent, key)
 }
 
 // The first of the values made that hangs under the parent, from a number on.
-fn child(tree: &[u8], made: usize, parent: u16, from: usize) -> Found
+fn child(tree: &[u8], made: usize, parent: u16, from: usize) -> Option<usize>
     requires { Holds tree.now made }
     ensures { Finds from made (room.child tree.now made parent from) result }
 {
     let mut n = skip_up(tree, made, parent, from);
     while n < made {
         if hangs_under(tree, n, parent) {
-            return Found::At(n);
+            return Some(n);
         }
         n += 1;
     }
-    Found::Nothing
+    None
 }
 
 // The walk over all that hangs under a place, among so many values made.
@@ -403,18 +393,15 @@ pub fn items_from(place: u16, from: usize, end: usize) -> Items
 }
 
 // A step of the walk.
-pub fn next_item(tree: &[u8], w: Items) -> Item
+pub fn next_item(tree: &[u8], w: Items) -> Option<Step<Items>>
     requires { Holds tree.now w.end }
     ensures { Gives tree.now w result }
 {
-    let found = child(tree, w.end, w.place, w.at);
-    match found {
-        Found::At(n) => Item::At {
-            value: n,
-            rest: items_from(w.place, n + 1, w.end),
-        },
-        Found::Nothing => Item::End,
-    }
+    let value = child(tree, w.end, w.place, w.at)?;
+    Some(Step {
+        value,
+        rest: items_from(w.place, value + 1, w.end),
+    })
 }
 
 // How many of the values made hang under the parent.
@@ -462,35 +449,35 @@ fn before(store: &[u8], v: Slot, w: Slot) -> bool
 }
 
 // Whether v has a key above that of the value found before.
-fn key_is_above(tree: &[u8], store: &[u8], after: Found, v: Slot) -> bool
+fn key_is_above(tree: &[u8], store: &[u8], after: Option<usize>, v: Slot) -> bool
     requires { Stands tree.now after }
     ensures { result ≡ order.above (slot_at tree.now) store.now after v }
 {
     match after {
-        Found::At(n) => {
+        Some(n) => {
             let w = get(tree, n);
             before(store, w, v)
         }
-        Found::Nothing => has_key(store, v),
+        None => has_key(store, v),
     }
 }
 
 // Whether v has a key below that of the best so far.
-fn nearer(tree: &[u8], store: &[u8], best: Found, v: Slot) -> bool
+fn nearer(tree: &[u8], store: &[u8], best: Option<usize>, v: Slot) -> bool
     requires { Stands tree.now best }
     ensures { result ≡ order.nearer (slot_at tree.now) store.now best v }
 {
     match best {
-        Found::At(n) => {
+        Some(n) => {
             let w = get(tree, n);
             before(store, v, w)
         }
-        Found::Nothing => true,
+        None => true,
     }
 }
 
 // Whether value number n hangs under the parent with a key above.
-fn follows(tree: &[u8], store: &[u8], parent: u16, after: Found, n: usize) -> bool
+fn follows(tree: &[u8], store: &[u8], parent: u16, after: Option<usize>, n: usize) -> bool
     requires { Holds tree.now (n + 1) × Stands tree.now after }
     ensures { result ≡ order.follows (slot_at tree.now) store.now parent after n }
 {
@@ -502,14 +489,21 @@ fn follows(tree: &[u8], store: &[u8], parent: u16, after: Found, n: usize) -> bo
 }
 
 // The nearer of the best so far and value number m.
-fn better(tree: &[u8], store: &[u8], parent: u16, after: Found, best: Found, m: usize) -> Found
+fn better(
+    tree: &[u8],
+    store: &[u8],
+    parent: u16,
+    after: Option<usize>,
+    best: Option<usize>,
+    m: usize,
+) -> Option<usize>
     requires { Holds tree.now (m + 1) × Stands tree.now after × Stands tree.now best }
     ensures { result ≡ order.better (slot_at tree.now) store.now parent after best m }
 {
     if follows(tree, store, parent, after, m) {
         let v = get(tree, m);
         if nearer(tree, store, best, v) {
-            return Found::At(m);
+            return Some(m);
         }
         return best;
     }
@@ -517,12 +511,19 @@ fn better(tree: &[u8], store: &[u8], parent: u16, after: Found, best: Found, m: 
 }
 
 // One pass from the newest down: of values with one key the first met stays.
-fn nearest(tree: &[u8], store: &[u8], low: usize, made: usize, parent: u16, after: Found) -> Found
+fn nearest(
+    tree: &[u8],
+    store: &[u8],
+    low: usize,
+    made: usize,
+    parent: u16,
+    after: Option<usize>,
+) -> Option<usize>
     requires { Holds tree.now made × Clear tree.now parent 0 low × Stands tree.now after }
     ensures { Finds 0 made (order.nearest_of (slot_at tree.now) store.now parent after made)
         result }
 {
-    let mut best = Found::Nothing;
+    let mut best = None;
     let mut i = made;
     while low < i {
         i -= 1;
@@ -531,38 +532,45 @@ fn nearest(tree: &[u8], store: &[u8], low: usize, made: usize, parent: u16, afte
     best
 }
 
-fn is_made(made: usize, after: Found) -> bool
+fn is_made(made: usize, after: Option<usize>) -> bool
     ensures { result ≡ order.is_made made after }
 {
     match after {
-        Found::At(n) => n < made,
-        Found::Nothing => true,
+        Some(n) => n < made,
+        None => true,
     }
 }
 
 // The next key under the parent after that of the value found before, from nothing the first: of the keys above it
 // the least, and of
 // its values the newest. After a value that is not made, or whose key runs past the store, comes nothing.
-fn next(tree: &[u8], store: &[u8], low: usize, made: usize, parent: u16, after: Found) -> Found
+fn next(
+    tree: &[u8],
+    store: &[u8],
+    low: usize,
+    made: usize,
+    parent: u16,
+    after: Option<usize>,
+) -> Option<usize>
     requires { Holds tree.now made × Clear tree.now parent 0 low }
     ensures { Finds 0 made (order.next (slot_at tree.now) store.now made parent after) result }
 {
     if is_made(made, after) {
         return nearest(tree, store, low, made, parent, after);
     }
-    Found::Nothing
+    None
 }
 
 // The walk over all keys of a table, among so many values made.
 pub fn keys_of(tree: &[u8], place: u16, end: usize) -> Keys
     requires { Holds tree.now end }
-    ensures { Begins tree.now place end Found.Nothing result }
+    ensures { Begins tree.now place end None result }
 {
-    keys_after(tree, place, end, Found::Nothing)
+    keys_after(tree, place, end, None)
 }
 
 // The same after the key of a value. Where the table's values begin is looked up here, once for the whole walk.
-pub fn keys_after(tree: &[u8], place: u16, end: usize, after: Found) -> Keys
+pub fn keys_after(tree: &[u8], place: u16, end: usize, after: Option<usize>) -> Keys
     requires { Holds tree.now end }
     ensures { Begins tree.now place end after result }
 {
@@ -576,24 +584,18 @@ pub fn keys_after(tree: &[u8], place: u16, end: usize, after: Found) -> Keys
 }
 
 // A step of the walk.
-pub fn next_key(tree: &[u8], store: &[u8], w: Keys) -> Key
+pub fn next_key(tree: &[u8], store: &[u8], w: Keys) -> Option<Step<Keys>>
     requires { Ready tree.now w }
     ensures { KeyGives tree.now store.now w result }
 {
-    let after = w.after;
-    let found = next(tree, store, w.low, w.end, w.place, after);
-    match found {
-        Found::At(n) => Key::At {
-            value: n,
-            rest: Keys {
-                place: w.place,
-                low: w.low,
-                end: w.end,
-                after: Found::At(n),
-            },
+    let value = next(tree, store, w.low, w.end, w.place, w.after)?;
+    Some(Step {
+        value,
+        rest: Keys {
+            after: Some(value),
+            ..w
         },
-        Found::Nothing => Key::End,
-    }
+    })
 }
 
 // A string's bytes by its data, where they lie in a store of so many bytes. No text that is read is longer than
@@ -674,14 +676,10 @@ pub fn fields_at(tree: &[u8], made: usize, place: u16) -> Fields
     ensures { result ≡ doors.fields_of tree.now made place }
 {
     let to = newest(tree, made, place);
-    let first = child(tree, to, place, 0);
-    match first {
-        Found::At(n) => Fields { place, from: n, to },
-        Found::Nothing => Fields {
-            place,
-            from: to,
-            to,
-        },
+    Fields {
+        place,
+        from: child(tree, to, place, 0).unwrap_or(to),
+        to,
     }
 }
 
@@ -700,7 +698,7 @@ fn is_field(tree: &[u8], store: &[u8], n: usize, parent: u16, key: &[u8]) -> boo
 }
 
 // The newest of a table's fields with the key.
-fn newest_field(tree: &[u8], store: &[u8], f: Fields, key: &[u8]) -> Found
+fn newest_field(tree: &[u8], store: &[u8], f: Fields, key: &[u8]) -> Option<usize>
     requires { Spread tree.now f }
     ensures { Finds f.from f.to (doors.among tree.now store.now f key.now)
         result }
@@ -709,10 +707,10 @@ fn newest_field(tree: &[u8], store: &[u8], f: Fields, key: &[u8]) -> Found
     while f.from < i {
         i -= 1;
         if is_field(tree, store, i, f.place, key) {
-            return Found::At(i);
+            return Some(i);
         }
     }
-    Found::Nothing
+    None
 }
 
 // A table's field.
@@ -720,15 +718,14 @@ pub fn field(tree: &[u8], store: &[u8], f: Fields, key: &[u8]) -> Value
     requires { Spread tree.now f }
     ensures { result ≡ doors.field tree.now store.now f key.now }
 {
-    let found = newest_field(tree, store, f, key);
-    match found {
-        Found::At(n) => value_at(tree, store, n),
-        Found::Nothing => Value::Absent,
+    match newest_field(tree, store, f, key) {
+        Some(n) => value_at(tree, store, n),
+        None => Value::Absent,
     }
 }
 
 // Number i of the values made that hang under the parent, in the order of their numbers.
-pub fn nth_item(tree: &[u8], made: usize, parent: u16, i: usize) -> Found
+pub fn nth_item(tree: &[u8], made: usize, parent: u16, i: usize) -> Option<usize>
     requires { Holds tree.now made }
     ensures { Finds 0 made (doors.nth_of (doors.items tree.now made parent 0) i) result }
 {
@@ -737,7 +734,7 @@ pub fn nth_item(tree: &[u8], made: usize, parent: u16, i: usize) -> Found
     while from < made {
         if hangs_under(tree, from, parent) {
             if left == 0 {
-                return Found::At(from);
+                return Some(from);
             }
             left -= 1;
             from += 1;
@@ -745,5 +742,5 @@ pub fn nth_item(tree: &[u8], made: usize, parent: u16, i: usize) -> Found
             from += 1;
         }
     }
-    Found::Nothing
+    None
 }

@@ -1,70 +1,70 @@
 -- Entries in turn: one law for each way on and out.
 use Prim.Native.Nat.{ℕ, ◌+◌, ◌≤◌, ◌<◌}
-use mathlib.Core.Bool.{Bool, true, false}
-use mathlib.Core.List.{List, ◌∷◌}
-use mathlib.Core.Path.{◌≡◌, sym, ◌∙◌}
+use mathlib.Core.Bool.{Bool}
+use mathlib.Core.List.{List, [], ◌∷◌, map}
+use mathlib.Core.Path.{◌≡◌, refl, sym}
 use native.Mathlib.Omega.{arith}
 use native.Mathlib.Numerals.{add-one}
 use borrow.Author.Tests.{ne_eqb}
-use lib.Dec.{eqb}
-use lib.ListN.{length, get_or, take}
-use lib.Seq.{slice, slice-cons, slice_empty}
-use Rattle.meaning.specs.Base.{pick, same}
+use lib.ListN.{length, get_or, take, drop, drop_of_length-le}
+use lib.Seq.{drop-cons, take-suc}
+use Rattle.std.proofs.Common.{Result, Ok, Err}
+use Rattle.std.specs.List.{list_any}
+use Rattle.meaning.specs.declared.Refused.{Refused}
+use Rattle.meaning.specs.Base.{same}
+use Rattle.meaning.specs.Numbered.{number, told}
+use Rattle.meaning.specs.Verdict.{among, with_last, in_turn}
+use Rattle.laws.specs.Cases.{on}
 use Rattle.turns.specs.declared.Mark.{Mark}
-use Rattle.turns.specs.declared.Fault.{Fault}
-use Rattle.turns.specs.Marks.{entry_fault, first_fault, twin, judged, Marked}
-use Rattle.turns.specs.Turns.{twin_first}
+use Rattle.turns.specs.Marks.{named, same_name, entry_checked, fault_of, mark_rule, noted, judged}
+use Rattle.turns.specs.Refusals.{number_some, checked_told}
 
 -- two calls that read byte strings, and one that compares them
 pub same_of : (x y p q : List ℕ) (r : Bool) → r ≡ same x y → x ≡ p → y ≡ q → r ≡ same p q
 same_of x y p q r e f g = rw (← f, ← g) e
 
--- ---- an entry's number
-
-module _ (number : ℕ) (met : Bool) (m : Mark) where
-  pub fault_early : (m.early ≡ 0 → ⊥) → m.early ≡ entry_fault number met m
-  unfolding entry_fault
-  fault_early h = rw (ne_eqb m.early 0 h)
-
-  module _ (z : m.early ≡ 0) where
-    pub fault_late : met ≡ false → m.late ≡ entry_fault number met m
-    unfolding entry_fault
-    fault_late e = rw (z, e)
-
-    pub fault_unnumbered : met ≡ true → number ≡ 0 → m.late ≡ entry_fault number met m
-    unfolding entry_fault
-    fault_unnumbered e f = rw (z, e, f)
-
-    pub fault_met : met ≡ true → (number ≡ 0 → ⊥) → number ≡ entry_fault number met m
-    unfolding entry_fault
-    fault_met e f = rw (z, e, ne_eqb number 0 f)
-
 -- ---- entry after entry
 
--- the twin is known, and no entry before number i has a fault
-pub record Faulting (number : ℕ) (bytes : List ℕ) (t : ℕ) (xs : List Mark) (n i : ℕ) : Type 0 where
-  pub high : i ≤ n
-  pub long : n ≤ length xs
-  pub left : judged number bytes (take n xs) ≡ first_fault number t i (slice i n xs)
+any_among : (bytes : List ℕ) (m : Mark) (es : List Mark) → list_any (same_name bytes m) es ≡ among (named bytes m) (map (named bytes) es)
+any_among bytes m [] = refl
+any_among bytes m (e ∷ es) = on (same_name bytes m e) (λ h. rw h) (λ h. rw h (any_among bytes m es))
 
-module _ (number : ℕ) (bytes : List ℕ) (t : ℕ) (xs : List Mark) (n : ℕ) where
-  pub first_start : n ≤ length xs → Marked n number → t ≡ twin bytes (take n xs) → Faulting number bytes t xs n 0
-  first_start l h e = record { high = omega arith; long = l; left = rw e (sym (twin_first number bytes (take n xs) h.told)) }
+map_after : {X Y : Type 0} (f : X → Y) (xs : List X) (x : X) → map f (with_last xs x) ≡ with_last (map f xs) (f x)
+map_after f [] x = refl
+map_after f (y ∷ xs) x = rw (map_after f xs x)
 
-  module _ (i : ℕ) (k : Faulting number bytes t xs n i) where
-    pub first_end : n ≤ i → (r : Fault) → r ≡ record { number = 0; place = 0 } → r ≡ judged number bytes (take n xs)
-    first_end l r e =
-        let a : i ≡ n = omega (arith, k.high) in
-        e ∙ sym (rw (a, slice_empty n xs) at k.left)
+-- no entry before number i has a fault
+pub record Faulting (twice : Refused) (bytes : List ℕ) (xs : List Mark) (i : ℕ) : Type 0 where
+  pub high : i ≤ length xs
+  pub left : judged (number twice) bytes xs ≡ fault_of (in_turn (mark_rule (number twice) bytes) (noted bytes) 0 i (map (named bytes) (take i xs)) (drop i xs))
 
-    module _ (d : Mark) (l : i < n) (f : ℕ) (e : f ≡ entry_fault number (eqb i t) (get_or xs i d)) where
-      first_head : judged number bytes (take n xs) ≡ pick (eqb f 0) (first_fault number t (i + 1) (slice (i + 1) n xs)) (record { number = f; place = i })
-      first_head =
-          let a : slice i n xs ≡ get_or xs i d ∷ slice (i + 1) n xs = rw (add-one i) (slice-cons i n xs d l k.long) in
-          rw e (rw a at k.left)
+module _ (twice : Refused) (bytes : List ℕ) (xs : List Mark) where
+  pub first_start : Faulting twice bytes xs 0
+  unfolding judged
+  first_start = record { high = omega arith; left = refl }
 
-      pub first_on : f ≡ 0 → Faulting number bytes t xs n (i + 1)
-      first_on z = record { high = omega arith; long = k.long; left = rw z at first_head }
+  module _ (i : ℕ) (k : Faulting twice bytes xs i) where
+    pub first_end : length xs ≤ i → record { number = 0; place = 0 } ≡ judged (number twice) bytes xs
+    first_end l = sym (rw (drop_of_length-le xs l) at k.left)
 
-      pub first_here : (f ≡ 0 → ⊥) → record { number = f; place = i } ≡ judged number bytes (take n xs)
-      first_here z = sym (rw (ne_eqb f 0 z) at first_head)
+    module _ (d : Mark) (l : i < length xs) (twin : Bool) (t : twin ≡ list_any (same_name bytes (get_or xs i d)) (take i xs))
+        (r : Result (Unit {0}) Refused) (e : r ≡ entry_checked twice twin (get_or xs i d)) where
+      rule_is : mark_rule (number twice) bytes (map (named bytes) (take i xs)) (get_or xs i d) ≡ told r
+      rule_is = rw (← any_among bytes (get_or xs i d) (take i xs), ← t, e) (sym (checked_told twice twin (get_or xs i d)))
+
+      head : judged (number twice) bytes xs
+          ≡ fault_of (in_turn (mark_rule (number twice) bytes) (noted bytes) 0 i (map (named bytes) (take i xs)) (get_or xs i d ∷ drop (i + 1) xs))
+      head =
+          let a : drop i xs ≡ get_or xs i d ∷ drop (i + 1) xs = rw add-one (drop-cons xs i d l) in
+          rw a at k.left
+
+      pub first_on : (u : Unit {0}) → r ≡ Ok u → Faulting twice bytes xs (i + 1)
+      first_on u g =
+          let a : map (named bytes) (take (i + 1) xs) ≡ with_last (map (named bytes) (take i xs)) (named bytes (get_or xs i d))
+          = rw (add-one, take-suc xs i d l) (map_after (named bytes) (take i xs) (get_or xs i d)) in
+          record { high = omega arith; left = rw a (rw (rule_is, g) at head) }
+
+      pub first_here : (refused : Refused) → r ≡ Err refused → record { number = number refused; place = i } ≡ judged (number twice) bytes xs
+      first_here refused g =
+          let z : number refused ≡ 0 → ⊥ = λ h. omega (arith, h, number_some refused) in
+          sym (rw (rule_is, g, ne_eqb (number refused) 0 z) at head)

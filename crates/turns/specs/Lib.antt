@@ -1,3 +1,4 @@
 pub mod Marks
 pub mod Hits
+pub mod Refusals
 pub mod Turns

@@ -1,14 +1,16 @@
 -- Entries in turn, each against those before it: the first that meets an earlier one, and the first fault.
-use Rattle.std.specs.Prelude.{ℕ, suc, ◌+◌, ◌≤◌, Bool, true, false, List, [], ◌∷◌, eqb, replicate}
+use Rattle.std.specs.Prelude.{ℕ, suc, ◌+◌, Bool, true, false, List, [], ◌∷◌, eqb, replicate, Result, Ok, Err}
+use Rattle.meaning.specs.declared.Refused.{Refused}
 use Rattle.meaning.specs.Base.{pick, same}
+use Rattle.meaning.specs.Numbered.{number, told}
 use Rattle.meaning.specs.Refusal.{accepted, refused, number_of}
 use Rattle.meaning.specs.Verdict.{Verdict, or_else, among, with_last, in_turn}
 use Rattle.schema.specs.Texts.{clip}
 use Rattle.turns.specs.declared.Mark.{Mark}
-use Rattle.turns.specs.declared.Fault.{Fault}
+use Rattle.turns.specs.declared.EntryRefused.{EntryRefused}
 
 abbrev pub no_mark : Mark
-no_mark = record { from = 0; len = 0; early = 0; late = 0 }
+no_mark = record { from = 0; len = 0; early = Ok tt; late = Ok tt }
 
 abbrev pub no_marks : List Mark
 no_marks = replicate 64 no_mark
@@ -23,25 +25,44 @@ abbrev pub first_hit : {X : Type 0} → (X → X → Bool) → List X → List X
 first_hit hit earlier [] = 0
 first_hit hit earlier (x ∷ xs) = pick (any_of (hit x) earlier) 0 (suc (first_hit hit (with_last earlier x) xs))
 
+-- the first of two that refuses
+abbrev pub first_err : {E : Type 0} → Result (Unit {0}) E → Result (Unit {0}) E → Result (Unit {0}) E
+first_err (Ok u) r = r
+first_err (Err e) r = Err e
+
 abbrev pub named : List ℕ → Mark → List ℕ
 named bytes m = clip m.from m.len bytes
 
 abbrev pub same_name : List ℕ → Mark → Mark → Bool
 same_name bytes a b = same (named bytes a) (named bytes b)
 
+-- an entry's number
+unfoldable pub entry_fault : ℕ → Bool → Mark → ℕ
+entry_fault number met m = or_else (told m.early) (or_else (pick met number 0) (told m.late))
+
+-- the same by what it is refused for
+abbrev pub entry_checked : Refused → Bool → Mark → Result (Unit {0}) Refused
+entry_checked twice met m = first_err m.early (first_err (pick met (Err twice) (Ok tt)) m.late)
+
+-- a refusal's number, 0 for none, and the entry
+pub record Fault : Type 0 where
+  pub number : ℕ
+  pub place : ℕ
+
 -- the first entry that has the name of an earlier one
 abbrev pub twin : List ℕ → List Mark → ℕ
 twin bytes ms = first_hit (same_name bytes) [] ms
-
--- an entry's number
-unfoldable pub entry_fault : ℕ → Bool → Mark → ℕ
-entry_fault number met m = or_else m.early (or_else (pick met number 0) m.late)
 
 -- the first entry with a fault, where entry number t has the name of an earlier one and the first is number i
 abbrev pub first_fault : ℕ → ℕ → ℕ → List Mark → Fault
 first_fault number t i [] = record { number = 0; place = 0 }
 first_fault number t i (m ∷ ms) =
     pick (eqb (entry_fault number (eqb i t) m) 0) (first_fault number t (i + 1) ms) (record { number = entry_fault number (eqb i t) m; place = i })
+
+-- what is told of entries
+abbrev pub at_entry : Result (Unit {0}) EntryRefused → Fault
+at_entry (Ok u) = record { number = 0; place = 0 }
+at_entry (Err e) = record { number = number e.refused; place = e.place }
 
 -- a verdict without its section
 abbrev pub fault_of : Verdict → Fault
@@ -61,8 +82,3 @@ mark_verdict number bytes section ms = in_turn (mark_rule number bytes) (noted b
 
 unfoldable pub judged : ℕ → List ℕ → List Mark → Fault
 judged number bytes ms = fault_of (mark_verdict number bytes 0 ms)
-
--- an array takes them, and a name met twice has a number
-pub record Marked (count number : ℕ) : Type 0 where
-  pub fits : count ≤ 64
-  pub told : 1 ≤ number

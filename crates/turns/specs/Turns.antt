@@ -1,17 +1,17 @@
--- Entries in turn as the code takes them: the twin first, then the first fault; and what a fault says of its verdict.
+-- Entries in turn as the code takes them, and by the twin first; and what a fault says of its verdict.
 use Rattle.std.specs.Prelude.{ℕ, suc, ◌+◌, ◌≤◌, true, false, ◌≡◌, refl, eqb}
 use mathlib.Core.List.{List, [], ◌∷◌, map}
 use Rattle.std.proofs.Common.{sym, ap, ◌∙◌, arith, eq-eqb, ne_eqb, eqb-true}
-use Rattle.std.proofs.lemmas.Bool.{eqb-false}
 use Rattle.meaning.specs.Base.{pick}
+use Rattle.meaning.specs.Numbered.{told}
+use Rattle.std.proofs.lemmas.Bool.{eqb-false}
 use Rattle.meaning.specs.Refusal as refusals
 use Rattle.meaning.specs.Refusal.{accepted, refused, numbered}
 use Rattle.meaning.specs.Verdict as verdicts
 use Rattle.meaning.specs.Verdict.{Verdict, fine, first_refusal, among, with_last, in_turn}
 use Rattle.laws.specs.Cases.{on}
 use Rattle.turns.specs.declared.Mark.{Mark}
-use Rattle.turns.specs.declared.Fault.{Fault}
-use Rattle.turns.specs.Marks.{any_of, first_hit, named, same_name, twin, entry_fault, first_fault, fault_of, mark_rule, noted, mark_verdict, judged}
+use Rattle.turns.specs.Marks.{Fault, any_of, first_hit, named, same_name, twin, entry_fault, first_fault, fault_of, mark_rule, noted, mark_verdict, judged}
 
 -- ---- a verdict by its fault
 
@@ -92,9 +92,9 @@ map_after f (y ∷ xs) x = rw (map_after f xs x)
 met_fault : (number : ℕ) (m : Mark) → 1 ≤ number → entry_fault number true m ≡ 0 → ⊥
 unfolding entry_fault
 met_fault number m h e =
-    on (eqb m.early 0)
+    on (eqb (told m.early) 0)
     (λ z. let g : eqb number 0 ≡ false = ne_eqb number 0 (λ n. omega arith) in let w : number ≡ 0 = rw (z, g) at e in omega arith)
-    (λ z. eqb-false m.early 0 z (rw z at e))
+    (λ z. eqb-false (told m.early) 0 z (rw z at e))
 
 module _ (number : ℕ) (bytes : List ℕ) (h : 1 ≤ number) (section : ℕ) where
   turns : (i : ℕ) (es ms : List Mark)

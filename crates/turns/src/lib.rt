@@ -2,10 +2,14 @@
 
 #![tactic(auto)]
 
-ghost use Rattle.std.specs.Prelude.{◌≡◌, ◌≤◌, take};
+ghost use Rattle.std.specs.Prelude.{◌≡◌};
+ghost use Rattle.std.specs.List.{list_any};
 ghost use Rattle.meaning.specs.Base.{same};
+ghost use Rattle.meaning.specs.Numbered.{number};
 ghost use Rattle.turns.specs.Marks as marks;
-ghost use Rattle.turns.specs.Marks.{named, Marked};
+ghost use Rattle.turns.specs.Marks.{named, at_entry};
+
+use meaning::Refused;
 
 // How many entries the longest of the lists may have.
 pub const MOST_ENTRIES: usize = meaning::COMPONENTS;
@@ -16,14 +20,14 @@ pub const MOST_ENTRIES: usize = meaning::COMPONENTS;
 pub struct Mark {
     pub from: usize,
     pub len: usize,
-    pub early: u32,
-    pub late: u32,
+    pub early: Result<(), Refused>,
+    pub late: Result<(), Refused>,
 }
 
-// A refusal's number, 0 for none, and the entry.
+// What an entry is refused for, and which entry it is.
 #[derive(Clone, Copy)]
-pub struct Fault {
-    pub number: u32,
+pub struct EntryRefused {
+    pub refused: Refused,
     pub place: usize,
 }
 
@@ -35,58 +39,35 @@ fn same_name(bytes: &[u8], a: Mark, b: Mark) -> bool
     slices::same_last_first(x, y)
 }
 
-// The first entry that has the name of an earlier one; as many as there are where there is none.
-pub fn first_twin(bytes: &[u8], entries: [Mark; MOST_ENTRIES], count: usize) -> usize
-    requires { count ≤ 64 }
-    ensures { result ≡ marks.twin bytes.now (take count entries) }
+// Whether an entry has the name of one of these.
+fn is_twin(bytes: &[u8], m: Mark, earlier: &[Mark]) -> bool
+    ensures { result ≡ list_any (marks.same_name bytes.now m) earlier.now }
 {
-    let mut found = count;
-    'later: for i in 0..count {
-        for j in 0..i {
-            if same_name(bytes, entries[i], entries[j]) {
-                found = i;
-                break 'later;
-            }
-        }
-    }
-    found
+    earlier.iter().any(|e| same_name(bytes, m, *e))
 }
 
-// An entry's number: its early rules, its name, its late rules.
-fn entry_fault(m: Mark, twin: bool, number: u32) -> u32
-    ensures { result ≡ marks.entry_fault number twin m }
+// An entry by itself: its early rules, its name, its late rules.
+fn check_entry(m: Mark, twin: bool, twice: Refused) -> Result<(), Refused>
+    ensures { result ≡ marks.entry_checked twice twin m }
 {
-    if m.early != 0 {
-        return m.early;
-    }
+    m.early?;
     if twin {
-        if number != 0 {
-            return number;
-        }
+        return Err(twice);
     }
     m.late
 }
 
-// The entries in turn, each against the names of those before it: the first with a fault, where one of them has the
-// name of an earlier entry.
-pub fn judge_marks(bytes: &[u8], entries: [Mark; MOST_ENTRIES], count: usize, number: u32) -> Fault
-    requires { Marked count number }
-    ensures { result ≡ marks.judged number bytes.now (take count entries) }
+// The entries in turn, each against the names of those before it: the first with a fault.
+pub fn judge_marks(bytes: &[u8], entries: &[Mark], twice: Refused) -> Result<(), EntryRefused>
+    ensures { at_entry result ≡ marks.judged (number twice) bytes.now entries.now }
 {
-    let twin = first_twin(bytes, entries, count);
-    for i in 0..count {
-        let n = entry_fault(entries[i], i == twin, number);
-        if n != 0 {
-            return Fault {
-                number: n,
-                place: i,
-            };
+    for place in 0..entries.len() {
+        let twin = is_twin(bytes, entries[place], &entries[..place]);
+        if let Err(refused) = check_entry(entries[place], twin, twice) {
+            return Err(EntryRefused { refused, place });
         }
     }
-    Fault {
-        number: 0,
-        place: 0,
-    }
+    Ok(())
 }
 
 pub fn no_marks() -> [Mark; MOST_ENTRIES]
@@ -95,8 +76,8 @@ pub fn no_marks() -> [Mark; MOST_ENTRIES]
     let blank = Mark {
         from: 0,
         len: 0,
-        early: 0,
-        late: 0,
+        early: Ok(()),
+        late: Ok(()),
     };
     [blank; MOST_ENTRIES]
 }

@@ -1,126 +1,101 @@
--- The board and the image: what each loop keeps, and one law for each way on and out.
+-- The board and the image: what the loop keeps, and one law for each way on and out.
 use Prim.Native.Nat.{ℕ, ◌+◌, ◌-◌, ◌≤◌, ◌<◌}
 use mathlib.Core.Bool.{Bool, true, false}
 use mathlib.Core.List.{List, [], ◌∷◌}
-use mathlib.Core.Path.{◌≡◌, refl, sym, ap, ◌∙◌}
+use mathlib.Core.Path.{◌≡◌, refl, sym, ◌∙◌}
 use native.Mathlib.Omega.{arith}
 use native.Mathlib.Numerals.{add-one}
-use borrow.Author.Tests.{eq-eqb, ne_eqb, lt-ltb, le-ltb}
+use borrow.Author.Tests.{ne_eqb, lt-ltb, le-ltb}
 use lib.Dec.{eqb}
-use lib.ListN.{length, get_or, take, drop, length-drop, drop_of_length-le}
-use lib.Seq.{drop-cons, length-take-le}
-use Rattle.meaning.specs.Base.{nil?, ascii, same}
+use lib.ListN.{length, get_or, take, drop, drop_of_length-le}
+use lib.Seq.{drop-cons}
+use Rattle.std.proofs.Common.{Option, None, Some, Result, Ok, Err}
+use Rattle.std.specs.List.{starts_with}
+use Rattle.meaning.specs.declared.Refused.{Refused}
+use Rattle.meaning.specs.Base.{pick, nil?, same}
+use Rattle.meaning.specs.Numbered.{number, told}
 use Rattle.meaning.specs.Schema.{media_for, chip_word as name_of}
 use Rattle.meaning.specs.Rules as meant
+use Rattle.laws.specs.Cases.{on}
 use Rattle.laws.specs.Parts.{rest_of}
-use Rattle.laws.specs.Variants.{Left, others}
-use Rattle.schema.specs.contracts.Text.{enum}
-use Rattle.schema.specs.declared.Text.{Text}
-use Rattle.schema.specs.declared.Text.TheVariants as texts
-use Rattle.schema.specs.declared.Word.{Word}
-use Rattle.schema.specs.declared.Span.{Span}
 use Rattle.schema.specs.declared.Chip.{Chip}
 use Rattle.schema.specs.declared.Chip.TheVariants as chips
 use Rattle.schema.specs.declared.Media.{Media}
+use Rattle.schema.specs.declared.Media.TheVariants as medias
 use Rattle.schema.specs.declared.Board.{Board}
 use Rattle.schema.specs.declared.Image.{Image}
-use Rattle.schema.specs.Words.{word, all, Stands, chip_meant, media_meant, media_choice, media_choice_lem, chip_word}
+use Rattle.schema.specs.Words.{word, chip_meant, media_meant, media_choice, media_choice_lem, chip_word}
 use Rattle.schema.specs.Texts.{spelled}
-use Rattle.schema.proofs.Spelling.{spelled_fixed}
 use Rattle.parse.specs.declared.Refusal.{Refusal}
-use Rattle.parse.specs.Refusals.{refusal}
+use Rattle.parse.specs.Entries.{refusal_at}
 use Rattle.parse.specs.Meant.{board_meant, image_meant}
-use Rattle.validate.specs.Fronts.{Plain, sized, narrow_fault, wide_fault, device_fault, ruled}
-
--- ---- a text whose bytes stand in one place
-module _ (store name : List ℕ) (t : Text) where
-  pub spelled_aic : {X : Type 0} (x y : X) (from len : ℕ) → Plain t → t ≡ texts.WithAic from len → x ≡ y
-  spelled_aic x y from len p e = absurd (rw e at p)
-
-  -- the absent text has no bytes, and bytes with `.aic` after them stand in two places
-  pub size_not : Left enum (0 ∷ 4 ∷ []) t → Plain t → 0 ≡ sized store name t
-  size_not = others enum (λ u. Plain u → 0 ≡ sized store name u) (0 ∷ 4 ∷ []) (λ _ _. refl) (λ _ p. absurd p) t
-
-  pub size_fixed : (w : Word) (s : Span) → t ≡ texts.Fixed w → Stands w s → s.to - s.from ≡ sized store name t
-  size_fixed w s e h =
-      let n : s.to - s.from ≤ length (drop s.from all) = omega (arith, length-drop s.from all, h.order, h.end) in
-      sym (length-take-le (s.to - s.from) (drop s.from all) n) ∙ ap length (spelled_fixed store name t w s e h)
-
-  module _ (s : List ℕ) where
-    pub size_by : s ≡ spelled store name t → length s ≡ sized store name t
-    size_by e = ap length e
-
-    pub is_by : (r : Bool) (w : Word) → r ≡ same s (word w) → s ≡ spelled store name t → r ≡ same (spelled store name t) (word w)
-    is_by r w h e = rw (← e) h
-
-    pub target_by : (r : ℕ) (chip : Chip) → r ≡ meant.width_fault (chip_meant chip) (meant.chip_for s) → s ≡ spelled store name t
-        → r ≡ meant.width_fault (chip_meant chip) (meant.chip_for (spelled store name t))
-    target_by r chip h e = rw (← e) h
-
--- ---- starts
-pub record Heading (w s : List ℕ) (i : ℕ) : Type 0 where
-  pub high : i ≤ length w
-  pub low : i ≤ length s
-  pub left : meant.starts (drop i w) (drop i s) ≡ meant.starts w s
-
-module _ (w s : List ℕ) (i : ℕ) where
-  pub starts_on : Heading w s i → i < length w → i < length s → get_or w i 0 ≡ get_or s i 0 → Heading w s (i + 1)
-  starts_on k h l e =
-      record {
-        high = omega arith;
-        low = omega arith;
-        left = rw add-one (rw (drop-cons w i 0 h, drop-cons s i 0 l, eq-eqb (get_or w i 0) (get_or s i 0) e) at k.left);
-      }
-
-  pub starts_not : Heading w s i → i < length w → i < length s → (get_or w i 0 ≡ get_or s i 0 → ⊥) → false ≡ meant.starts w s
-  starts_not k h l e = rw (drop-cons w i 0 h, drop-cons s i 0 l, ne_eqb (get_or w i 0) (get_or s i 0) e) at k.left
-
-  pub starts_short : Heading w s i → i < length w → length s ≤ i → false ≡ meant.starts w s
-  starts_short k h l = rw (drop-cons w i 0 h, drop_of_length-le s l) at k.left
-
-  pub starts_end : Heading w s i → length w ≤ i → true ≡ meant.starts w s
-  starts_end k h = rw (drop_of_length-le w h) at k.left
+use Rattle.turns.specs.Refusals.{number_some}
+use Rattle.validate.specs.Fronts.{chip_if, device_fault, ruled}
 
 -- ---- holds
-pub record Holding (w s : List ℕ) (i : ℕ) : Type 0 where
-  pub high : i ≤ length s
-  pub left : meant.holds w (drop i s) ≡ meant.holds w s
 
 starts_none : (w : List ℕ) → eqb (length w) 0 ≡ meant.starts w []
 starts_none [] = refl
 starts_none (a ∷ w) = ne_eqb (length (a ∷ w)) 0 (λ e. omega arith)
 
-module _ (w s : List ℕ) (i : ℕ) (k : Holding w s i) where
-  module _ (h : i < length s) (r : Bool) (e : r ≡ meant.starts w (take (length s - i) (drop i s))) where
-    here : meant.starts w (get_or s i 0 ∷ drop (i + 1) s) ≡ r
-    here = rw add-one (rw (rest_of s i, drop-cons s i 0 h) at (sym e))
+starts_is : (w s : List ℕ) → starts_with eqb s w ≡ meant.starts w s
+starts_is [] [] = refl
+starts_is [] (b ∷ s) = refl
+starts_is (a ∷ w) [] = refl
+starts_is (a ∷ w) (b ∷ s) = on (eqb a b) (λ e. rw e (starts_is w s)) (λ e. rw e)
 
-    parted : meant.holds w (get_or s i 0 ∷ drop (i + 1) s) ≡ meant.holds w s
-    parted = rw add-one (rw (drop-cons s i 0 h) at k.left)
+-- the word stands in the text where it stands in the rest
+pub record Holding (w s : List ℕ) (i : ℕ) : Type 0 where
+  pub high : i ≤ length s
+  pub left : meant.holds w (drop i s) ≡ meant.holds w s
 
-    pub holds_here : r ≡ true → true ≡ meant.holds w s
-    holds_here t = rw (here, t) at parted
+module _ (w s : List ℕ) where
+  pub holds_start : Holding w s 0
+  holds_start = record { high = omega arith; left = refl }
 
-    pub holds_on : r ≡ false → Holding w s (i + 1)
-    holds_on t = record { high = omega arith; left = rw (here, t) at parted }
+  module _ (i : ℕ) (k : Holding w s i) where
+    module _ (h : i < length s) (r : Bool) (e : r ≡ starts_with eqb (take (length s - i) (drop i s)) w) where
+      parted : meant.holds w (get_or s i 0 ∷ drop (i + 1) s) ≡ meant.holds w s
+      parted = rw add-one (rw (drop-cons s i 0 h) at k.left)
 
-  pub holds_end : length s ≤ i → eqb (length w) 0 ≡ meant.holds w s
-  holds_end h = starts_none w ∙ (rw (drop_of_length-le s h) at k.left)
+      here : r ≡ meant.starts w (get_or s i 0 ∷ drop (i + 1) s)
+      here = rw add-one (rw (rest_of s i, drop-cons s i 0 h) at (e ∙ starts_is w (take (length s - i) (drop i s))))
+
+      pub holds_here : r ≡ true → true ≡ meant.holds w s
+      holds_here t = rw (← here, t) at parted
+
+      pub holds_on : r ≡ false → Holding w s (i + 1)
+      holds_on t = record { high = omega arith; left = rw (← here, t) at parted }
+
+    pub holds_end : length s ≤ i → eqb (length w) 0 ≡ meant.holds w s
+    holds_end h = starts_none w ∙ (rw (drop_of_length-le s h) at k.left)
+
+chip_self : (c : Chip) → meant.same_chip (chip_meant c) (chip_meant c) ≡ true
+chip_self chips.D13x = refl
+chip_self chips.D21x = refl
+
+chip_two : (c d : Chip) → (d ≡ c → ⊥) → meant.same_chip (chip_meant c) (chip_meant d) ≡ false
+chip_two chips.D13x chips.D13x h = absurd (h refl)
+chip_two chips.D13x chips.D21x h = refl
+chip_two chips.D21x chips.D13x h = refl
+chip_two chips.D21x chips.D21x h = absurd (h refl)
 
 -- ---- the target
-module _ (chip : Chip) (t : List ℕ) (a : Bool) (e : a ≡ meant.holds (ascii "riscv32") t) where
-  pub width_narrow : (r : ℕ) → a ≡ true → r ≡ narrow_fault chip → r ≡ meant.width_fault (chip_meant chip) (meant.chip_for t)
-  unfolding meant.chip_for
-  width_narrow r h q = rw (← e, h) q
+module _ (chip : Chip) (t : List ℕ) (r : Option Chip) (e : chip_if r ≡ meant.chip_for t) where
+  pub width_none : r ≡ None → 34 ≡ meant.width_fault (chip_meant chip) (meant.chip_for t)
+  unfolding meant.width_fault
+  width_none h = rw (← e, h)
 
-  module _ (b : Bool) (f : b ≡ meant.holds (ascii "riscv64") t) where
-    pub width_wide : (r : ℕ) → a ≡ false → b ≡ true → r ≡ wide_fault chip → r ≡ meant.width_fault (chip_meant chip) (meant.chip_for t)
-    unfolding meant.chip_for
-    width_wide r h g q = rw (← e, h, ← f, g) q
+  module _ (c : Chip) (g : r ≡ Some c) where
+    width_is : meant.width_fault (chip_meant chip) (meant.chip_for t) ≡ pick (meant.same_chip (chip_meant chip) (chip_meant c)) 0 35
+    unfolding meant.width_fault
+    width_is = rw (← e, g)
 
-    pub width_none : a ≡ false → b ≡ false → 34 ≡ meant.width_fault (chip_meant chip) (meant.chip_for t)
-    unfolding meant.chip_for meant.width_fault
-    width_none h g = rw (← e, h, ← f, g)
+    pub width_same : c ≡ chip → 0 ≡ meant.width_fault (chip_meant chip) (meant.chip_for t)
+    width_same h = sym (width_is ∙ rw (h, chip_self chip))
+
+    pub width_other : (c ≡ chip → ⊥) → 35 ≡ meant.width_fault (chip_meant chip) (meant.chip_for t)
+    width_other h = sym (width_is ∙ rw (chip_two chip c h))
 
 -- ---- the device
 chip_named_lem : (chip : Chip) → word (chip_word chip) ≡ name_of (chip_meant chip)
@@ -128,55 +103,88 @@ unfolding word name_of
 chip_named_lem chips.D13x = refl
 chip_named_lem chips.D21x = refl
 
-module _ (store name : List ℕ) (chip : Chip) (i : Image) (m : Media) (c : m ≡ media_choice chip) (a : Bool) (e : a ≡ meant.same_media (media_meant m) (media_meant i.media)) where
-  media_told : meant.same_media (media_for (chip_meant chip)) (media_meant i.media) ≡ a
-  media_told = rw (← media_choice_lem chip, ← c) (sym e)
+same_one : (m : Media) → meant.same_media (media_meant m) (media_meant m) ≡ true
+same_one medias.SpiNor = refl
+same_one medias.SpiNand = refl
 
-  pub device_media : a ≡ false → 30 ≡ device_fault store name chip i
+same_two : (m n : Media) → (m ≡ n → ⊥) → meant.same_media (media_meant m) (media_meant n) ≡ false
+same_two medias.SpiNor medias.SpiNor h = absurd (h refl)
+same_two medias.SpiNor medias.SpiNand h = refl
+same_two medias.SpiNand medias.SpiNor h = refl
+same_two medias.SpiNand medias.SpiNand h = absurd (h refl)
+
+module _ (store name : List ℕ) (chip : Chip) (i : Image) (m : Media) (c : m ≡ media_choice chip) where
+  media_told : meant.same_media (media_for (chip_meant chip)) (media_meant i.media) ≡ meant.same_media (media_meant m) (media_meant i.media)
+  media_told = rw (← media_choice_lem chip, ← c)
+
+  pub device_media : (m ≡ i.media → ⊥) → 30 ≡ device_fault store name chip i
   unfolding device_fault
-  device_media h = rw (media_told, h)
+  device_media h = rw (media_told, same_two m i.media h)
 
-  module _ (w : Word) (d : w ≡ chip_word chip) (b : Bool) (f : b ≡ same (spelled store name i.platform) (word w)) where
+  module _ (e : m ≡ i.media) (w s : List ℕ) (d : w ≡ word (chip_word chip)) (g : s ≡ spelled store name i.platform) (b : Bool) (f : b ≡ same s w) where
     platform_told : same (spelled store name i.platform) (name_of (chip_meant chip)) ≡ b
-    platform_told = rw (← chip_named_lem chip, ← d) (sym f)
+    platform_told = rw (← chip_named_lem chip, ← d, ← g) (sym f)
 
-    pub device_platform : a ≡ true → b ≡ false → 31 ≡ device_fault store name chip i
-    unfolding device_fault
-    device_platform h g = rw (media_told, h, platform_told, g)
+    media_same : meant.same_media (media_for (chip_meant chip)) (media_meant i.media) ≡ true
+    media_same = media_told ∙ rw e (same_one i.media)
 
-    pub device_none : a ≡ true → b ≡ true → 0 ≡ device_fault store name chip i
+    pub device_platform : b ≡ false → 31 ≡ device_fault store name chip i
     unfolding device_fault
-    device_none h g = rw (media_told, h, platform_told, g)
+    device_platform h = rw (media_same, platform_told, h)
+
+    pub device_none : b ≡ true → 0 ≡ device_fault store name chip i
+    unfolding device_fault
+    device_none h = rw (media_same, platform_told, h)
 
 -- ---- all of them, in their order
 nil_length : (s : List ℕ) → nil? s ≡ eqb (length s) 0
 nil_length [] = refl
 nil_length (x ∷ s) = sym (ne_eqb (length (x ∷ s)) 0 (λ e. omega arith))
 
-module _ (store name : List ℕ) (b : Board) (i : Image) (r : Refusal) (d : ℕ) (e : d ≡ device_fault store name b.chip i) where
-  device_told : meant.device_fault (board_meant store store 0 name b) (image_meant store store 0 name i) ≡ d
+told_some : (f : Refused) → number f ≡ 0 → ⊥
+told_some f e = omega (arith, e, number_some f)
+
+module _ (store name : List ℕ) (b : Board) (i : Image) (r : Refusal) (d : Result (Unit {0}) Refused) (e : told d ≡ device_fault store name b.chip i) where
+  device_told : meant.device_fault (board_meant store store 0 name b) (image_meant store store 0 name i) ≡ told d
   unfolding device_fault meant.device_fault
   device_told = sym e
 
-  pub ruled_device : (d ≡ 0 → ⊥) → r ≡ refusal d 2 0 → r ≡ ruled store name b i
+  pub ruled_device : (f : Refused) → d ≡ Err f → r ≡ refusal_at 2 (number f) 0 → r ≡ ruled store name b i
   unfolding ruled meant.front_rules
-  ruled_device n h = rw (device_told, ne_eqb d 0 n) h
+  ruled_device f g h = rw (device_told, g, ne_eqb (number f) 0 (told_some f)) h
 
-  module _ (z : d ≡ 0) (n : ℕ) (f : n ≡ sized store name b.profile) where
-    pub ruled_profile : n ≡ 0 → r ≡ refusal 32 1 0 → r ≡ ruled store name b i
+  module _ (u : Unit {0}) (z : d ≡ Ok u) (p : List ℕ) (f : p ≡ spelled store name b.profile) where
+    pub ruled_profile : eqb (length p) 0 ≡ true → r ≡ refusal_at 1 32 0 → r ≡ ruled store name b i
     unfolding ruled meant.front_rules
     ruled_profile y h = rw (device_told, z, nil_length (spelled store name b.profile), ← f, y) h
 
-    module _ (y : n ≡ 0 → ⊥) (m : ℕ) (g : m ≡ sized store name i.app) where
-      pub ruled_app : 32 < m → r ≡ refusal 33 2 0 → r ≡ ruled store name b i
+    module _ (y : eqb (length p) 0 ≡ false) (m : List ℕ) (g : m ≡ spelled store name i.app) where
+      pub ruled_app : 32 < length m → r ≡ refusal_at 2 33 0 → r ≡ ruled store name b i
       unfolding ruled meant.front_rules
-      ruled_app k h = rw (device_told, z, nil_length (spelled store name b.profile), ← f, ne_eqb n 0 y, ← g, lt-ltb 32 m k) h
+      ruled_app k h = rw (device_told, z, nil_length (spelled store name b.profile), ← f, y, ← g, lt-ltb 32 (length m) k) h
 
-      module _ (k : m ≤ 32) (w : ℕ) (l : w ≡ meant.width_fault (chip_meant b.chip) (meant.chip_for (spelled store name b.target))) where
-        pub ruled_target : (w ≡ 0 → ⊥) → r ≡ refusal w 1 0 → r ≡ ruled store name b i
-        unfolding ruled meant.front_rules
-        ruled_target x h = rw (device_told, z, nil_length (spelled store name b.profile), ← f, ne_eqb n 0 y, ← g, le-ltb 32 m k, ← l, ne_eqb w 0 x) h
+      module _ (k : length m ≤ 32) (t : List ℕ) (q : t ≡ spelled store name b.target) (w : Result (Unit {0}) Refused) (l : told w ≡ meant.width_fault (chip_meant b.chip) (meant.chip_for t)) where
+        width_told : meant.width_fault (chip_meant b.chip) (meant.chip_for (spelled store name b.target)) ≡ told w
+        width_told = rw (← q) (sym l)
 
-        pub ruled_none : w ≡ 0 → r ≡ refusal 0 0 0 → r ≡ ruled store name b i
+        pub ruled_target : (x : Refused) → w ≡ Err x → r ≡ refusal_at 1 (number x) 0 → r ≡ ruled store name b i
         unfolding ruled meant.front_rules
-        ruled_none x h = rw (device_told, z, nil_length (spelled store name b.profile), ← f, ne_eqb n 0 y, ← g, le-ltb 32 m k, ← l, x) h
+        ruled_target x j h =
+            rw (
+              device_told,
+              z,
+              nil_length (spelled store name b.profile),
+              ← f,
+              y,
+              ← g,
+              le-ltb 32 (length m) k,
+              width_told,
+              j,
+              ne_eqb (number x) 0 (told_some x),
+            )
+            h
+
+        pub ruled_none : (v : Unit {0}) → w ≡ Ok v → r ≡ refusal_at 0 0 0 → r ≡ ruled store name b i
+        unfolding ruled meant.front_rules
+        ruled_none v j h =
+            rw (device_told, z, nil_length (spelled store name b.profile), ← f, y, ← g, le-ltb 32 (length m) k, width_told, j) h

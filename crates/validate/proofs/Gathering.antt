@@ -1,23 +1,22 @@
 -- All entries gathered into arrays: one law for each way on and out.
 use Prim.Native.Nat.{ℕ, zero, suc, ◌+◌, ◌-◌, ◌≤◌, ◌<◌}
-use mathlib.Core.Bool.{Bool, false}
+use mathlib.Core.Bool.{Bool, true, false, ◌||◌}
 use mathlib.Core.List.{List as Seq, [], ◌∷◌, ◌++◌, map, append_assoc, append-nil, map-append}
 use mathlib.Core.Path.{◌≡◌, refl, sym, ap, ◌∙◌}
 use native.Mathlib.Omega.{arith}
 use native.Mathlib.Numerals.{add-one}
 use borrow.Author.Tests.{eq-eqb, ne_eqb}
 use lib.ListN.{length, take, drop, set, replicate, length-set, length-map, length-drop, take-append-drop}
+use Rattle.std.proofs.Common.{Option, Result}
+use Rattle.layout.specs.Parts.{placed}
 use lib.Seq.{take-suc-set, take_all, length-take-le, drop-drop, drop-set-lt}
 use Rattle.meaning.specs.Refusal.{in_application}
 use Rattle.meaning.specs.Fields.{listed}
 use Rattle.laws.specs.Cases.{on}
-use Rattle.tree.specs.declared.Found.TheVariants.{Nothing}
+use Rattle.std.specs.Prelude.{Option, Some, None}
+use Rattle.tree.specs.declared.Step.{Step}
 use Rattle.tree.specs.declared.Items.{Items}
-use Rattle.tree.specs.declared.Item.{Item}
-use Rattle.tree.specs.declared.Item.TheVariants as given
 use Rattle.tree.specs.declared.Keys.{Keys}
-use Rattle.tree.specs.declared.Key.{Key}
-use Rattle.tree.specs.declared.Key.TheVariants as keyed
 use Rattle.tree.specs.Doors.{Stood, items}
 use Rattle.tree.specs.Steps.{items_from, to_come, Gives, item_ended, item_given, Ready, Begins, KeyGives, key_stands}
 use Rattle.parse.specs.declared.Refusal.{Refusal}
@@ -26,8 +25,8 @@ use Rattle.parse.specs.Entries as parsed
 use Rattle.parse.specs.Entries.{refusal_at, refusal_of, each_component, application_r, walk, application_fault}
 use Rattle.parse.proofs.Entering as reading
 use Rattle.turns.specs.declared.Mark.{Mark}
-use Rattle.turns.specs.declared.Fault.{Fault}
-use Rattle.turns.specs.Marks.{any_of, first_hit, judged, Marked}
+use Rattle.turns.specs.declared.EntryRefused.{EntryRefused}
+use Rattle.turns.specs.Marks.{any_of, first_hit, at_entry, judged}
 use Rattle.turns.specs.Marks.{no_marks}
 use Rattle.validate.specs.declared.Entry.{Entry}
 use Rattle.schema.specs.declared.Partition.{Partition}
@@ -89,7 +88,7 @@ module _ (entry : ℕ → Entry) (all : Seq ℕ) (front : Seq Pair) (marks : Seq
             ∙ rw (t, map-append (λ n. (entry n).pair) (take i all) (n ∷ []), append_assoc, h);
       }
 
-  passed_listed : (left : Seq ℕ) → Passed entry all left front marks pairs i at → (store : Seq ℕ) (number : ℕ) (own : Fault) → i ≤ 64 → own ≡ judged number store (take i marks)
+  passed_listed : (left : Seq ℕ) → Passed entry all left front marks pairs i at → (store : Seq ℕ) (number : ℕ) (own : Result (Unit {0}) EntryRefused) → i ≤ 64 → at_entry own ≡ judged number store (take i marks)
       → Listed store number entry (take i all) i own
   passed_listed left k store number own l e =
       let n : length (take i all) ≡ i = length-take-le i all k.high in
@@ -101,6 +100,10 @@ any_more : {X : Type 0} (f : X → Bool) (xs : Seq X) (x : X) → any_of f (xs +
 any_more f [] x = on (f x) (λ e. rw e) (λ e. rw e)
 any_more f (y ∷ ys) x = on (f y) (λ e. rw e) (λ e. rw e (any_more f ys x))
 
+or_either : (a b : Bool) → (a || b) ≡ either a b
+or_either true b = refl
+or_either false b = refl
+
 -- components that were met on a walk that began as v, and those that are to come
 pub record Composed (room store : Seq ℕ) (made : ℕ) (parts : Seq (Seq ℕ)) (v : Items) (marks : Seq Mark) (pairs : Seq Pair) (fault : Refusal) (first : Bool) (i : ℕ) (w : Items) : Type 0 where
   pub reads : reading.Composed room store made v.place v.end 32 i w
@@ -111,9 +114,9 @@ pub record Composed (room store : Seq ℕ) (made : ℕ) (parts : Seq (Seq ℕ)) 
   pub seen : first ≡ any_of (λ n. (component_at room store made parts n).first) (take i (to_come room v))
 
 module _ (room store : Seq ℕ) (made : ℕ) (parts : Seq (Seq ℕ)) where
-  pub comps_start : (place end count : ℕ) (v : Items) (marks : Seq Mark) (pairs : Seq Pair) (fault : Refusal) → Counted room made place end count → v ≡ items_from place 0 end
+  pub comps_start : (place end : ℕ) (v : Items) (marks : Seq Mark) (pairs : Seq Pair) (fault : Refusal) → Counted room made place end → v ≡ items_from place 0 end
       → marks ≡ no_marks → pairs ≡ replicate 128 blank → fault ≡ refusal_at 0 0 0 → Composed room store made parts v marks pairs fault false 0 v
-  comps_start place end count v marks pairs fault h e m p f =
+  comps_start place end v marks pairs fault h e m p f =
       rw e (
       record {
         reads = reading.comps_start room store made place end 32 (items_from place 0 end) refl h.rooms h.within;
@@ -132,11 +135,11 @@ module _ (room store : Seq ℕ) (made : ℕ) (parts : Seq (Seq ℕ)) where
     count_is : length (to_come room v) ≡ i + length (to_come room w)
     count_is = passed_count (component_at room store made parts) (to_come room v) [] marks pairs i i (to_come room w) k.passed
 
-    pub comps_marked : Marked i 51
-    comps_marked = record { fits = omega (arith, count_is, k.few); told = omega arith }
+    pub comps_fit : i ≤ 64
+    comps_fit = omega (arith, count_is, k.few)
 
     -- what stands in the arrays is what was gathered of the components met
-    gathered : (place end : ℕ) → v ≡ items_from place 0 end → (r : Refusal) (own : Fault) → own ≡ judged 51 store (take i marks) → r ≡ each_component room store made place end 32
+    gathered : (place end : ℕ) → v ≡ items_from place 0 end → (r : Refusal) (own : Result (Unit {0}) EntryRefused) → at_entry own ≡ judged 51 store (take i marks) → r ≡ each_component room store made place end 32
         → met r (length (items room end place 0)) ≡ i
         → Components room store made place end parts (record { fault = r; count = i; first = first; own = own; pairs = pairs })
     gathered place end ev r own eo er em =
@@ -147,15 +150,15 @@ module _ (room store : Seq ℕ) (made : ℕ) (parts : Seq (Seq ℕ)) where
           gathers =
               rw em
               (record {
-                listed = passed_listed (component_at room store made parts) (items room end place 0) [] marks pairs i i (to_come room w) c.passed store 51 own comps_marked.fits eo;
+                listed = passed_listed (component_at room store made parts) (items room end place 0) [] marks pairs i i (to_come room w) c.passed store 51 own comps_fit eo;
                 pairs = rw n (sym (take-append-drop i pairs) ∙ rw (c.passed.pairs, c.rest));
                 first = c.seen;
               });
         }
 
-    module _ (step : Item) (h : Gives room w step) where
+    module _ (step : Option (Step Items)) (h : Gives room w step) where
       -- after the loop the fault is one of those that its ways out leave
-      pub comps_none : (place end : ℕ) → v ≡ items_from place 0 end → step ≡ given.End → (r : Refusal) (own : Fault) → own ≡ judged 51 store (take i marks) → r ≡ fault
+      pub comps_none : (place end : ℕ) → v ≡ items_from place 0 end → step ≡ None → (r : Refusal) (own : Result (Unit {0}) EntryRefused) → at_entry own ≡ judged 51 store (take i marks) → r ≡ fault
           → Components room store made place end parts (record { fault = r; count = i; first = first; own = own; pairs = pairs })
       comps_none place end ev g r own eo e =
           let t : r ≡ refusal_at 0 0 0 = e ∙ k.none in
@@ -164,42 +167,42 @@ module _ (room store : Seq ℕ) (made : ℕ) (parts : Seq (Seq ℕ)) where
           gathered place end ev r own eo (reading.comps_end room store made place end 32 i w c step h r g t)
           (rw t (omega (arith, n, ap length (item_ended room w step h g))))
 
-      module _ (n : ℕ) (rest : Items) (g : step ≡ given.At n rest) where
-        more : to_come room w ≡ n ∷ to_come room rest
-        more = (item_given room w step h n rest g).come
+      module _ (given : Step Items) (g : step ≡ Some given) where
+        more : to_come room w ≡ given.value ∷ to_come room given.rest
+        more = (item_given room w step h given g).come
 
         pub comps_room : i < 64
         comps_room = omega (arith, count_is, k.few, ap length more)
 
-        module _ (e : Entry) (d : e ≡ component_at room store made parts n) where
-          fault_is : e.fault ≡ (parsed.component_at room store made n 32).fault
+        module _ (e : Entry) (d : e ≡ component_at room store made parts given.value) where
+          fault_is : e.fault ≡ (parsed.component_at room store made given.value 32).fault
           unfolding component_entry
           fault_is = ap (λ (x : Entry). x.fault) d
 
-          pub comps_not : (place end : ℕ) → v ≡ items_from place 0 end → (e.fault ≡ 0 → ⊥) → (here r : Refusal) (own : Fault) → own ≡ judged 51 store (take i marks)
+          pub comps_not : (place end : ℕ) → v ≡ items_from place 0 end → (e.fault ≡ 0 → ⊥) → (here r : Refusal) (own : Result (Unit {0}) EntryRefused) → at_entry own ≡ judged 51 store (take i marks)
               → here ≡ refusal_at 4 e.fault i → r ≡ here
               → Components room store made place end parts (record { fault = r; count = i; first = first; own = own; pairs = pairs })
           comps_not place end ev z here r own eo eh er =
               let c : reading.Composed room store made place end 32 i w = rw ev at k.reads in
               let t : r ≡ refusal_at 4 e.fault i = er ∙ eh in
               gathered place end ev r own eo
-              (reading.comps_not room store made place end 32 i w c step h n rest g (parsed.component_at room store made n 32) refl r (rw (← fault_is) z) (rw (← fault_is) t))
+              (reading.comps_not room store made place end 32 i w c step h given g (parsed.component_at room store made given.value 32) refl r (rw (← fault_is) z) (rw (← fault_is) t))
               (rw (t, ne_eqb e.fault 0 z))
 
-          pub comps_on : (first' : Bool) → e.fault ≡ 0 → first' ≡ either first e.first
-              → Composed room store made parts v (set marks i e.mark) (set pairs i e.pair) fault first' (i + 1) rest
+          pub comps_on : (first' : Bool) → e.fault ≡ 0 → first' ≡ (first || e.first)
+              → Composed room store made parts v (set marks i e.mark) (set pairs i e.pair) fault first' (i + 1) given.rest
           comps_on first' z f =
-              let p : Passed (component_at room store made parts) (to_come room v) (n ∷ to_come room rest) [] marks pairs i i = rw more at k.passed in
-              let t : take (i + 1) (to_come room v) ≡ take i (to_come room v) ++ (n ∷ []) = rw (add-one i) (next_taken n (to_come room rest) i (to_come room v) p.here) in
+              let p : Passed (component_at room store made parts) (to_come room v) (given.value ∷ to_come room given.rest) [] marks pairs i i = rw more at k.passed in
+              let t : take (i + 1) (to_come room v) ≡ take i (to_come room v) ++ (given.value ∷ []) = rw (add-one i) (next_taken given.value (to_come room given.rest) i (to_come room v) p.here) in
               let a : 128 - i ≡ suc (128 - (i + 1)) = omega (arith, comps_room) in
               let b : drop i pairs ≡ replicate (suc (128 - (i + 1))) blank = rw a at k.rest in
               record {
-                reads = reading.comps_on room store made v.place v.end 32 i w k.reads step h n rest g (parsed.component_at room store made n 32) refl (sym fault_is ∙ z);
+                reads = reading.comps_on room store made v.place v.end 32 i w k.reads step h given g (parsed.component_at room store made given.value 32) refl (sym fault_is ∙ z);
                 few = k.few;
                 none = k.none;
-                passed = passed_on (component_at room store made parts) (to_come room v) [] marks pairs i i n (to_come room rest) e comps_room (omega (arith, comps_room)) d p;
+                passed = passed_on (component_at room store made parts) (to_come room v) [] marks pairs i i given.value (to_come room given.rest) e comps_room (omega (arith, comps_room)) d p;
                 rest = drop-set-lt (i + 1) pairs i e.pair (omega arith) ∙ sym (drop-drop 1 i pairs) ∙ ap (drop 1) b;
-                seen = f ∙ rw (t, any_more (λ m. (component_at room store made parts m).first) (take i (to_come room v)) n, k.seen, d);
+                seen = f ∙ or_either first e.first ∙ rw (t, any_more (λ m. (component_at room store made parts m).first) (take i (to_come room v)) given.value, k.seen, d);
               }
 
 -- ---- applications
@@ -209,14 +212,14 @@ pub record Applying (room store : Seq ℕ) (made : ℕ) (ps : Seq Partition) (fr
   pub low : preceding ≤ 64
   pub high : i ≤ 64
   pub reads : reading.Walking room store made 64 32 v.place v.end w fault i
-  pub passed : Passed (application_at room store made ps) (walk room store v.end v.place 65 Nothing) (walk room store v.end v.place (65 - i) w.after) front marks pairs i (preceding + i)
+  pub passed : Passed (application_at room store made ps) (walk room store v.end v.place 65 None) (walk room store v.end v.place (65 - i) w.after) front marks pairs i (preceding + i)
 
 module _ (room store : Seq ℕ) (made : ℕ) (ps : Seq Partition) where
   -- an array in a struct is as long as its elements in the machine
-  pub apps_start : {X : Type 0} (f : Pair → X) (place end count : ℕ) (old : Seq Pair) (preceding : ℕ) → length (map f old) ≡ 128 → (v : Keys) (marks : Seq Mark) (fault : Refusal)
-      → Followed room made end count preceding → Begins room place end Nothing v → marks ≡ no_marks → fault ≡ refusal_at 0 0 0
+  pub apps_start : {X : Type 0} (f : Pair → X) (place end : ℕ) (old : Seq Pair) (preceding : ℕ) → length (map f old) ≡ 128 → (v : Keys) (marks : Seq Mark) (fault : Refusal)
+      → Followed room made end preceding → Begins room place end None v → marks ≡ no_marks → fault ≡ refusal_at 0 0 0
       → Applying room store made ps (take preceding old) preceding v marks old fault v 0
-  apps_start f place end count old preceding l v marks fault h b m e =
+  apps_start f place end old preceding l v marks fault h b m e =
       let z : preceding + 0 ≡ preceding = omega arith in
       record {
         low = h.low;
@@ -230,24 +233,28 @@ module _ (room store : Seq ℕ) (made : ℕ) (ps : Seq Partition) where
     pub apps_ready : Ready room w
     apps_ready = k.reads.count.over.ready
 
-    pub apps_marked : Marked i 65
-    apps_marked = record { fits = k.high; told = omega arith }
+    pub apps_fit : i ≤ 64
+    apps_fit = k.high
 
     pub apps_all : preceding + i ≤ 128
     apps_all = omega (arith, k.low, k.high)
 
-    module _ (step : Key) (h : KeyGives room store w step) where
-      module _ (place end : ℕ) (b : Begins room place end Nothing v) where
+    module _ (step : Option (Step Keys)) (h : KeyGives room store w step) where
+      module _ (place end : ℕ) (b : Begins room place end None v) where
         here : Applying room store made ps front preceding (record { place = place; low = v.low; end = end; after = v.after }) marks pairs fault w i
         here = rw (b.over.place, b.over.end) at k
 
         abbrev all : Seq ℕ
-        all = walk room store end place 65 Nothing
+        all = walk room store end place 65 None
+
+        passed_long : length (take (preceding + i) pairs) ≡ preceding + length (take i all)
+        passed_long =
+            omega (arith, length-take-le (preceding + i) pairs (omega (arith, k.low, k.high, here.passed.pair_room)), length-take-le i all here.passed.high)
 
         -- what stands in the arrays is what was gathered of the applications met
-        gathered_apps : (r : Refusal) (own : Fault) (at : ℕ) → own ≡ judged 65 store (take i marks) → at ≡ first_hit (clash room store made) [] (take (preceding + i) pairs)
+        gathered_apps : (r : Refusal) (own : Result (Unit {0}) EntryRefused) (at : Option ℕ) → at_entry own ≡ judged 65 store (take i marks) → at ≡ placed (length (take (preceding + i) pairs)) (first_hit (clash room store made) [] (take (preceding + i) pairs))
             → r ≡ refusal_of (listed (application_r room store made 32) in_application 64 all) → take 64 all ≡ take i all
-            → Applications room store made place end ps front (record { fault = r; count = i; own = own; clash = at })
+            → Applications room store made place end ps preceding front (record { fault = r; count = i; own = own; clash = at })
         gathered_apps r own at eo ec er et =
             record {
               fault = er;
@@ -255,12 +262,12 @@ module _ (room store : Seq ℕ) (made : ℕ) (ps : Seq Partition) where
                   rw et
                   (record {
                     listed = passed_listed (application_at room store made ps) all front marks pairs i (preceding + i) (walk room store end place (65 - i) w.after) here.passed store 65 own k.high eo;
-                    clashes = ec ∙ ap (first_hit (clash room store made) []) here.passed.pairs;
+                    clashes = rw (passed_long, here.passed.pairs) at ec;
                   });
             }
 
-        pub apps_none : step ≡ keyed.End → (r : Refusal) (own : Fault) (at : ℕ) → own ≡ judged 65 store (take i marks) → at ≡ first_hit (clash room store made) [] (take (preceding + i) pairs) → r ≡ fault
-            → Applications room store made place end ps front (record { fault = r; count = i; own = own; clash = at })
+        pub apps_none : step ≡ None → (r : Refusal) (own : Result (Unit {0}) EntryRefused) (at : Option ℕ) → at_entry own ≡ judged 65 store (take i marks) → at ≡ placed (length (take (preceding + i) pairs)) (first_hit (clash room store made) [] (take (preceding + i) pairs)) → r ≡ fault
+            → Applications room store made place end ps preceding front (record { fault = r; count = i; own = own; clash = at })
         apps_none g r own at eo ec er =
             let u : walk room store end place (65 - i) w.after ≡ [] = reading.walk_ended room store place end w here.reads.count.over step h (65 - i) g in
             let n : length all ≡ i + length (walk room store end place (65 - i) w.after) =
@@ -270,42 +277,42 @@ module _ (room store : Seq ℕ) (made : ℕ) (ps : Seq Partition) where
             (er ∙ reading.apps_none room store made (record { fault = 0; place = place; end = end }) v b 64 32 w fault i k.reads step k.high h g)
             (take_all 64 all (omega (arith, m, k.high)) ∙ sym (take_all i all (omega (arith, m))))
 
-        module _ (n : ℕ) (rest : Keys) (g : step ≡ keyed.At n rest) where
+        module _ (given : Step Keys) (g : step ≡ Some given) where
           -- one more than there may be
-          pub apps_many : 64 ≤ i → (told r : Refusal) (own : Fault) (at : ℕ) → own ≡ judged 65 store (take i marks) → at ≡ first_hit (clash room store made) [] (take (preceding + i) pairs)
+          pub apps_many : 64 ≤ i → (told r : Refusal) (own : Result (Unit {0}) EntryRefused) (at : Option ℕ) → at_entry own ≡ judged 65 store (take i marks) → at ≡ placed (length (take (preceding + i) pairs)) (first_hit (clash room store made) [] (take (preceding + i) pairs))
               → told ≡ refusal_at 5 25 64 → r ≡ told
-              → Applications room store made place end ps front (record { fault = r; count = i; own = own; clash = at })
+              → Applications room store made place end ps preceding front (record { fault = r; count = i; own = own; clash = at })
           apps_many l told r own at eo ec eh er =
               let t : r ≡ refusal_at 5 25 64 = er ∙ eh in
               let x : 64 ≡ i = omega (arith, k.high) in
-              let more = reading.apps_on room store made 64 32 v.place v.end w fault i k.reads k.high step h n rest g (earlier fault (application_fault room store made 32 i n)) refl in
+              let more = reading.apps_on room store made 64 32 v.place v.end w fault i k.reads k.high step h given g (earlier fault (application_fault room store made 32 i given.value)) refl in
               gathered_apps r own at eo ec
-              (reading.apps_many room store made (record { fault = 0; place = place; end = end }) v b 64 32 rest (earlier fault (application_fault room store made 32 i n)) (i + 1) more r (omega arith) t)
+              (reading.apps_many room store made (record { fault = 0; place = place; end = end }) v b 64 32 given.rest (earlier fault (application_fault room store made 32 i given.value)) (i + 1) more r (omega arith) t)
               (ap (λ (m : ℕ). take m all) x)
 
-          pub apps_stood : (count : ℕ) → Followed room made end count preceding → Stood room n
-          apps_stood count f = key_stands room store place end w here.reads.count.over step h n rest g made f.rooms f.within
+          pub apps_stood : Followed room made end preceding → Stood room given.value
+          apps_stood f = key_stands room store place end w here.reads.count.over step h given g made f.rooms f.within
 
-      module _ (n : ℕ) (rest : Keys) (g : step ≡ keyed.At n rest) (l : i < 64) where
+      module _ (given : Step Keys) (g : step ≡ Some given) (l : i < 64) where
         pub apps_after : preceding + i < 128
         apps_after = omega (arith, k.low)
 
-        pub apps_on : (e : Entry) (r : Refusal) → e ≡ application_at room store made ps n → r ≡ earlier fault (fault_at 5 e.fault i)
-            → Applying room store made ps front preceding v (set marks i e.mark) (set pairs (preceding + i) e.pair) r rest (i + 1)
+        pub apps_on : (e : Entry) (r : Refusal) → e ≡ application_at room store made ps given.value → r ≡ earlier fault (fault_at 5 e.fault i)
+            → Applying room store made ps front preceding v (set marks i e.mark) (set pairs (preceding + i) e.pair) r given.rest (i + 1)
         unfolding application_entry
         apps_on e r d f =
             let x : 65 - i ≡ suc (65 - (i + 1)) = omega arith in
-            let onward : walk room store v.end v.place (65 - i) w.after ≡ n ∷ walk room store v.end v.place (65 - (i + 1)) rest.after
-            = rw x (reading.walk_given room store v.place v.end w k.reads.count.over step h (65 - (i + 1)) n rest g) in
-            let p : Passed (application_at room store made ps) (walk room store v.end v.place 65 Nothing) (n ∷ walk room store v.end v.place (65 - (i + 1)) rest.after) front marks pairs i (preceding + i)
+            let onward : walk room store v.end v.place (65 - i) w.after ≡ given.value ∷ walk room store v.end v.place (65 - (i + 1)) given.rest.after
+            = rw x (reading.walk_given room store v.place v.end w k.reads.count.over step h (65 - (i + 1)) given g) in
+            let p : Passed (application_at room store made ps) (walk room store v.end v.place 65 None) (given.value ∷ walk room store v.end v.place (65 - (i + 1)) given.rest.after) front marks pairs i (preceding + i)
             = rw onward at k.passed in
             let z : preceding + (i + 1) ≡ preceding + i + 1 = omega arith in
-            let q : e.fault ≡ (parsed.application_at room store made n 32).fault = ap (λ (x : Entry). x.fault) d in
+            let q : e.fault ≡ (parsed.application_at room store made given.value 32).fault = ap (λ (x : Entry). x.fault) d in
             record {
               low = k.low;
               high = omega arith;
-              reads = reading.apps_on room store made 64 32 v.place v.end w fault i k.reads k.high step h n rest g r (rw (← q) f);
-              passed = rw z (passed_on (application_at room store made ps) (walk room store v.end v.place 65 Nothing) front marks pairs i (preceding + i) n (walk room store v.end v.place (65 - (i + 1)) rest.after) e l apps_after d p);
+              reads = reading.apps_on room store made 64 32 v.place v.end w fault i k.reads k.high step h given g r (rw (← q) f);
+              passed = rw z (passed_on (application_at room store made ps) (walk room store v.end v.place 65 None) front marks pairs i (preceding + i) given.value (walk room store v.end v.place (65 - (i + 1)) given.rest.after) e l apps_after d p);
             }
 
 -- ---- the first fault

@@ -1,7 +1,7 @@
 -- The groups of rules in 01's order, and validation: one law for each way out.
 use Prim.Native.Nat.{ℕ, ◌+◌, ◌-◌, ◌≤◌, ◌<◌}
-use mathlib.Core.Bool.{Bool, true, false}
 use mathlib.Core.List.{List as Seq, [], ◌∷◌, map}
+use mathlib.Core.Bool.{false}
 use mathlib.Core.Path.{◌≡◌, refl, sym, ap, ◌∙◌}
 use native.Mathlib.Omega.{arith}
 use borrow.Author.Tests.{eq-eqb, ne_eqb, eqb-true, lt-ltb, le-ltb, ltb-true, ltb-false}
@@ -9,6 +9,7 @@ use lib.Dec.{eqb, ltb}
 use lib.ListN.{length, take, replicate, length-map}
 use lib.Seq.{take_all, take-append_seam}
 use Rattle.meaning.specs.Limits.{of01}
+use Rattle.meaning.specs.Numbered.{number}
 use Rattle.meaning.specs.Refusal.{accepted, in_application}
 use Rattle.meaning.specs.Fields.{each, listed}
 use Rattle.meaning.specs.Layout as meant
@@ -40,10 +41,11 @@ use Rattle.parse.specs.Verdict as verdicts
 use Rattle.parse.specs.Verdict.{Told}
 use Rattle.parse.proofs.Entering.{comps_many, comps_few}
 use Rattle.parse.proofs.Judging.{components_among, applications_among, partitions_judged_lem, components_judged_lem, applications_judged_lem, verdict_told}
-use Rattle.turns.specs.declared.Fault.{Fault}
 use Rattle.turns.specs.declared.Mark.{Mark}
-use Rattle.turns.specs.Marks.{fault_of, judged}
-use Rattle.layout.specs.Parts.{part_name, part_meant}
+use Rattle.turns.specs.declared.EntryRefused.{EntryRefused}
+use Rattle.turns.specs.Refusals.{number_some}
+use Rattle.turns.specs.Marks.{Fault, at_entry, fault_of, judged}
+use Rattle.layout.specs.Parts.{part_name, part_meant, placed}
 use Rattle.validate.specs.declared.gather.Gathered.{Gathered}
 use Rattle.validate.specs.declared.gather.Applied.{Applied}
 use Rattle.validate.specs.Fronts as fronts
@@ -59,6 +61,7 @@ use Rattle.validate.specs.Faults.{
   counted_fault,
   boot_fault,
   clash_fault,
+  clash_told,
   gathered_fault,
   rest_fault,
   lists_fault,
@@ -72,71 +75,30 @@ use Rattle.validate.proofs.Placing.{rules_low}
 
 -- ---- one group
 
-module _ (section : ℕ) (f : Fault) (r : Refusal) where
-  pub in_none : f.number ≡ 0 → r ≡ refusal_at 0 0 0 → r ≡ in_entry section f
-  unfolding in_entry
-  in_none z e = rw (eq-eqb f.number 0 z) e
-
-  pub in_some : (f.number ≡ 0 → ⊥) → r ≡ refusal_at section f.number f.place → r ≡ in_entry section f
-  unfolding in_entry
-  in_some z e = rw (ne_eqb f.number 0 z) e
-
-pub first_there : (first : Bool) (r : Refusal) → first ≡ true → r ≡ refusal_at 0 0 0 → r ≡ boot_fault first
-first_there first r t e = rw t e
-
-pub first_not : (first : Bool) (r : Refusal) → first ≡ false → r ≡ refusal_at 4 70 0 → r ≡ boot_fault first
-first_not first r t e = rw t e
-
-module _ (own : Fault) (count : ℕ) (r : Refusal) where
-  pub components_none : count ≡ 0 → r ≡ refusal_at 4 50 0 → r ≡ counted_fault own count
-  unfolding counted_fault
-  components_none z e = rw (eq-eqb count 0 z) e
-
-  pub components_some : (count ≡ 0 → ⊥) → r ≡ in_entry 4 own → r ≡ counted_fault own count
-  unfolding counted_fault
-  components_some z e = rw (ne_eqb count 0 z) e
+pub in_some : (section : ℕ) (e : EntryRefused) (r : Refusal) → r ≡ refusal_at section (number e.refused) e.place → r ≡ in_entry section (record { number = number e.refused; place = e.place })
+unfolding in_entry
+in_some section e r h = let z : number e.refused ≡ 0 → ⊥ = λ w. omega (arith, w, number_some e.refused) in rw (ne_eqb (number e.refused) 0 z) h
 
 counted_is : (store ns : Seq ℕ) (mark : ℕ → Mark) → counted_fault (judged 51 store (map mark ns)) (length ns) ≡ components_fault store (map mark ns)
 unfolding counted_fault components_fault
 counted_is store [] mark = refl
 counted_is store (n ∷ ns) mark = rw (ne_eqb (length (n ∷ ns)) 0 (λ z. omega (arith, z)))
 
-module _ (cs apps at : ℕ) (r : Refusal) where
-  pub clash_component : at < cs → r ≡ refusal_at 4 60 at → r ≡ clash_fault cs (cs + apps) at
-  unfolding clash_fault
-  clash_component h q = rw (lt-ltb at cs h) q
-
-  pub clash_application : cs ≤ at → at < cs + apps → r ≡ refusal_at 5 60 (at - cs) → r ≡ clash_fault cs (cs + apps) at
-  unfolding clash_fault
-  clash_application h k q = rw (le-ltb at cs h, lt-ltb at (cs + apps) k) q
-
-  pub clash_none : cs ≤ at → cs + apps ≤ at → r ≡ refusal_at 0 0 0 → r ≡ clash_fault cs (cs + apps) at
-  unfolding clash_fault
-  clash_none h k q = rw (le-ltb at cs h, le-ltb at (cs + apps) k) q
-
--- ---- 60 to 70, of what was gathered
-
-module _ (cs : ℕ) (first : Bool) (a : Applied) (b : Refusal) (eb : b ≡ clash_fault cs (cs + a.count) a.clash) where
-  pub rest_uses : (b.number ≡ 0 → ⊥) → b ≡ gathered_fault cs first a
-  unfolding gathered_fault
-  rest_uses z = rw (← eb, ne_eqb b.number 0 z)
-
-  module _ (zb : b.number ≡ 0) (d : Refusal) (ed : d ≡ in_entry 5 a.own) where
-    pub rest_applications : (d.number ≡ 0 → ⊥) → d ≡ gathered_fault cs first a
-    unfolding gathered_fault
-    rest_applications z = rw (← eb, eq-eqb b.number 0 zb, ← ed, ne_eqb d.number 0 z)
-
-    pub rest_first : d.number ≡ 0 → (r : Refusal) → r ≡ boot_fault first → r ≡ gathered_fault cs first a
-    unfolding gathered_fault
-    rest_first z r e = rw (← eb, eq-eqb b.number 0 zb, ← ed, eq-eqb d.number 0 z) e
+-- 60, by the first of all entries that clashes
+told_clash : (cs apps at : ℕ) → clash_told cs (placed (cs + apps) at) ≡ clash_fault cs (cs + apps) at
+unfolding clash_fault
+told_clash cs apps at =
+    on (ltb at (cs + apps))
+    (λ e. rw e)
+    (λ e. let h = ltb-false at (cs + apps) e in let n : ltb at cs ≡ false = le-ltb at cs (omega (arith, h)) in rw (e, n))
 
 -- ---- the applications
 
 module _ (room store : Seq ℕ) (made : ℕ) (l : List) (el : l ≡ application_list room store made) where
-  pub applications_followed : (count : ℕ) (c : Gathered) → Rooms room made → count ≤ 32 → Few c → Followed room made l.end count c.count
-  applications_followed count c h k f = record { rooms = h; within = (applications_among room store made l h el).end; parts = k; low = f.few }
+  pub applications_followed : (c : Gathered) → Rooms room made → Few c → Followed room made l.end c.count
+  applications_followed c h f = record { rooms = h; within = (applications_among room store made l h el).end; low = f.few }
 
-  module _ (ps : Seq Partition) (c : Gathered) (a : Applied) (g : Applications room store made l.place l.end ps (take c.count c.pairs) a) (s b : Refusal) (es : s ≡ in_section 5 l.fault) (eb : b ≡ earlier s a.fault) where
+  module _ (ps : Seq Partition) (c : Gathered) (a : Applied) (g : Applications room store made l.place l.end ps c.count (take c.count c.pairs) a) (s b : Refusal) (es : s ≡ in_section 5 l.fault) (eb : b ≡ earlier s a.fault) where
     applications_are : b ≡ verdicts.application_fault room store made of01
     applications_are = applications_judged_lem room store made of01 l a.fault s b el g.fault es eb
 
@@ -149,21 +111,18 @@ module _ (room store : Seq ℕ) (made : ℕ) (l : List) (el : l ≡ application_
       unfolding applications_judged
       rules_refused rules y = rw (← applications_are, eq-eqb b.number 0 z, ne_eqb rules.number 0 y)
 
-      follows : Follows room store made ps (applications room store made) (take c.count c.pairs) a
+      follows : Follows room store made ps (applications room store made) c.count (take c.count c.pairs) a
       follows =
           let y : a.fault.number ≡ 0 = (earlier_clear s a.fault (rw (← eb) z)).1 in
           let w : (refusal_of (listed (application_r room store made 32) in_application 64 (applications room store made))).number ≡ 0 = rw (g.fault, el) at y in
           let n = listed_few (λ n. (entries.application_at room store made n 32).fault) (λ n. (entries.application_at room store made n 32).application) 5 (applications room store made) 64 w in
           rw (el, take_all 64 (applications room store made) n) at g.gathers
 
-      pub applications_few : a.count ≤ 64
-      applications_few = omega (arith, follows.listed.is, follows.listed.few)
-
       pub applications_passed : (rules r : Refusal) → rules.number ≡ 0 → r ≡ gathered_fault c.count c.first a
           → r ≡ applications_judged room store made ps rules c.count (take c.count c.pairs) c.first
       unfolding applications_judged gathered_fault rest_fault
       applications_passed rules r y e =
-          rw (← applications_are, eq-eqb b.number 0 z, eq-eqb rules.number 0 y) (rw (follows.listed.is, follows.listed.own, follows.clashes) at e)
+          rw (← applications_are, eq-eqb b.number 0 z, eq-eqb rules.number 0 y) (rw (follows.listed.own, follows.clashes, told_clash c.count (length (applications room store made))) at e)
 
 -- ---- the components
 
@@ -200,9 +159,9 @@ module _ (room store : Seq ℕ) (made : ℕ) (l : List) (el : l ≡ component_li
         let y : m.number ≡ 0 = (earlier_clear s m (rw (← ea) z)).1 in
         on (ltb 64 n) (λ f. let x : ◌≡◌ {A = ℕ} 25 0 = rw (em, f) at y in absurd (omega arith)) (λ f. ltb-false 64 n f)
 
-    pub components_counted : (count : ℕ) → Rooms room made → count ≤ 32 → Counted room made l.place l.end count
-    components_counted count h k =
-        record { rooms = h; within = (components_among room store made l h el).end; parts = k; few = omega (arith, few, items_count room l.end l.place, hn.is) }
+    pub components_counted : Rooms room made → Counted room made l.place l.end
+    components_counted h =
+        record { rooms = h; within = (components_among room store made l h el).end; few = omega (arith, few, items_count room l.end l.place, hn.is) }
 
     module _ (parts : Seq (Seq ℕ)) (c : Gathered) (g : Components room store made l.place l.end parts c) where
       components_are : c.fault ≡ verdicts.component_fault room store made of01
@@ -233,7 +192,7 @@ module _ (room store : Seq ℕ) (made : ℕ) (l : List) (el : l ≡ component_li
       unfolding components_judged
       components_refused rules y = rw (← are, ne_eqb c.fault.number 0 y)
 
-      pub components_passed : c.fault.number ≡ 0 → (rules own f r : Refusal) → f ≡ counted_fault c.own c.count → own ≡ earlier rules f
+      pub components_passed : c.fault.number ≡ 0 → (rules own f r : Refusal) → f ≡ counted_fault (at_entry c.own) c.count → own ≡ earlier rules f
           → r ≡ applications_judged room store made ps own c.count (take c.count c.pairs) c.first → r ≡ components_judged room store made ps rules
       unfolding components_judged applications_judged lists_fault
       components_passed y rules own f r ef eo er =

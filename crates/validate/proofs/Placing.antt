@@ -29,9 +29,8 @@ use Rattle.parse.specs.Placed.{earlier_place}
 use Rattle.parse.specs.Meant.{board_meant, image_meant}
 use Rattle.parse.specs.Given as goal
 use Rattle.parse.specs.Verdict.{verdict}
-use Rattle.turns.specs.declared.Fault.{Fault}
 use Rattle.turns.specs.declared.Mark.{Mark}
-use Rattle.turns.specs.Marks.{any_of, fault_of, mark_rule, noted, judged}
+use Rattle.turns.specs.Marks.{Fault, any_of, fault_of, mark_rule, noted, judged}
 use Rattle.layout.specs.Parts.{part_name, part_meant}
 use Rattle.validate.specs.Entries.{component_at, application_at}
 use Rattle.validate.specs.Fronts as fronts

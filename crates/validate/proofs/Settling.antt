@@ -6,7 +6,10 @@ use mathlib.Core.Option.{Option, none, some}
 use mathlib.Core.Path.{◌≡◌, refl, sym, ◌∙◌}
 use native.Mathlib.Omega.{arith}
 use native.Mathlib.Numerals.{add-one}
-use borrow.Author.Tests.{ltb-true, ltb-false}
+use borrow.Author.Tests.{lt-ltb, le-ltb, ltb-true, ltb-false}
+use Rattle.std.proofs.Common as places
+use Rattle.std.proofs.Common.{None, Some}
+use Rattle.layout.specs.Parts.{placed}
 use lib.Dec.{ltb}
 use lib.ListN.{length, get_or, take}
 use lib.Seq.{slice, slice-cons, slice_empty}
@@ -16,47 +19,13 @@ use Rattle.laws.specs.Cases.{on, never}
 use Rattle.laws.specs.Order.{same_eq, eq_same}
 use Rattle.parse.specs.Meant.{feature_list}
 use Rattle.turns.specs.Marks.{any_of, first_hit}
-use Rattle.turns.specs.Hits.{Later, Earlier, later_on, later_end, later_head}
+use Rattle.turns.specs.Hits.{Later, later_start, later_on, later_end, later_head}
 use Rattle.schema.specs.declared.spot.Spot.{Spot}
 use Rattle.schema.specs.Spots.{no_spot, spotted, list_at}
 use Rattle.validate.specs.declared.uses.Use.{Use}
 use Rattle.validate.specs.declared.uses.Pair.{Pair}
 use Rattle.validate.specs.Clashes.{own_use, pbp_use, differ, use_differs, clash, uses_package, share_package, package_beyond, uses_beyond}
 use Rattle.validate.specs.Gathered.{blank}
-
--- ---- whether packages are used, and what is used beyond another entry: one law for each way out
-
-module _ (store : List ℕ) (p : Spot) (b : Pair) (r : Bool) (e : r ≡ twice (spotted store p) (spotted store b.«package»)) where
-  pub uses_first : r ≡ true → true ≡ uses_package store p b
-  unfolding uses_package
-  uses_first h = rw (← e, h)
-
-  pub uses_second : (s : Bool) → r ≡ false → s ≡ twice (spotted store p) (spotted store b.pbp_package) → s ≡ uses_package store p b
-  unfolding uses_package
-  uses_second s h f = rw (← e, h) f
-
-module _ (store : List ℕ) (a b : Pair) (r : Bool) (e : r ≡ uses_package store a.«package» b) where
-  pub share_first : r ≡ true → true ≡ share_package store a b
-  unfolding share_package
-  share_first h = rw (← e, h)
-
-  pub share_second : (s : Bool) → r ≡ false → s ≡ uses_package store a.pbp_package b → s ≡ share_package store a b
-  unfolding share_package
-  share_second s h f = rw (← e, h) f
-
-module _ (store : List ℕ) (p : Spot) (b : Pair) (r : Bool) (e : r ≡ uses_package store p b) where
-  pub beyond_used : (s : Spot) → r ≡ true → s ≡ no_spot → s ≡ package_beyond store p b
-  unfolding package_beyond
-  beyond_used s h f = rw (← e, h) f
-
-  pub beyond_not : r ≡ false → p ≡ package_beyond store p b
-  unfolding package_beyond
-  beyond_not h = rw (← e, h)
-
-pub beyond_made : (store : List ℕ) (a b : Pair) (p q : Spot) → p ≡ package_beyond store a.«package» b → q ≡ package_beyond store a.pbp_package b
-    → record { «package» = p; features = a.features; pbp_package = q; pbp_features = a.pbp_features } ≡ uses_beyond store a b
-unfolding uses_beyond
-beyond_made store a b p q e f = rw (e, f)
 
 -- ---- either of two
 
@@ -150,7 +119,7 @@ module _ (room store : List ℕ) (made : ℕ) where
       rw (x.one, x.two, y.one, y.two)
 
   absent_agrees : (f : Spot) (v : Use) → false ≡ differ room store made (record { «package» = no_spot; features = f }) v
-  unfolding differ spotted
+  unfolding differ
   absent_agrees f v = refl
 
   -- a use against one that agrees with an entry
@@ -215,33 +184,38 @@ pub record Before (room store : List ℕ) (made : ℕ) (xs : List Pair) (i : ℕ
 pub before_start : (room store : List ℕ) (made : ℕ) (xs : List Pair) → Before room store made xs 0
 before_start room store made xs = record { none = λ j k m u. absurd (omega (arith, u)) }
 
-module _ (room store : List ℕ) (made : ℕ) (xs : List Pair) (n : ℕ) where
-  pub record Agreed (i found : ℕ) : Type 0 where
-    pub later : Later (hit room store made) xs n i found
+module _ (room store : List ℕ) (made : ℕ) (xs : List Pair) where
+  pub record Agreed (i : ℕ) : Type 0 where
+    pub later : Later (hit room store made) xs i
     pub before : Before room store made xs i
 
   -- what is left of an entry clashes where the entry does, from number j on
-  pub record Rest (x rest : Pair) (i j found : ℕ) : Type 0 where
+  pub record Rest (x rest : Pair) (i j : ℕ) : Type 0 where
     pub high : j ≤ i
-    pub none : found ≡ n
     pub left_any : any_of (hit room store made x) (take i xs) ≡ any_of (hit room store made rest) (slice j i xs)
 
-  module _ (i found : ℕ) (h : Agreed i found) where
-    pub agreed_end : n ≤ i → found ≡ first_hit (clash room store made) [] (take n xs)
-    agreed_end l = later_end (hit room store made) xs n i found h.later l
+  abbrev pub first_clash : places.Option ℕ
+  first_clash = placed (length xs) (first_hit (clash room store made) [] xs)
 
-    pub rest_start : (x : Pair) → Rest x x i 0 found
-    rest_start x = record { high = omega arith; none = h.later.none; left_any = refl }
+  pub agreed_start : Agreed 0
+  agreed_start = record { later = later_start (hit room store made) xs; before = before_start room store made xs }
 
-    module _ (rest : Pair) (j found' : ℕ) (s : Rest (get_or xs i blank) rest i j found') where
-      pub agreed_on : i < n → i ≤ j → Agreed (i + 1) found'
+  module _ (i : ℕ) (h : Agreed i) where
+    pub agreed_end : length xs ≤ i → None ≡ first_clash
+    agreed_end l =
+        rw (later_end (hit room store made) xs i h.later l, le-ltb (length xs) (length xs) (omega arith))
+
+    pub rest_start : (x : Pair) → Rest x x i 0
+    rest_start x = record { high = omega arith; left_any = refl }
+
+    module _ (rest : Pair) (j : ℕ) (s : Rest (get_or xs i blank) rest i j) where
+      pub agreed_on : i < length xs → i ≤ j → Agreed (i + 1)
       agreed_on l m =
           let e : j ≡ i = omega (arith, s.high) in
-          let long : i ≤ length xs = omega (arith, l, h.later.long) in
+          let long : i ≤ length xs = omega arith in
           let a : any_of (hit room store made (get_or xs i blank)) (take i xs) ≡ false = rw (e, slice_empty i xs) at s.left_any in
-          let b : Earlier (hit room store made) xs n (get_or xs i blank) i i found' = record { high = omega arith; none = s.none; left = rw (slice_empty i xs) a } in
           record {
-            later = later_on (hit room store made) xs n i found h.later blank i found' b l (omega arith);
+            later = later_on (hit room store made) xs i h.later blank l a;
             before =
                 record {
                   none = λ p k u v.
@@ -253,29 +227,30 @@ module _ (room store : List ℕ) (made : ℕ) (xs : List Pair) (n : ℕ) where
                 };
           }
 
-      module _ (l : i < n) (m : j < i) where
+      module _ (l : i < length xs) (m : j < i) where
         rest_head : any_of (hit room store made (get_or xs i blank)) (take i xs)
             ≡ pick (hit room store made rest (get_or xs j blank)) true (any_of (hit room store made rest) (slice (j + 1) i xs))
         rest_head =
-            let a : slice j i xs ≡ get_or xs j blank ∷ slice (suc j) i xs = slice-cons j i xs blank m (omega (arith, l, h.later.long)) in
+            let a : slice j i xs ≡ get_or xs j blank ∷ slice (suc j) i xs = slice-cons j i xs blank m (omega arith) in
             rw add-one (rw a at s.left_any)
 
-        pub rest_not : (t : Bool) → t ≡ share_package store rest (get_or xs j blank) → not t ≡ true → Rest (get_or xs i blank) rest i (j + 1) found'
+        pub rest_not : (t : Bool) → t ≡ share_package store rest (get_or xs j blank) → not t ≡ true → Rest (get_or xs i blank) rest i (j + 1)
         rest_not t e f =
             let z : hit room store made rest (get_or xs j blank) ≡ false = not_shared room store made rest (get_or xs j blank) (sym e ∙ not_true t f) in
-            record { high = omega arith; none = s.none; left_any = rw z at rest_head }
+            record { high = omega arith; left_any = rw z at rest_head }
 
         module _ (r : Bool) (e : r ≡ clash room store made rest (get_or xs j blank)) where
-          pub rest_hit : r ≡ true → i ≡ first_hit (clash room store made) [] (take n xs)
+          pub rest_hit : r ≡ true → Some i ≡ first_clash
           rest_hit f =
               let a : any_of (hit room store made (get_or xs i blank)) (take i xs) ≡ true = rw (← e, f) at rest_head in
-              let b = rw a at (later_head (hit room store made) xs n i found h.later blank l) in
-              omega (arith, b)
+              let b = rw a at (later_head (hit room store made) xs i h.later blank l) in
+              let k : first_hit (hit room store made) [] xs ≡ i = omega (arith, b) in
+              rw (k, lt-ltb i (length xs) l)
 
-          pub rest_on : (rest' : Pair) → r ≡ false → rest' ≡ uses_beyond store rest (get_or xs j blank) → Rest (get_or xs i blank) rest' i (j + 1) found'
+          pub rest_on : (rest' : Pair) → r ≡ false → rest' ≡ uses_beyond store rest (get_or xs j blank) → Rest (get_or xs i blank) rest' i (j + 1)
           rest_on rest' f g =
               let z : hit room store made rest (get_or xs j blank) ≡ false = sym e ∙ f in
-              let long : i ≤ length xs = omega (arith, l, h.later.long) in
+              let long : i ≤ length xs = omega arith in
               let y = any_alike xs blank i long (hit room store made rest) (hit room store made (uses_beyond store rest (get_or xs j blank))) (i - (j + 1)) (j + 1) (omega (arith, m))
               (λ k u v. beyond_clash room store made rest (get_or xs j blank) (get_or xs k blank) z (h.before.none j k (omega (arith, u)) v)) in
-              record { high = omega arith; none = s.none; left_any = rw g ((rw z at rest_head) ∙ y) }
+              record { high = omega arith; left_any = rw g ((rw z at rest_head) ∙ y) }

@@ -294,7 +294,7 @@ module _ (room store : List ℕ) (made : ℕ) where
           })
 
       application_uses : (ps : List Partition) → use_of (application_of room store made name 32 n) ≡ uses_in (application_at room store made ps n).pair
-      unfolding spotted application_entry parsed.application_at application_read loading
+      unfolding application_entry parsed.application_at application_read loading
       application_uses ps =
           let f = (parsed.table_at room store made n).fields in
           let list = (parsed.application_at room store made n 32).application.features in

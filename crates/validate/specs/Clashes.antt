@@ -7,6 +7,7 @@ use Rattle.schema.specs.declared.Features.{Features}
 use Rattle.schema.specs.declared.Component.{Component}
 use Rattle.parse.specs.Meant.{feature_list}
 use Rattle.schema.specs.declared.spot.Spot.{Spot}
+use Rattle.schema.specs.declared.spot.Spot.TheVariants.{Bytes}
 use Rattle.schema.specs.Spots.{no_spot, text_spot, list_spot, spotted, list_at}
 use Rattle.validate.specs.declared.uses.Use.{Use}
 use Rattle.validate.specs.declared.uses.Pair.{Pair}
@@ -64,7 +65,7 @@ pair_of_component store c =
 
 -- where the key of value number n is
 abbrev pub key_spot : List ℕ → ℕ → Spot
-key_spot room n = record { kind = 1; from = (slot_at room n).key; len = (slot_at room n).len }
+key_spot room n = Bytes (slot_at room n).key (slot_at room n).len
 
 -- an application's package is its key
 abbrev pub pair_of_application : Spot → Features → Pair

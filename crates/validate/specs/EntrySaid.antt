@@ -1,11 +1,16 @@
 -- The rules over what was read are 01's rules over what it means: components, applications, and the first partition.
-use Rattle.std.specs.Prelude.{ℕ, ◌+◌, Bool, ◌≡◌, eqb}
+use Rattle.std.specs.Prelude.{ℕ, ◌+◌, ◌%◌, Bool, ◌≡◌, eqb, length, is_some, Option, Some, None, Result, Ok, Err}
+use Rattle.std.specs.List.{slice_get}
+use Rattle.std.proofs.Math.Option as amounts
 use Rattle.std.proofs.Math.Bool.{true, false}
 use mathlib.Core.List.{List, [], ◌∷◌, ◌++◌, map}
 use Rattle.std.proofs.Math.Path.{refl, ap}
 use Rattle.std.proofs.Common.{sym, arith, eqb-true}
 use Rattle.std.proofs.lemmas.Bool.{eqb-false}
 use Rattle.meaning.specs.Base.{pick, nil?, ascii, same}
+use Rattle.meaning.specs.declared.Refused.{Refused}
+use Rattle.meaning.specs.declared.Refused.TheVariants.{TwoPbps, UpdaterWithoutRam, EmptyApplicationName, ApplicationNameTooLong, EmptyFilename}
+use Rattle.meaning.specs.Numbered.{told}
 use Rattle.meaning.specs.Refusal.{in_component, in_application}
 use Rattle.meaning.specs.Verdict.{Verdict, or_else, long, among, in_turn, with_last}
 use Rattle.meaning.specs.Schema as schemas
@@ -15,8 +20,6 @@ use Rattle.tree.specs.Doors.{field}
 use Rattle.tree.specs.Room.{slot_at}
 use Rattle.schema.specs.declared.Text.{Text}
 use Rattle.schema.specs.declared.Text.TheVariants as texts
-use Rattle.schema.specs.declared.Number.{Number}
-use Rattle.schema.specs.declared.Number.TheVariants as numbers
 use Rattle.schema.specs.declared.Partition.{Partition}
 use Rattle.schema.specs.declared.Component.{Component}
 use Rattle.schema.specs.declared.Application.{Application}
@@ -31,14 +34,14 @@ use Rattle.parse.specs.Reads.{Kept, text_kept, clip_none}
 use Rattle.parse.specs.Whole.{component_of, application_of}
 use Rattle.parse.specs.Answers.{Says}
 use Rattle.turns.specs.declared.Mark.{Mark}
-use Rattle.turns.specs.declared.Fault.{Fault}
-use Rattle.turns.specs.Marks.{any_of, mark_rule, noted, mark_verdict, judged, entry_fault}
+use Rattle.turns.specs.Refusals.{told_first}
+use Rattle.turns.specs.Marks.{Fault, first_err, any_of, mark_rule, noted, mark_verdict, judged, entry_fault}
 use Rattle.turns.specs.Turns as turns
-use Rattle.layout.specs.Parts.{part_name, part_meant, rank, among_rank, rank_first, aim}
+use Rattle.layout.specs.Parts.{part_name, part_meant, rank, placed, placed_some, among_rank, placed_first, aim}
 use Rattle.turns.specs.Turns.{judged_verdict, says_fine, says_refused}
 use Rattle.validate.specs.declared.uses.Pair.{Pair}
 use Rattle.validate.specs.Entries as entries
-use Rattle.validate.specs.Entries.{counted, is_empty, component_entry, application_entry, component_at, application_at}
+use Rattle.validate.specs.Entries.{is_empty, component_entry, application_entry, component_at, application_at}
 use Rattle.validate.specs.Faults.{in_entry, components_fault, applications_fault, boot_fault}
 
 -- ---- entries in turn
@@ -103,9 +106,9 @@ nil_more : (s : List ℕ) (b : ℕ) (t : List ℕ) → nil? (s ++ (b ∷ t)) ≡
 nil_more [] b t = refl
 nil_more (a ∷ s) b t = refl
 
-given_number : (n : Number) → meant.given (amount n) ≡ counted n
-given_number numbers.Absent = refl
-given_number (numbers.Of n) = refl
+given_number : (n : Option ℕ) → meant.given (amount n) ≡ is_some n
+given_number None = refl
+given_number (Some n) = refl
 
 module _ (store name : List ℕ) where
   pub kept_spelled : (t : Text) → Kept t → spelled store name t ≡ entries.kept store t
@@ -146,6 +149,59 @@ module _ (room store : List ℕ) (made n : ℕ) where
         partition = or_one Kept (λ from len. tt) (text_read (field room store f (ascii "partition"))).text (texts.Stored 0 0) (text_kept (field room store f (ascii "partition"))) tt;
       }
 
+-- each rule by its number
+source_told : (pack file : Bool) → told (entries.source_checked pack file) ≡ meant.source_fault pack file
+unfolding meant.source_fault
+source_told true true = refl
+source_told true false = refl
+source_told false true = refl
+source_told false false = refl
+
+boot_told : (pbp own updater ram : Bool)
+    → told (pick {X = Result (Unit {0}) Refused} (pick pbp own false) (Err TwoPbps) (pick (pick updater (pick ram false true) false) (Err UpdaterWithoutRam) (Ok tt)))
+    ≡ meant.boot_fault pbp own updater ram
+unfolding meant.boot_fault
+boot_told pbp own updater ram =
+    on (pick pbp own false) (λ e. rw e) (λ e. rw e (on (pick updater (pick ram false true) false) (λ f. rw f) (λ f. rw f)))
+
+target_told : (empty updater known : Bool) → told (entries.target_checked empty updater known) ≡ pick empty (pick updater 0 57) (pick known 0 58)
+target_told true true known = refl
+target_told true false known = refl
+target_told false updater true = refl
+target_told false updater false = refl
+
+reserve_told : (n : ℕ) → told (entries.reserve_checked n) ≡ meant.reserve_fault n
+unfolding meant.reserve_fault
+reserve_told n = on (eqb (n % 512) 0) (λ e. rw e) (λ e. rw e)
+
+name_told : (store : List ℕ) (t : Text) → told (entries.name_checked store t) ≡ pick (long (entries.kept store t)) 52 0
+name_told store t = on (long (entries.kept store t)) (λ e. rw e) (λ e. rw e)
+
+late_told : (store : List ℕ) (known : Bool) (c : Component)
+    → told (entries.late_checked store known c)
+    ≡ or_else (pick (long (entries.kept store c.head.name)) 52 0)
+    (or_else (meant.source_fault (is_given c.head.«package») (is_given c.head.file))
+    (or_else (meant.boot_fault (is_given c.boot.pbp) (is_given c.boot.pbp_package) c.boot.updater (is_some c.boot.ram))
+    (or_else (pick (nil? (entries.kept store c.role.partition)) (pick c.boot.updater 0 57) (pick known 0 58)) (meant.reserve_fault c.load.ext_reserve))))
+unfolding entries.late_checked
+late_told store known c =
+    let n = entries.name_checked store c.head.name in
+    let s = entries.source_checked (is_given c.head.«package») (is_given c.head.file) in
+    let b = entries.boot_checked c.boot in
+    let t = entries.target_checked (nil? (entries.kept store c.role.partition)) c.boot.updater known in
+    let r = entries.reserve_checked c.load.ext_reserve in
+    rw (
+      told_first n (first_err s (first_err b (first_err t r))),
+      told_first s (first_err b (first_err t r)),
+      told_first b (first_err t r),
+      told_first t r,
+      name_told store c.head.name,
+      source_told (is_given c.head.«package») (is_given c.head.file),
+      boot_told (is_given c.boot.pbp) (is_given c.boot.pbp_package) c.boot.updater (is_some c.boot.ram),
+      target_told (nil? (entries.kept store c.role.partition)) c.boot.updater known,
+      reserve_told c.load.ext_reserve,
+    )
+
 -- the name's rules in one, or one after the other
 name_turned : (m l : Bool) (x : ℕ) → or_else (pick m 51 (pick l 52 0)) x ≡ or_else (pick m 51 0) (or_else (pick l 52 0) x)
 name_turned true l x = refl
@@ -154,9 +210,11 @@ name_turned false l x = refl
 module _ (room store : List ℕ) (made : ℕ) (name : List ℕ) (parts : List (List ℕ)) where
   component_rule : (earlier : List (List ℕ)) (fault : ℕ) (c : Component) → KeptIn c
       → meant.component_fault parts earlier (component_meant room store made name c) ≡ mark_rule 51 store earlier (component_entry store parts fault c).mark
-  unfolding meant.component_fault meant.component_name meant.target_fault entry_fault component_entry entries.late_fault entries.boot_fault
+  unfolding meant.component_fault meant.component_name meant.target_fault entry_fault component_entry
   component_rule earlier fault c k =
       rw (
+        late_told store (is_some (placed (length parts) (rank (entries.referred store c.role.partition) parts))) c,
+        placed_some (length parts) (rank (entries.referred store c.role.partition) parts),
         kept_spelled store name c.head.name k.name,
         kept_spelled store name c.role.partition k.partition,
         given_text store name c.head.«package»,
@@ -206,8 +264,9 @@ module _ (room store : List ℕ) (made n : ℕ) where
       }
 
 -- the name's rule in its place, or after the early rules
-early_turned : (e l f m : Bool) (p x : ℕ)
-    → pick e 61 (pick l 62 (pick f 63 (or_else p (pick m 65 x)))) ≡ or_else (pick e 61 (pick l 62 (pick f 63 p))) (or_else (pick m 65 0) x)
+early_turned : (e l f m : Bool) (p : Result (Unit {0}) Refused) (x : ℕ)
+    → pick e 61 (pick l 62 (pick f 63 (or_else (told p) (pick m 65 x))))
+    ≡ or_else (told (pick {X = Result (Unit {0}) Refused} e (Err EmptyApplicationName) (pick l (Err ApplicationNameTooLong) (pick f (Err EmptyFilename) p)))) (or_else (pick m 65 0) x)
 early_turned true l f m p x = refl
 early_turned false true f m p x = refl
 early_turned false false true m p x = refl
@@ -216,16 +275,21 @@ early_turned false false false false p x = refl
 
 -- the first partition of a name is the one with the name's rank
 place_says : (store name : List ℕ) (ps : List Partition)
-    → meant.place_fault (meant.first_named name (map (part_meant store) ps)) ≡ entries.place_fault ps (rank name (map (part_name store) ps))
+    → meant.place_fault (meant.first_named name (map (part_meant store) ps)) ≡ told (entries.place_checked (slice_get ps (rank name (map (part_name store) ps))))
 place_says store name [] = refl
-place_says store name (p ∷ ps) = on (same name (part_name store p)) (λ e. rw e) (λ e. rw e (place_says store name ps))
+place_says store name (p ∷ ps) = on (same name (part_name store p)) (λ e. rw e (on p.locked (λ f. rw f) (λ f. rw f))) (λ e. rw e (place_says store name ps))
+
+address_told : (a : amounts.Option ℕ) → told (entries.address_checked a) ≡ meant.address_fault a
+unfolding meant.address_fault
+address_told amounts.none = refl
+address_told (amounts.some a) = on (eqb (a % 4) 0) (λ e. rw e) (λ e. rw e)
 
 module _ (room store : List ℕ) (made : ℕ) (name : List ℕ) (ps : List Partition) where
   abbrev laid : List schemas.Partition
   laid = map (part_meant store) ps
 
   aim_says : (t : Text) → Named t
-      → meant.place_fault (meant.first_named (spelled store name t) laid) ≡ entries.place_fault ps (aim false store (map (part_name store) ps) t)
+      → meant.place_fault (meant.first_named (spelled store name t) laid) ≡ told (entries.place_checked (slice_get ps (aim false store (map (part_name store) ps) t)))
   aim_says texts.Absent h = absurd h
   aim_says (texts.Stored from len) h = place_says store (clip from len store) ps
   aim_says texts.Lent h = absurd h
@@ -234,11 +298,11 @@ module _ (room store : List ℕ) (made : ℕ) (name : List ℕ) (ps : List Parti
 
   application_rule : (earlier : List (List ℕ)) (fault : ℕ) (pair : Pair) (a : Application) → Placing a
       → meant.application_fault laid earlier (application_meant room store made name a) ≡ mark_rule 65 store earlier (application_entry store ps fault pair a).mark
-  unfolding meant.application_fault entry_fault application_entry entries.early_fault
+  unfolding meant.application_fault entry_fault application_entry
   application_rule earlier fault pair a k =
-      rw (kept_spelled store name a.name k.name, empty_spelled store name a.filename k.filename, aim_says a.partition k.partition)
+      rw (kept_spelled store name a.name k.name, empty_spelled store name a.filename k.filename, aim_says a.partition k.partition, address_told (amount a.load_address))
       (early_turned (nil? (entries.kept store a.name)) (long (entries.kept store a.name)) (is_empty store a.filename)
-      (among (entries.kept store a.name) earlier) (entries.place_fault ps (aim false store (map (part_name store) ps) a.partition)) (meant.address_fault (amount a.load_address)))
+      (among (entries.kept store a.name) earlier) (entries.place_checked (slice_get ps (aim false store (map (part_name store) ps) a.partition))) (meant.address_fault (amount a.load_address)))
 
   applications_turn : (ns : List ℕ)
       → meant.application_rules laid (map (application_of room store made name 32) ns)
@@ -266,7 +330,7 @@ module _ (room store : List ℕ) (made : ℕ) (name p : List ℕ) (ps : List (Li
   first_targets (n ∷ ns) =
       let t = (parsing.component_at room store made n 32).component.role.partition in
       rw (kept_spelled store name t (component_kept room store made n).partition, first_targets ns)
-      (ap (λ (b : Bool). pick (pick (nil? (entries.kept store t)) false b) true (any_of (λ i. (component_at room store made (p ∷ ps) i).first) ns)) (sym (rank_first (entries.referred store t) p ps)))
+      (ap (λ (b : Bool). pick (pick (nil? (entries.kept store t)) false b) true (any_of (λ i. (component_at room store made (p ∷ ps) i).first) ns)) (sym (placed_first (entries.referred store t) p ps)))
 
   pub boot_says : (ns : List ℕ)
       → Says (meant.boot_rule (p ∷ ps) (map (component_of room store made name 32) ns)) (boot_fault (any_of (λ n. (component_at room store made (p ∷ ps) n).first) ns)) tt

@@ -1,5 +1,5 @@
 -- Level 2 of the rules: the first refusal in 01's order, over marks and packages.
-use Rattle.std.specs.Prelude.{ℕ, ◌+◌, ◌-◌, Bool, List as Seq, [], map, ◌++◌, eqb, ltb, length, take}
+use Rattle.std.specs.Prelude.{ℕ, ◌+◌, ◌-◌, Bool, Option, None, Some, List as Seq, [], map, ◌++◌, eqb, ltb, length, take}
 use Rattle.meaning.specs.Base.{pick, nil?}
 use Rattle.meaning.specs.Limits.{of01}
 use Rattle.meaning.specs.Layout as meant
@@ -14,9 +14,8 @@ use Rattle.parse.specs.Entries.{refusal_at, partition_at}
 use Rattle.parse.specs.Front.{front_read}
 use Rattle.parse.specs.Refused.{lent_text, partition_numbers}
 use Rattle.parse.specs.Verdict as verdicts
-use Rattle.turns.specs.declared.Fault.{Fault}
 use Rattle.turns.specs.declared.Mark.{Mark}
-use Rattle.turns.specs.Marks.{any_of, first_hit, fault_of, judged}
+use Rattle.turns.specs.Marks.{Fault, at_entry, any_of, first_hit, fault_of, judged}
 use Rattle.layout.specs.Parts.{part_name, part_meant}
 use Rattle.validate.specs.declared.uses.Pair.{Pair}
 use Rattle.validate.specs.declared.gather.Gathered.{Gathered}
@@ -56,9 +55,14 @@ boot_fault first = pick first (refusal_at 0 0 0) (refusal_at 4 70 0)
 unfoldable pub clash_fault : ℕ → ℕ → ℕ → Refusal
 clash_fault cs all at = pick (ltb at cs) (refusal_at 4 60 at) (pick (ltb at all) (refusal_at 5 60 (at - cs)) (refusal_at 0 0 0))
 
+-- the same of the first entry that clashes, where there is one
+abbrev pub clash_told : ℕ → Option ℕ → Refusal
+clash_told cs None = refusal_at 0 0 0
+clash_told cs (Some at) = pick (ltb at cs) (refusal_at 4 60 at) (refusal_at 5 60 (at - cs))
+
 -- 60 to 70, of applications that were gathered after components
 unfoldable pub gathered_fault : ℕ → Bool → Applied → Refusal
-gathered_fault cs first a = earlier (clash_fault cs (cs + a.count) a.clash) (earlier (in_entry 5 a.own) (boot_fault first))
+gathered_fault cs first a = earlier (clash_told cs a.clash) (earlier (in_entry 5 (at_entry a.own)) (boot_fault first))
 
 module _ (room store : Seq ℕ) (made : ℕ) where
   -- ---- all of them, the partitions given

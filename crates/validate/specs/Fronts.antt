@@ -1,8 +1,9 @@
 -- Level 2 of 30 to 35: 01's rules over the board and the image that were read.
-use Rattle.std.specs.Prelude.{ℕ, List, length}
-use Rattle.std.proofs.Math.Option.{some}
+use Rattle.std.specs.Prelude.{ℕ, List, Option, None, Some}
+use Rattle.std.proofs.Math.Option as meant_options
 use Rattle.meaning.specs.Base.{pick, same}
-use Rattle.meaning.specs.Schema.{d13x, d21x, media_for, chip_word}
+use Rattle.meaning.specs.Schema as schemas
+use Rattle.meaning.specs.Schema.{media_for, chip_word}
 use Rattle.meaning.specs.Rules as meant
 use Rattle.schema.specs.declared.Text.{Text}
 use Rattle.schema.specs.declared.Text.TheVariants as texts
@@ -29,15 +30,10 @@ pub record Fronted (b : Board) (i : Image) : Type 0 where
   pub platform : Plain i.platform
   pub app : Plain i.app
 
-abbrev pub sized : List ℕ → List ℕ → Text → ℕ
-sized store name t = length (spelled store name t)
-
--- 35, by the width of the target
-abbrev pub narrow_fault : Chip → ℕ
-narrow_fault chip = meant.width_fault (chip_meant chip) (some d13x)
-
-abbrev pub wide_fault : Chip → ℕ
-wide_fault chip = meant.width_fault (chip_meant chip) (some d21x)
+-- a chip as 01 has it, where there is one
+abbrev pub chip_if : Option Chip → meant_options.Option schemas.Chip
+chip_if None = meant_options.none
+chip_if (Some chip) = meant_options.some (chip_meant chip)
 
 -- 30, 31
 unfoldable pub device_fault : List ℕ → List ℕ → Chip → Image → ℕ

@@ -1,197 +1,127 @@
 // 52 to 59: what a component's own rules say, and the entry it makes.
 
-ghost use Rattle.std.specs.Prelude.{◌≡◌, ◌≤◌, false, eqb};
-ghost use Rattle.meaning.specs.Base.{pick};
-ghost use Rattle.meaning.specs.Rules as meant;
-ghost use Rattle.tree.specs.Doors.{Rooms, Stood};
-ghost use Rattle.validate.specs.Entries.{part_names};
+ghost use Rattle.std.specs.Prelude.{◌≡◌, map, false};
+ghost use Rattle.meaning.specs.Base.{pick, nil?};
+ghost use Rattle.tree.specs.Doors.{Stood};
+ghost use Rattle.layout.specs.Parts.{part_name, is_first};
 ghost use Rattle.validate.specs.Entries as entries;
+ghost use Rattle.tree.specs.Both.{on};
 
-use crate::Entry;
-use meaning::{FEATURES, PARTITIONS};
-use parse::field::first_fault;
-use schema::{Boot, Component, LONGEST_NAME, Number, Partition, Text};
+use crate::{Entry, kept};
+use meaning::{FEATURES, Refused};
+use schema::{Boot, Component, LONGEST_NAME, Partition, Text};
+use tree::Rooms;
 use turns::Mark;
 
-fn number_given(n: Number) -> bool
-    ensures { result ≡ entries.counted n }
+// 52: name over 32 bytes.
+fn check_name(store: &[u8], name: Text) -> Result<(), Refused>
+    ensures { result ≡ entries.name_checked store.now name }
 {
-    match n {
-        Number::Absent => false,
-        Number::Of(_) => true,
+    if LONGEST_NAME < kept(store, name).len() {
+        return Err(Refused::ComponentNameTooLong);
     }
+    Ok(())
 }
 
 // 53, 54: package and file; neither.
-fn source_fault(pack: bool, file: bool) -> u32
-    ensures { result ≡ meant.source_fault pack file }
+fn check_source(pack: bool, file: bool) -> Result<(), Refused>
+    ensures { result ≡ entries.source_checked pack file }
 {
-    if pack {
-        if file {
-            return 53;
-        }
-        return 0;
+    if pack && file {
+        return Err(Refused::TwoSources);
     }
-    if file {
-        return 0;
+    if !pack && !file {
+        return Err(Refused::NoSource);
     }
-    54
+    Ok(())
 }
 
-// 56: updater without `ram`.
-fn ram_fault(updater: bool, ram: bool) -> u32
-    ensures { result ≡ pick updater (pick ram 0 56) 0 }
+// 55, 56: `pbp` and `pbp_package`; updater without `ram`.
+fn check_boot(b: Boot) -> Result<(), Refused>
+    ensures { result ≡ entries.boot_checked b }
 {
-    if updater {
-        if ram {
-            return 0;
-        }
-        return 56;
+    if b.pbp.is_given() && b.pbp_package.is_given() {
+        return Err(Refused::TwoPbps);
     }
-    0
-}
-
-// 55, 56: `pbp` and `pbp_package`, and then the updater.
-fn boot_fault(b: Boot) -> u32
-    ensures { result ≡ entries.boot_fault b }
-{
-    let pbp = b.pbp;
-    let own = b.pbp_package;
-    let ram = b.ram;
-    let late = ram_fault(b.updater, number_given(ram));
-    if pbp.is_given() {
-        if own.is_given() {
-            return 55;
-        }
-        return late;
+    if b.updater && b.ram.is_none() {
+        return Err(Refused::UpdaterWithoutRam);
     }
-    late
+    Ok(())
 }
 
 // 57, 58: no partition and no updater; unknown partition.
-fn target_fault(empty: bool, updater: bool, known: bool) -> u32
-    ensures { result ≡ entries.target_fault empty updater known }
+fn check_target(reference: &[u8], updater: bool, known: bool) -> Result<(), Refused>
+    ensures { result ≡ entries.target_checked (nil? reference.now) updater known }
 {
-    if empty {
+    if reference.is_empty() {
         if updater {
-            return 0;
+            Ok(())
+        } else {
+            Err(Refused::NoPartition)
         }
-        return 57;
+    } else if known {
+        Ok(())
+    } else {
+        Err(Refused::UnknownPartition)
     }
-    if known {
-        return 0;
-    }
-    58
 }
 
 // What an extension reserves comes in blocks of so many bytes.
 const RESERVE_BLOCK: u32 = 512;
 
 // 59: `ext_reserve` not a multiple of 512.
-fn reserve_fault(n: u32) -> u32
-    ensures { result ≡ meant.reserve_fault n }
+fn check_reserve(n: u32) -> Result<(), Refused>
+    ensures { result ≡ entries.reserve_checked n }
 {
-    if n % RESERVE_BLOCK == 0 {
-        return 0;
+    if n % RESERVE_BLOCK != 0 {
+        return Err(Refused::ReserveOffBlock);
     }
-    59
-}
-
-// 52: name over 32 bytes.
-fn name_fault(store: &[u8], name: Text) -> u32
-    ensures { result ≡ entries.name_fault store.now name }
-{
-    if LONGEST_NAME < schema::stored(store, name.start(), name.length()).len() {
-        return 52;
-    }
-    0
+    Ok(())
 }
 
 // 52 to 59; whether the reference names a partition is known.
-fn late_fault(store: &[u8], c: Component, known: bool) -> u32
-    ensures { result ≡ entries.late_fault store.now known c }
+fn check_late(store: &[u8], c: Component, known: bool) -> Result<(), Refused>
+    ensures { result ≡ entries.late_checked store.now known c }
 {
-    let head = c.head;
-    let role = c.role;
-    let boot = c.boot;
-    let load = c.load;
-    let name = head.name;
-    let package = head.package;
-    let file = head.file;
-    let partition = role.partition;
-    let reference = schema::stored(store, partition.start(), partition.length());
-    let target = target_fault(reference.len() == 0, boot.updater, known);
-    let late = first_fault(
-        boot_fault(boot),
-        first_fault(target, reserve_fault(load.ext_reserve)),
-    );
-    first_fault(
-        name_fault(store, name),
-        first_fault(source_fault(package.is_given(), file.is_given()), late),
-    )
+    check_name(store, c.head.name)?;
+    check_source(c.head.package.is_given(), c.head.file.is_given())?;
+    check_boot(c.boot)?;
+    check_target(kept(store, c.role.partition), c.boot.updater, known)?;
+    check_reserve(c.load.ext_reserve)
 }
 
-// The partition's name in a component's reference.
-fn reference<'a>(store: &'a [u8], t: Text) -> &'a [u8]
-    ensures { result.now ≡ entries.referred store.now t }
+// Whether the partition found, among so many, is the first.
+fn in_first(reference: &[u8], at: Option<usize>, count: usize) -> bool
+    ensures { result ≡ pick (nil? reference.now) false (is_first count at) }
 {
-    layout::partition_name(schema::stored(store, t.start(), t.length()))
+    !reference.is_empty() && at.unwrap_or(count) == 0
 }
 
-// Whether the partition found is the first.
-fn in_first(at: usize, empty: bool) -> bool
-    ensures { result ≡ pick empty false (eqb at 0) }
-{
-    if empty {
-        return false;
-    }
-    at == 0
-}
-
-fn entry_of(
-    store: &[u8],
-    fault: u32,
-    c: Component,
-    items: [Partition; PARTITIONS],
-    count: usize,
-) -> Entry
-    requires { count ≤ 32 }
-    ensures { result ≡ entries.component_entry store.now (part_names store.now count items) fault
+fn entry_of(store: &[u8], fault: u32, c: Component, items: &[Partition]) -> Entry
+    ensures { result ≡ entries.component_entry store.now (map (part_name store.now) items.now) fault
         c }
 {
-    let head = c.head;
-    let role = c.role;
-    let name = head.name;
-    let partition = role.partition;
-    let at = layout::find_partition(store, items, count, reference(store, partition));
-    let empty = schema::stored(store, partition.start(), partition.length()).len() == 0;
+    let reference = kept(store, c.role.partition);
+    let at = layout::find_partition(store, items, layout::partition_name(reference));
     Entry {
         fault,
         mark: Mark {
-            from: name.start(),
-            len: name.length(),
-            early: 0,
-            late: late_fault(store, c, at < count),
+            from: c.head.name.start(),
+            len: c.head.name.length(),
+            early: Ok(()),
+            late: check_late(store, c, at.is_some()),
         },
         pair: crate::uses::pair_of_component(store, c),
-        first: in_first(at, empty),
+        first: in_first(reference, at, items.len()),
     }
 }
 
 // The entry of the component that value number n is.
-pub fn entry(
-    tree: &[u8],
-    store: &[u8],
-    made: usize,
-    n: usize,
-    items: [Partition; PARTITIONS],
-    count: usize,
-) -> Entry
-    requires { Rooms tree.now made × Stood tree.now n × (count ≤ 32) }
-    ensures { result ≡ entries.component_at tree.now store.now made
-        (part_names store.now count items) n }
+pub fn entry(rooms: Rooms<'_>, n: usize, items: &[Partition]) -> Entry
+    requires { Stood rooms.tree.now n }
+    ensures { result ≡ on entries.component_at rooms.entry
+        (map (part_name rooms.entry.store.now) items.now) n }
 {
-    let r = parse::entry::component_at(tree, store, made, n, FEATURES);
-    let c = r.component;
-    entry_of(store, r.fault, c, items, count)
+    let r = parse::entry::component_at(rooms, n, FEATURES);
+    entry_of(rooms.store, r.fault, r.component, items)
 }

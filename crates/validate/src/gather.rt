@@ -1,19 +1,19 @@
 // All entries of a preset in their order: their marks, and the packages they use.
 
-ghost use Rattle.std.specs.Prelude.{◌≡◌, take, replicate};
+ghost use Rattle.std.specs.Prelude.{◌≡◌, map, take, replicate};
 ghost use Rattle.parse.specs.Refusals.{earlier};
-ghost use Rattle.validate.specs.Entries.{part_names};
+ghost use Rattle.layout.specs.Parts.{part_name};
 ghost use Rattle.validate.specs.Gathered as gathered;
 ghost use Rattle.validate.specs.Gathered.{Counted, Components, Applications, Followed};
+ghost use Rattle.tree.specs.Both.{on};
 
 use crate::uses::{MOST_PAIRS, Pair};
-use features::TOO_MANY;
-use meaning::{APPLICATIONS, PARTITIONS};
+use meaning::{APPLICATIONS, Refused};
 use parse::Refusal;
-use parse::entry::{List, Partitions};
+use parse::entry::List;
 use schema::Partition;
-use tree::{Item, Key};
-use turns::Fault;
+use tree::Rooms;
+use turns::EntryRefused;
 
 // The components: the first fault of their records; how many there are, and whether one lies in the first partition;
 // what their own rules say, and the packages they use.
@@ -22,7 +22,7 @@ pub struct Gathered {
     pub fault: Refusal,
     pub count: usize,
     pub first: bool,
-    pub own: Fault,
+    pub own: Result<(), EntryRefused>,
     pub pairs: [Pair; MOST_PAIRS],
 }
 
@@ -32,14 +32,14 @@ pub struct Gathered {
 pub struct Applied {
     pub fault: Refusal,
     pub count: usize,
-    pub own: Fault,
-    pub clash: usize,
+    pub own: Result<(), EntryRefused>,
+    pub clash: Option<usize>,
 }
 
 fn no_pairs() -> [Pair; MOST_PAIRS]
     ensures { result ≡ replicate 128 gathered.blank }
 {
-    let none = schema::spot::no_spot();
+    let none = schema::spot::Spot::Nothing;
     let blank = Pair {
         package: none,
         features: none,
@@ -49,15 +49,6 @@ fn no_pairs() -> [Pair; MOST_PAIRS]
     [blank; MOST_PAIRS]
 }
 
-fn either(a: bool, b: bool) -> bool
-    ensures { result ≡ gathered.either a b }
-{
-    if a {
-        return true;
-    }
-    b
-}
-
 // The first fault, told at an entry.
 fn earlier_in(fault: Refusal, section: u32, number: u32, place: usize) -> Refusal
     ensures { result ≡ earlier fault (gathered.fault_at section number place) }
@@ -65,24 +56,17 @@ fn earlier_in(fault: Refusal, section: u32, number: u32, place: usize) -> Refusa
     if fault.number != 0 {
         return fault;
     }
-    if number != 0 {
-        return parse::refusal_at(section, number, place);
+    if number == 0 {
+        return parse::refusal_at(0, 0, 0);
     }
-    parse::refusal_at(0, 0, 0)
+    parse::refusal_at(section, number, place)
 }
 
 // All components of a list that has no more than 64, up to the first with a fault.
-pub fn each_component(
-    tree: &[u8],
-    store: &[u8],
-    made: usize,
-    l: List,
-    items: [Partition; PARTITIONS],
-    count: usize,
-) -> Gathered
-    requires { Counted tree.now made l.place l.end count }
-    ensures { Components tree.now store.now made l.place l.end
-        (part_names store.now count items) result }
+pub fn each_component(rooms: Rooms<'_>, l: List, items: &[Partition]) -> Gathered
+    requires { Counted rooms.tree.now rooms.made l.place l.end }
+    ensures { on Components rooms.entry l.place l.end
+        (map (part_name rooms.entry.store.now) items.now) result }
 {
     let mut marks = turns::no_marks();
     let mut pairs = no_pairs();
@@ -90,27 +74,19 @@ pub fn each_component(
     let mut first = false;
     let mut i = 0;
     let mut w = tree::items_of(l.place, l.end);
-    loop {
-        let step = tree::next_item(tree, w);
-        match step {
-            Item::End => break,
-            Item::At { value, rest } => {
-                let e = crate::component::entry(tree, store, made, value, items, count);
-                if e.fault != 0 {
-                    fault = parse::refusal_at(parse::IN_COMPONENT, e.fault, i);
-                    break;
-                }
-                let mark = e.mark;
-                let pair = e.pair;
-                marks[i] = mark;
-                pairs[i] = pair;
-                first = either(first, e.first);
-                i += 1;
-                w = rest;
-            }
+    while let Some(step) = tree::next_item(rooms.tree, w) {
+        let e = crate::component::entry(rooms, step.value, items);
+        if e.fault != 0 {
+            fault = parse::refusal_at(parse::IN_COMPONENT, e.fault, i);
+            break;
         }
+        marks[i] = e.mark;
+        pairs[i] = e.pair;
+        first |= e.first;
+        i += 1;
+        w = step.rest;
     }
-    let own = turns::judge_marks(store, marks, i, 51);
+    let own = turns::judge_marks(rooms.store, &marks[..i], Refused::ComponentTwice);
     Gathered {
         fault,
         count: i,
@@ -122,53 +98,33 @@ pub fn each_component(
 
 // The applications in byte order of key; their packages come after those of the components.
 // The list's length is told before its entries, so the first fault waits for the last key.
-pub fn each_application(
-    tree: &[u8],
-    store: &[u8],
-    made: usize,
-    l: List,
-    p: Partitions,
-    c: Gathered,
-) -> Applied
-    requires { Followed tree.now made l.end p.count c.count }
-    ensures { Applications tree.now store.now made l.place l.end
-        (take p.count p.items) (take c.count c.pairs) result }
+pub fn each_application(rooms: Rooms<'_>, l: List, items: &[Partition], c: Gathered) -> Applied
+    requires { Followed rooms.tree.now rooms.made l.end c.count }
+    ensures { on Applications rooms.entry l.place l.end items.now c.count
+        (take c.count c.pairs) result }
 {
-    let items = p.items;
-    let count = p.count;
-    let components = c.count;
     let mut pairs = c.pairs;
     let mut marks = turns::no_marks();
     let mut fault = parse::refusal_at(0, 0, 0);
     let mut i = 0;
-    let mut w = tree::keys_of(tree, l.place, l.end);
-    loop {
-        let step = tree::next_key(tree, store, w);
-        match step {
-            Key::End => break,
-            Key::At { value, rest } => {
-                if APPLICATIONS <= i {
-                    fault = parse::refusal_at(parse::IN_APPLICATION, TOO_MANY, APPLICATIONS);
-                    break;
-                }
-                let e = crate::application::entry(tree, store, made, value, items, count);
-                let mark = e.mark;
-                let pair = e.pair;
-                let at = components + i;
-                fault = earlier_in(fault, parse::IN_APPLICATION, e.fault, i);
-                marks[i] = mark;
-                pairs[at] = pair;
-                i += 1;
-                w = rest;
-            }
+    let mut w = tree::keys_of(rooms.tree, l.place, l.end);
+    while let Some(step) = tree::next_key(rooms.tree, rooms.store, w) {
+        if APPLICATIONS <= i {
+            fault = crate::refusal_in(parse::IN_APPLICATION, Refused::TooManyEntries, APPLICATIONS);
+            break;
         }
+        let e = crate::application::entry(rooms, step.value, items);
+        fault = earlier_in(fault, parse::IN_APPLICATION, e.fault, i);
+        marks[i] = e.mark;
+        pairs[c.count + i] = e.pair;
+        i += 1;
+        w = step.rest;
     }
-    let own = turns::judge_marks(store, marks, i, 65);
-    let all = components + i;
+    let own = turns::judge_marks(rooms.store, &marks[..i], Refused::ApplicationTwice);
     Applied {
         fault,
         count: i,
         own,
-        clash: crate::uses::first_clash(tree, store, made, pairs, all),
+        clash: crate::uses::first_clash(rooms, &pairs[..c.count + i]),
     }
 }

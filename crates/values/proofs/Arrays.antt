@@ -9,14 +9,15 @@ use lib.Dec.{eqb, leb}
 use lib.ListN.{length, take}
 use lib.Seq.{length-take-le}
 use borrow.Author.Tests.{eqb-true, eq-eqb, leb-false}
+use Rattle.std.specs.Prelude.{Result, Ok, Err}
+use Rattle.meaning.specs.declared.Refused.TheVariants.{TooDeep}
 use Rattle.meaning.specs.Base.{pick, final}
 use Rattle.laws.specs.Cases.{on}
 use Rattle.values.specs.declared.State.{State}
-use Rattle.values.specs.declared.Reply.{Reply}
-use Rattle.values.specs.declared.Reply.TheVariants.{Fine, Fault}
-use Rattle.values.specs.Out.{Out, fine, wrong, join, and_then, moved, reply_of, Ready, Filled, Made}
+use Rattle.values.specs.declared.Stopped.{Stopped}
+use Rattle.values.specs.Out.{Out, fine, wrong, join, and_then, moved, Replies, Ready, Filled, Made}
 use Rattle.values.specs.Fill.{array_slot, makes, open_out, brackets_out, value_out, list_out}
-use Rattle.values.proofs.Outs.{reply_join, Went, went, failed, Left, left_of, left_made, filled_of, filled_fault, then_left, same_tree}
+use Rattle.values.proofs.Outs.{stop, replies_join, Went, went, failed, Left, left_of, left_made, filled_of, filled_fault, then_left}
 
 pub part_long : (s : List ℕ) → length s - 1 ≡ length (take (length s - 1) s)
 part_long s = sym (length-take-le (length s - 1) s (omega arith))
@@ -55,10 +56,10 @@ module _ (limit parent used made : ℕ) (s : List ℕ) where
       ap (λ (x : ℕ). and_then used made (open_out limit parent made s) (λ u m. list_out limit x (made + 2) u m (take (length s - 1) s))) (sym e)
 
 module _ (limit depth parent : ℕ) (s store tree : List ℕ) (st : State) (ready : Ready limit s store tree st) where
-  pub array_deep : depth ≡ 0 → Filled limit s store tree store tree st (brackets_out limit depth parent st.used st.made s) (Fault 14 st)
-  array_deep z = rw (brackets_zero limit parent st.used st.made s depth z) (filled_fault limit s store tree st 14 refl ready.made)
+  pub array_deep : depth ≡ 0 → Filled limit s store tree store tree st (brackets_out limit depth parent st.used st.made s) (stop TooDeep st)
+  array_deep z = rw (brackets_zero limit parent st.used st.made s depth z) (filled_fault limit s store tree st TooDeep ready.made)
 
-  module _ (tree₁ : List ℕ) (r : Reply) (o : Made limit tree tree₁ st (open_out limit parent st.made s) r) where
+  module _ (tree₁ : List ℕ) (r : Result State Stopped) (o : Made limit tree tree₁ st (open_out limit parent st.made s) r) where
     abbrev out : Out
     out = open_out limit parent st.made s
 
@@ -69,14 +70,14 @@ module _ (limit depth parent : ℕ) (s store tree : List ℕ) (st : State) (read
         ≡ pick b (join out (rest (st.used + length out.bytes) (st.made + length out.slots))) out
     by d b e = brackets_suc limit parent st.used st.made s depth d ∙ ap (λ (x : Bool). pick x (join out (rest (st.used + length out.bytes) (st.made + length out.slots))) out) e
 
-    pub array_fault : (depth ≡ 0 → ⊥) → (n : ℕ) (at : State) → r ≡ Fault n at
-        → Filled limit s store tree store tree₁ st (brackets_out limit depth parent st.used st.made s) (Fault n at)
-    array_fault d n at e =
-        let g = failed st out r o.says n at e in
+    pub array_fault : (depth ≡ 0 → ⊥) → (e : Stopped) → r ≡ Err e → (v : Result State Stopped) → v ≡ Err e
+        → Filled limit s store tree store tree₁ st (brackets_out limit depth parent st.used st.made s) v
+    array_fault d e q v z =
+        let g = failed st out r o.says e q in
         let f : Left limit (length s) store tree store tree₁ st out = left_made o in
-        rw (by d false g.fails) (filled_of f (omega arith) (sym e ∙ o.says))
+        rw (by d false g.fails, z) (filled_of f (omega arith) (rw q at o.says))
 
-    module _ (next : State) (e : r ≡ Fine next) where
+    module _ (next : State) (e : r ≡ Ok next) where
       gone : Went st out next
       gone = went st out r o.says next e
 
@@ -95,16 +96,7 @@ module _ (limit depth parent : ℕ) (s store tree : List ℕ) (st : State) (read
       kept : Left limit 0 store tree store tree₁ st out
       kept = left_made o
 
-      pub array_ready : Ready limit (take (length s - 1) s) store tree₁ next
-      array_ready = record {
-        room = omega (arith, ready.room, used_is, part_long s);
-        low = omega (arith, ready.low, used_is, part_long s);
-        slots = omega (arith, ready.slots, same_tree kept ready.slots);
-        few = ready.few;
-        made = omega (arith, made_is, been.less);
-      }
-
-      pub array_read : (depth ≡ 0 → ⊥) → (store' tree' : List ℕ) (a : Reply)
+      pub array_read : (depth ≡ 0 → ⊥) → (store' tree' : List ℕ) (a : Result State Stopped)
           → Filled limit (take (length s - 1) s) store tree₁ store' tree' next (list_out limit (depth - 1) (st.made + 2) next.used next.made (take (length s - 1) s)) a
           → Filled limit s store tree store' tree' st (brackets_out limit depth parent st.used st.made s) a
       array_read d store' tree' a f =
@@ -114,6 +106,6 @@ module _ (limit depth parent : ℕ) (s store tree : List ℕ) (st : State) (read
           subst (λ (x : State). Left limit (length (take (length s - 1) s)) store tree₁ store' tree' x (rest next.used next.made)) (sym gone.there) (left_of f) in
           let q : Left limit (0 + length (take (length s - 1) s)) store tree store' tree' st (join out (rest next.used next.made)) =
           then_left kept p (omega (arith, ready.room)) ready.slots in
-          let says : a ≡ reply_of st (join out (rest next.used next.made)) =
-          f.says ∙ ap (λ (x : State). reply_of x (rest next.used next.made)) (sym gone.there) ∙ reply_join st out (rest next.used next.made) in
+          let says : Replies st (join out (rest next.used next.made)) a =
+          replies_join st out (rest next.used next.made) a (subst (λ (x : State). Replies x (rest next.used next.made) a) (sym gone.there) f.says) in
           rw z (filled_of q (omega (arith, part_long s)) says)

@@ -14,8 +14,7 @@ use Rattle.scalar.specs.Stores.{over}
 use Rattle.scalar.specs.Splits.{flat, ends_of}
 use Rattle.scalar.specs.declared.key.Key.{Key}
 use Rattle.tree.specs.declared.Slot.{Slot}
-use Rattle.tree.specs.declared.Found.{Found}
-use Rattle.tree.specs.declared.Found.TheVariants.{At, Nothing}
+use Rattle.std.specs.Prelude.{Option, Some, None}
 use Rattle.tree.specs.Room.{keyed, hung}
 use Rattle.values.specs.Grow.{Seg, Grown, grown, stuck, segs_of, spelt, void, keyed_slot, mine_s, look_s, onward, make_s, enter_by, enter_s, down_s, item_s, push_by, push_s, to_last_s, hang_s}
 use Rattle.values.specs.Carries.{Begins, AllWithin, SegsWithin, GrownWithin, Rising}
@@ -41,13 +40,13 @@ module _ (limit top : ℕ) where
   make_within vs v h k = on (leb limit (length vs)) (λ t. rw t tt) (λ t. rw t (within_append top vs (v ∷ []) h (k, tt)))
 
   module _ (bytes : List ℕ) where
-    enter_by_lem : (vs : List Slot) (p : ℕ) (k : Seg) (f : Found) → AllWithin top vs → k.at + k.len ≤ top → GrownWithin top (enter_by limit vs p k f)
-    enter_by_lem vs p k (At n) h l = on (eqb (get_or vs n void).kind 5) (λ t. rw t h) (λ t. rw t (make_within vs (keyed_slot 5 p k) h l))
-    enter_by_lem vs p k Nothing h l = make_within vs (keyed_slot 5 p k) h l
+    enter_by_lem : (vs : List Slot) (p : ℕ) (k : Seg) (f : Option ℕ) → AllWithin top vs → k.at + k.len ≤ top → GrownWithin top (enter_by limit vs p k f)
+    enter_by_lem vs p k (Some n) h l = on (eqb (get_or vs n void).kind 5) (λ t. rw t h) (λ t. rw t (make_within vs (keyed_slot 5 p k) h l))
+    enter_by_lem vs p k None h l = make_within vs (keyed_slot 5 p k) h l
 
     pub enter_within : (vs : List Slot) (p : ℕ) (k : Seg) → AllWithin top vs → k.at + k.len ≤ top → GrownWithin top (enter_s limit bytes vs p k)
     unfolding enter_s
-    enter_within vs p k h l = enter_by_lem vs p k (look_s bytes 0 vs p (spelt bytes k) Nothing) h l
+    enter_within vs p k h l = enter_by_lem vs p k (look_s bytes 0 vs p (spelt bytes k) None) h l
 
     onward_within : (g : Grown) (f : List Slot → ℕ → Grown) → GrownWithin top g → ((vs : List Slot) (p : ℕ) → AllWithin top vs → GrownWithin top (f vs p)) → GrownWithin top (onward g f)
     onward_within (grown vs p) f h k = k vs p h
@@ -61,13 +60,13 @@ module _ (limit top : ℕ) where
     item_within : (vs : List Slot) (p : ℕ) → AllWithin top vs → GrownWithin top (item_s limit vs p)
     item_within vs p h = make_within vs (record { kind = 5; parent = p; key = 0; len = 0; «data» = 0 }) h (omega arith)
 
-    push_by_lem : (vs : List Slot) (p : ℕ) (k : Seg) (f : Found) → AllWithin top vs → k.at + k.len ≤ top → GrownWithin top (push_by limit vs p k f)
-    push_by_lem vs p k (At n) h l = on (eqb (get_or vs n void).kind 4) (λ t. rw t (item_within vs (n + 2) h)) (λ t. rw t tt)
-    push_by_lem vs p k Nothing h l = onward_within (make_s limit vs (keyed_slot 4 p k)) (item_s limit) (make_within vs (keyed_slot 4 p k) h l) item_within
+    push_by_lem : (vs : List Slot) (p : ℕ) (k : Seg) (f : Option ℕ) → AllWithin top vs → k.at + k.len ≤ top → GrownWithin top (push_by limit vs p k f)
+    push_by_lem vs p k (Some n) h l = on (eqb (get_or vs n void).kind 4) (λ t. rw t (item_within vs (n + 2) h)) (λ t. rw t tt)
+    push_by_lem vs p k None h l = onward_within (make_s limit vs (keyed_slot 4 p k)) (item_s limit) (make_within vs (keyed_slot 4 p k) h l) item_within
 
     pub push_within : (vs : List Slot) (p : ℕ) (k : Seg) → AllWithin top vs → k.at + k.len ≤ top → GrownWithin top (push_s limit bytes vs p k)
     unfolding push_s
-    push_within vs p k h l = push_by_lem vs p k (look_s bytes 0 vs p (spelt bytes k) Nothing) h l
+    push_within vs p k h l = push_by_lem vs p k (look_s bytes 0 vs p (spelt bytes k) None) h l
 
     pub hang_within : (n : ℕ) (vs : List Slot) (p : ℕ) (k : Seg) → AllWithin top vs → k.at + k.len ≤ top → GrownWithin top (hang_s n vs p k)
     hang_within n vs p k h l = within_set top vs n (hung p k.at k.len (get_or vs n void)) h l
@@ -107,15 +106,15 @@ module _ (store bytes : List ℕ) (b : Begins store bytes) where
   unfolding mine_s
   mine_begins v p key h = ap (λ (x : Bool). pick (eqb v.parent p) x false) (keyed_begins v key h)
 
-  pub look_begins : (n : ℕ) (vs : List Slot) (p : ℕ) (key : List ℕ) (best : Found) → AllWithin (length bytes) vs → look_s store n vs p key best ≡ look_s bytes n vs p key best
+  pub look_begins : (n : ℕ) (vs : List Slot) (p : ℕ) (key : List ℕ) (best : Option ℕ) → AllWithin (length bytes) vs → look_s store n vs p key best ≡ look_s bytes n vs p key best
   look_begins n [] p key best h = refl
   look_begins n (v ∷ vs) p key best h =
-      look_begins (n + 1) vs p key (pick (mine_s store v p key) (At n) best) h.1
-      ∙ ap (λ (x : Bool). look_s bytes (n + 1) vs p key (pick x (At n) best)) (mine_begins v p key h.0)
+      look_begins (n + 1) vs p key (pick (mine_s store v p key) (Some n) best) h.1
+      ∙ ap (λ (x : Bool). look_s bytes (n + 1) vs p key (pick x (Some n) best)) (mine_begins v p key h.0)
 
   module _ (vs : List Slot) (p : ℕ) (k : Seg) (h : AllWithin (length bytes) vs) (l : k.at + k.len ≤ length bytes) where
-    same_look : look_s store 0 vs p (spelt store k) Nothing ≡ look_s bytes 0 vs p (spelt bytes k) Nothing
-    same_look = ap (λ (s : List ℕ). look_s store 0 vs p s Nothing) (part_begins k.at (k.at + k.len) (omega arith) l) ∙ look_begins 0 vs p (spelt bytes k) Nothing h
+    same_look : look_s store 0 vs p (spelt store k) None ≡ look_s bytes 0 vs p (spelt bytes k) None
+    same_look = ap (λ (s : List ℕ). look_s store 0 vs p s None) (part_begins k.at (k.at + k.len) (omega arith) l) ∙ look_begins 0 vs p (spelt bytes k) None h
 
     pub enter_begins : (limit : ℕ) → enter_s limit store vs p k ≡ enter_s limit bytes vs p k
     unfolding enter_s

@@ -11,8 +11,7 @@ use Rattle.meaning.specs.Base.{pick}
 use Rattle.laws.specs.Stored.{stored}
 use Rattle.scalar.specs.Stores.{over}
 use Rattle.tree.specs.declared.Slot.{Slot}
-use Rattle.tree.specs.declared.Found.{Found}
-use Rattle.tree.specs.declared.Found.TheVariants.{At, Nothing}
+use Rattle.std.specs.Prelude.{Option, Some, None}
 use Rattle.tree.specs.Room.{Sized, cell, slot_at, under, mine, look}
 use Rattle.tree.specs.Laws.{length_cell, slot_same}
 use Rattle.values.specs.Out.{cells}
@@ -145,13 +144,13 @@ pub carries_grows : (limit : ℕ) (tree : List ℕ) (slots : List Slot) (made : 
 carries_grows limit tree slots made h e r f m = record { carried = rw (slots_of_lem tree slots made h e) h; room = r; few = f; most = m }
 
 -- ---- finding
-look_snoc : (bytes : List ℕ) (n : ℕ) (vs : List Slot) (v : Slot) (p : ℕ) (key : List ℕ) (best : Found)
-    → look_s bytes n (vs ++ (v ∷ [])) p key best ≡ pick (mine_s bytes v p key) (At (n + length vs)) (look_s bytes n vs p key best)
+look_snoc : (bytes : List ℕ) (n : ℕ) (vs : List Slot) (v : Slot) (p : ℕ) (key : List ℕ) (best : Option ℕ)
+    → look_s bytes n (vs ++ (v ∷ [])) p key best ≡ pick (mine_s bytes v p key) (Some (n + length vs)) (look_s bytes n vs p key best)
 look_snoc bytes n [] v p key best = rw add-zero
 look_snoc bytes n (w ∷ vs) v p key best =
     let e : n + 1 + length vs ≡ n + suc (length vs) = omega arith in
-    look_snoc bytes (n + 1) vs v p key (pick (mine_s bytes w p key) (At n) best)
-    ∙ ap (λ (k : ℕ). pick (mine_s bytes v p key) (At k) (look_s bytes (n + 1) vs p key (pick (mine_s bytes w p key) (At n) best))) e
+    look_snoc bytes (n + 1) vs v p key (pick (mine_s bytes w p key) (Some n) best)
+    ∙ ap (λ (k : ℕ). pick (mine_s bytes v p key) (Some k) (look_s bytes (n + 1) vs p key (pick (mine_s bytes w p key) (Some n) best))) e
 
 pub length_slots : (tree : List ℕ) (n : ℕ) → length (slots_of tree n) ≡ n
 length_slots tree zero = refl
@@ -162,13 +161,13 @@ unfolding mine mine_s under
 mine_is tree store n p key = refl
 
 -- what is found in the room is what is found in the list
-pub look_is : (tree store : List ℕ) (n p : ℕ) (key : List ℕ) → look tree store n p key ≡ look_s store 0 (slots_of tree n) p key Nothing
+pub look_is : (tree store : List ℕ) (n p : ℕ) (key : List ℕ) → look tree store n p key ≡ look_s store 0 (slots_of tree n) p key None
 look_is tree store zero p key = refl
 look_is tree store (suc n) p key =
     let e : 0 + length (slots_of tree n) ≡ n = omega (arith, length_slots tree n) in
-    let k : look_s store 0 (slots_of tree n ++ (slot_at tree n ∷ [])) p key Nothing ≡ pick (mine_s store (slot_at tree n) p key) (At n) (look_s store 0 (slots_of tree n) p key Nothing) =
-    look_snoc store 0 (slots_of tree n) (slot_at tree n) p key Nothing
-    ∙ ap (λ (i : ℕ). pick (mine_s store (slot_at tree n) p key) (At i) (look_s store 0 (slots_of tree n) p key Nothing)) e in
-    ap (λ (b : Bool). pick b (At n) (look tree store n p key)) (mine_is tree store n p key)
-    ∙ ap (λ (f : Found). pick (mine_s store (slot_at tree n) p key) (At n) f) (look_is tree store n p key)
+    let k : look_s store 0 (slots_of tree n ++ (slot_at tree n ∷ [])) p key None ≡ pick (mine_s store (slot_at tree n) p key) (Some n) (look_s store 0 (slots_of tree n) p key None) =
+    look_snoc store 0 (slots_of tree n) (slot_at tree n) p key None
+    ∙ ap (λ (i : ℕ). pick (mine_s store (slot_at tree n) p key) (Some i) (look_s store 0 (slots_of tree n) p key None)) e in
+    ap (λ (b : Bool). pick b (Some n) (look tree store n p key)) (mine_is tree store n p key)
+    ∙ ap (λ (f : Option ℕ). pick (mine_s store (slot_at tree n) p key) (Some n) f) (look_is tree store n p key)
     ∙ sym k

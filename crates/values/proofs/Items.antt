@@ -10,6 +10,7 @@ use lib.Dec.{eqb, ltb}
 use lib.ListN.{length, take, drop, length-drop, drop_of_length-le}
 use lib.Seq.{drop-drop, length-take-le}
 use borrow.Author.Tests.{ltb-false, eq-eqb}
+use Rattle.std.specs.Prelude.{Result, Ok, Err}
 use Rattle.meaning.specs.Base.{pick}
 use Rattle.meaning.specs.Space.{blank}
 use Rattle.meaning.specs.Quote.{fresh, step}
@@ -19,11 +20,10 @@ use Rattle.laws.specs.Parts.{rest_of}
 use Rattle.laws.specs.Splits.{others, split_step}
 use Rattle.values.specs.Item.{Item, item_size}
 use Rattle.values.specs.declared.State.{State}
-use Rattle.values.specs.declared.Reply.{Reply}
-use Rattle.values.specs.declared.Reply.TheVariants.{Fine, Fault}
-use Rattle.values.specs.Out.{Out, fine, join, and_then, moved, reply_of, Ready, Filled}
+use Rattle.values.specs.declared.Stopped.{Stopped}
+use Rattle.values.specs.Out.{Out, fine, join, and_then, moved, Replies, Ready, Filled}
 use Rattle.values.specs.Fill.{items_out, value_out, list_out}
-use Rattle.values.proofs.Outs.{moved_none, moved_moved, reply_join, join_assoc, went, failed, Left, left_of, filled_of, left_none, tight, then_left, same_store, same_tree}
+use Rattle.values.proofs.Outs.{moved_none, moved_moved, replies_join, join_assoc, went, failed, Left, left_of, filled_of, left_none, tight, then_left, same_store, same_tree}
 
 blank_nil : blank [] ≡ true
 unfolding Rattle.meaning.specs.Space.computes
@@ -102,13 +102,13 @@ module _ (limit depth parent : ℕ) (s store₀ tree₀ : List ℕ) (st : State)
   pub start : Ready limit s store₀ tree₀ st → Held store₀ tree₀ 0 st
   start ready = held (fine [] []) ready (omega arith) (omega arith) (moved_none st 0) (left_none limit (length s) store₀ tree₀ st 0 ready.made) refl
 
-  pub done : (store tree : List ℕ) (i : ℕ) (cur : State) → Held store tree i cur → length s ≤ i → Filled limit s store₀ tree₀ store tree st total (Fine cur)
+  pub done : (store tree : List ℕ) (i : ℕ) (cur : State) → Held store tree i cur → length s ≤ i → Filled limit s store₀ tree₀ store tree st total (Ok cur)
   done store tree i cur h l =
       let z : total ≡ join h.so_far (fine [] []) =
       h.run ∙ ap (λ (t : List ℕ). join h.so_far (list_out limit depth parent cur.used cur.made t)) (drop_of_length-le s l)
       ∙ ap (join h.so_far) (list_nil limit depth parent cur.used cur.made) in
-      let e : Fine cur ≡ reply_of st (join h.so_far (fine [] [])) =
-      ap Fine (sym h.here) ∙ ap Fine (sym (moved_none (moved st h.so_far) 0)) ∙ reply_join st h.so_far (fine [] []) in
+      let e : Replies st (join h.so_far (fine [] [])) (Ok cur) =
+      replies_join st h.so_far (fine [] []) (Ok cur) (record { fault = refl; there = sym h.here ∙ sym (moved_none (moved st h.so_far) 0) }) in
       let f : Left limit (length s + 0) store₀ tree₀ store tree st (join h.so_far (fine [] [])) =
       then_left h.left (left_none limit 0 store tree (moved st h.so_far) 0 h.left.most) (omega (arith, h.ready.room)) h.ready.slots in
       rw z (filled_of f (omega arith) e)
@@ -122,12 +122,6 @@ module _ (limit depth parent : ℕ) (s store₀ tree₀ : List ℕ) (st : State)
 
     pub item_fits : Fits w64 (length s) → Fits w64 (i + k)
     item_fits f = record { fits = omega (arith, f.fits, item_high) }
-
-    pub next_fits : Fits w64 (i + k + 1)
-    next_fits = record { fits = omega (arith, h.ready.low, item_high) }
-
-    pub item_less : length s - (i + k + 1) < length s - i
-    item_less = omega arith
 
     abbrev part : List ℕ
     part = take (i + k - i) (drop i s)
@@ -160,15 +154,6 @@ module _ (limit depth parent : ℕ) (s store₀ tree₀ : List ℕ) (st : State)
         pick (blank (part_is j)) (list_out limit depth parent cur.used cur.made (after_comma j))
         (and_then cur.used cur.made (value_out limit depth parent cur.used cur.made (part_is j)) (λ u m. list_out limit depth parent u m (after_comma j)))
 
-    pub item_ready : Ready limit part store tree cur
-    item_ready = record {
-      room = omega (arith, h.ready.room, h.used, h.store_size, part_size, item_high);
-      low = omega (arith, h.ready.low, h.used, part_size, item_high);
-      slots = omega (arith, h.ready.slots, h.tree_size);
-      few = h.ready.few;
-      made = h.made;
-    }
-
     module _ (b : Bool) (e : b ≡ blank part) where
       -- "blank items are dropped"
       pub item_blank : b ≡ true → Held store tree (i + k + 1) cur
@@ -177,7 +162,7 @@ module _ (limit depth parent : ℕ) (s store₀ tree₀ : List ℕ) (st : State)
           held h.so_far h.ready (omega (arith, item_high)) (omega (arith, h.short)) h.here h.left
           (h.run ∙ ap (join h.so_far) (unrolled ∙ ap (λ (x : Bool). pick x (rest cur.used cur.made) (and_then cur.used cur.made o rest)) z))
 
-      module _ (n : b ≡ false) (store₁ tree₁ : List ℕ) (a : Reply) (f : Filled limit part store tree store₁ tree₁ cur o a) where
+      module _ (n : b ≡ false) (store₁ tree₁ : List ℕ) (a : Result State Stopped) (f : Filled limit part store tree store₁ tree₁ cur o a) where
         so_on : total ≡ join h.so_far (and_then cur.used cur.made o rest)
         so_on =
             let z : blank part ≡ false = sym e ∙ n in
@@ -189,15 +174,15 @@ module _ (limit depth parent : ℕ) (s store₀ tree₀ : List ℕ) (st : State)
         both : Left limit (i + length part) store₀ tree₀ store₁ tree₁ st (join h.so_far o)
         both = then_left (tight h.left h.short) there (omega (arith, h.ready.room)) h.ready.slots
 
-        pub item_fault : (c : ℕ) (at : State) → a ≡ Fault c at → Filled limit s store₀ tree₀ store₁ tree₁ st total (Fault c at)
-        item_fault c at q =
-            let g = failed cur o a f.says c at q in
+        pub item_fault : (e : Stopped) → a ≡ Err e → (v : Result State Stopped) → v ≡ Err e → Filled limit s store₀ tree₀ store₁ tree₁ st total v
+        item_fault e q v w =
+            let g = failed cur o a f.says e q in
             let z : total ≡ join h.so_far o = so_on ∙ ap (λ (x : Bool). join h.so_far (pick x (join o (rest (cur.used + length o.bytes) (cur.made + length o.slots))) o)) g.fails in
-            let says : Fault c at ≡ reply_of st (join h.so_far o) =
-            sym q ∙ f.says ∙ ap (λ (x : State). reply_of x o) (sym h.here) ∙ reply_join st h.so_far o in
-            rw z (filled_of both (omega (arith, part_size, item_high)) says)
+            let says : Replies st (join h.so_far o) (Err e) =
+            replies_join st h.so_far o (Err e) (subst (λ (x : State). Replies x o (Err e)) (sym h.here) (rw q at f.says)) in
+            rw (z, w) (filled_of both (omega (arith, part_size, item_high)) says)
 
-        pub item_fine : (next : State) → a ≡ Fine next → Held store₁ tree₁ (i + k + 1) next
+        pub item_fine : (next : State) → a ≡ Ok next → Held store₁ tree₁ (i + k + 1) next
         item_fine next q =
             let g = went cur o a f.says next q in
             let z : eqb o.fault 0 ≡ true = eq-eqb o.fault 0 g.calm in

@@ -5,8 +5,8 @@ pub mod Strings
 pub mod Parting
 pub mod Items
 pub mod Arrays
-pub mod Values
 pub mod Carrying
 pub mod Growing
 pub mod Descending
 pub mod Beginning
+pub mod Values

@@ -1,23 +1,24 @@
 -- What readers add, one after the other: the rooms then, and the answer then.
-use Prim.Native.Nat.{ℕ, ◌+◌, ◌*◌, ◌≤◌}
-use mathlib.Core.Bool.{Bool, true, false}
+use Prim.Native.Nat.{ℕ, ◌+◌, ◌*◌, ◌≤◌, ◌<◌}
+use mathlib.Core.Bool.{false}
 use mathlib.Core.List.{List, [], ◌∷◌, ◌++◌, append_assoc}
 use mathlib.Core.Path.{◌≡◌, refl, sym, ap, ◌∙◌}
 use native.Mathlib.Omega.{arith}
 use native.Mathlib.Nat.{add-zero}
 use lib.Dec.{eqb}
 use lib.ListN.{length, length-append}
-use borrow.Author.Tests.{eqb-true}
-use Rattle.meaning.specs.Base.{pick}
-use Rattle.laws.specs.Cases.{on}
+use borrow.Author.Tests.{ne_eqb}
+use Rattle.std.specs.Prelude.{Result, Ok, Err}
+use Rattle.meaning.specs.declared.Refused.{Refused}
+use Rattle.meaning.specs.declared.Refused.TheVariants.{TextTooLong}
+use Rattle.meaning.specs.Numbered.{number}
 use Rattle.laws.specs.Stored.{stored, stored_nil, stored_then, length_stored}
 use Rattle.tree.specs.declared.Slot.{Slot}
 use Rattle.tree.specs.Room.{cell}
 use Rattle.tree.specs.Laws.{length_cell}
 use Rattle.values.specs.declared.State.{State}
-use Rattle.values.specs.declared.Reply.{Reply}
-use Rattle.values.specs.declared.Reply.TheVariants.{Fine, Fault}
-use Rattle.values.specs.Out.{Out, wrong, join, moved, reply_of, cells, Filled, Made}
+use Rattle.values.specs.declared.Stopped.{Stopped}
+use Rattle.values.specs.Out.{Out, wrong, join, moved, Replies, cells, Filled, Made}
 
 pub cells_append : (vs ws : List Slot) → cells (vs ++ ws) ≡ cells vs ++ cells ws
 cells_append [] ws = refl
@@ -45,57 +46,36 @@ join_assoc o p q = λ i. record {
 }
 
 -- ---- the answer
-abbrev pub told : ℕ → State → Reply
-told n st = pick (eqb n 0) (Fine st) (Fault n st)
+abbrev pub stop : Refused → State → Result State Stopped
+stop f at = Err (record { refused = f; at = at })
 
-pub reply_join : (st : State) (o p : Out) → reply_of (moved st o) p ≡ reply_of st (join o p)
-reply_join st o p = ap (told p.fault) (moved_moved st o p)
+-- no refusal has the number 0
+pub number_some : (r : Refused) → 0 < number r
+number_some TextTooLong = omega arith
+number_some r = omega arith
 
--- an answer `Fine` tells where it is
+pub replies_join : (st : State) (o p : Out) (r : Result State Stopped) → Replies (moved st o) p r → Replies st (join o p) r
+replies_join st o p r h = record { fault = h.fault; there = h.there ∙ moved_moved st o p }
+
+-- an answer `Ok` tells where it is
 pub record Went (st : State) (o : Out) (next : State) : Type 0 where
   pub calm : o.fault ≡ 0
   pub there : moved st o ≡ next
 
--- an answer `Fault` tells its number, and where it is
-pub record Failed (st : State) (o : Out) (n : ℕ) (next : State) : Type 0 where
-  pub code : o.fault ≡ n
+-- an answer `Err` tells its number, and where it is
+pub record Failed (st : State) (o : Out) (e : Stopped) : Type 0 where
+  pub code : o.fault ≡ number e.refused
   pub fails : eqb o.fault 0 ≡ false
-  pub there : moved st o ≡ next
+  pub there : moved st o ≡ e.at
 
-abbrev at_of : Reply → State
-at_of (Fine st) = st
-at_of (Fault n st) = st
+module _ (st : State) (o : Out) (r : Result State Stopped) (says : Replies st o r) where
+  pub went : (next : State) → r ≡ Ok next → Went st o next
+  went next q = record { calm = sym (rw q at says.fault); there = sym (rw q at says.there) }
 
-abbrev number_of : Reply → ℕ
-number_of (Fine st) = 0
-number_of (Fault n st) = n
-
-abbrev is_fine : Reply → Bool
-is_fine (Fine st) = true
-is_fine (Fault n st) = false
-
-told_at : (n : ℕ) (st : State) → at_of (told n st) ≡ st
-told_at n st = on (eqb n 0) (λ e. rw e) (λ e. rw e)
-
-told_number : (n : ℕ) (st : State) → number_of (told n st) ≡ n
-told_number n st = on (eqb n 0) (λ e. rw e (sym (eqb-true n 0 e))) (λ e. rw e)
-
-told_is : (n : ℕ) (st : State) → is_fine (told n st) ≡ eqb n 0
-told_is n st = on (eqb n 0) (λ e. rw e) (λ e. rw e)
-
-module _ (st : State) (o : Out) (r : Reply) (says : r ≡ reply_of st o) where
-  pub went : (next : State) → r ≡ Fine next → Went st o next
-  went next e = record {
-    calm = sym (told_number o.fault (moved st o)) ∙ ap number_of (sym says ∙ e);
-    there = sym (told_at o.fault (moved st o)) ∙ ap at_of (sym says ∙ e);
-  }
-
-  pub failed : (n : ℕ) (next : State) → r ≡ Fault n next → Failed st o n next
-  failed n next e = record {
-    code = sym (told_number o.fault (moved st o)) ∙ ap number_of (sym says ∙ e);
-    fails = sym (told_is o.fault (moved st o)) ∙ ap is_fine (sym says ∙ e);
-    there = sym (told_at o.fault (moved st o)) ∙ ap at_of (sym says ∙ e);
-  }
+  pub failed : (e : Stopped) → r ≡ Err e → Failed st o e
+  failed e q =
+      let c : o.fault ≡ number e.refused = sym (rw q at says.fault) in
+      record { code = c; fails = rw c (ne_eqb (number e.refused) 0 (λ z. omega (arith, number_some e.refused))); there = sym (rw q at says.there) }
 
 -- ---- the rooms
 pub record Left (limit n : ℕ) (store tree store' tree' : List ℕ) (st : State) (o : Out) : Type 0 where
@@ -104,12 +84,12 @@ pub record Left (limit n : ℕ) (store tree store' tree' : List ℕ) (st : State
   pub store_is : store' ≡ stored store st.used o.bytes
   pub tree_is : tree' ≡ stored tree (32 * st.made) (cells o.slots)
 
-pub left_of : {limit : ℕ} {s store tree store' tree' : List ℕ} {st : State} {o : Out} {r : Reply} → Filled limit s store tree store' tree' st o r
+pub left_of : {limit : ℕ} {s store tree store' tree' : List ℕ} {st : State} {o : Out} {r : Result State Stopped} → Filled limit s store tree store' tree' st o r
     → Left limit (length s) store tree store' tree' st o
 left_of h = record { short = h.short; most = h.most; store_is = h.store_is; tree_is = h.tree_is }
 
-pub filled_of : {limit n : ℕ} {s store tree store' tree' : List ℕ} {st : State} {o : Out} {r : Reply} → Left limit n store tree store' tree' st o
-    → n ≤ length s → r ≡ reply_of st o → Filled limit s store tree store' tree' st o r
+pub filled_of : {limit n : ℕ} {s store tree store' tree' : List ℕ} {st : State} {o : Out} {r : Result State Stopped} → Left limit n store tree store' tree' st o
+    → n ≤ length s → Replies st o r → Filled limit s store tree store' tree' st o r
 filled_of h l e = record { says = e; short = omega (arith, h.short); most = h.most; store_is = h.store_is; tree_is = h.tree_is }
 
 pub tight : {limit n m : ℕ} {store tree store' tree' : List ℕ} {st : State} {o : Out} → Left limit n store tree store' tree' st o → length o.bytes ≤ m
@@ -117,7 +97,7 @@ pub tight : {limit n m : ℕ} {store tree store' tree' : List ℕ} {st : State} 
 tight h l = record { short = l; most = h.most; store_is = h.store_is; tree_is = h.tree_is }
 
 -- of a longer text
-pub wider : {limit : ℕ} {s t store tree store' tree' : List ℕ} {st : State} {o : Out} {r : Reply} → Filled limit s store tree store' tree' st o r
+pub wider : {limit : ℕ} {s t store tree store' tree' : List ℕ} {st : State} {o : Out} {r : Result State Stopped} → Filled limit s store tree store' tree' st o r
     → length s ≤ length t → Filled limit t store tree store' tree' st o r
 wider h l = record { says = h.says; short = omega (arith, h.short); most = h.most; store_is = h.store_is; tree_is = h.tree_is }
 
@@ -132,7 +112,7 @@ left_none limit n store tree st f m = record {
 }
 
 -- values alone are added
-pub left_made : {limit n : ℕ} {store tree tree' : List ℕ} {st : State} {o : Out} {r : Reply} → Made limit tree tree' st o r → Left limit n store tree store tree' st o
+pub left_made : {limit n : ℕ} {store tree tree' : List ℕ} {st : State} {o : Out} {r : Result State Stopped} → Made limit tree tree' st o r → Left limit n store tree store tree' st o
 left_made {limit} {n} {store} {tree} {tree'} {st} {o} h = record {
   short = rw h.none (omega arith);
   most = h.most;
@@ -160,16 +140,16 @@ then_left {limit} {n} {m} {store} {tree} {store₁} {tree₁} {store₂} {tree�
       ∙ ap (stored tree (32 * st.made)) (sym (cells_append o.slots p.slots));
 }
 
--- ---- a fault and nothing else
-pub made_fault : (limit : ℕ) (tree : List ℕ) (st : State) (n : ℕ) → eqb n 0 ≡ false → st.made ≤ limit → Made limit tree tree st (wrong n []) (Fault n st)
-made_fault limit tree st n e m = record {
-  says = rw (e, add-zero st.used, add-zero st.made);
+-- ---- a refusal and nothing else
+pub made_fault : (limit : ℕ) (tree : List ℕ) (st : State) (f : Refused) → st.made ≤ limit → Made limit tree tree st (wrong (number f) []) (stop f st)
+made_fault limit tree st f m = record {
+  says = record { fault = refl; there = sym (moved_none st (number f)) };
   none = refl;
   most = omega arith;
   tree_is = sym (stored_nil tree (32 * st.made));
 }
 
-pub filled_fault : (limit : ℕ) (s store tree : List ℕ) (st : State) (n : ℕ) → eqb n 0 ≡ false → st.made ≤ limit
-    → Filled limit s store tree store tree st (wrong n []) (Fault n st)
-filled_fault limit s store tree st n e m =
-    filled_of (left_none limit (length s) store tree st n m) (omega arith) (rw (e, add-zero st.used, add-zero st.made))
+pub filled_fault : (limit : ℕ) (s store tree : List ℕ) (st : State) (f : Refused) → st.made ≤ limit
+    → Filled limit s store tree store tree st (wrong (number f) []) (stop f st)
+filled_fault limit s store tree st f m =
+    filled_of (left_none limit (length s) store tree st (number f) m) (omega arith) (record { fault = refl; there = sym (moved_none st (number f)) })

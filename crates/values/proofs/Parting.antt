@@ -1,28 +1,24 @@
 -- The first item of a text: what its loop keeps, and one law for each way on and out.
 use Prim.Native.Nat.{ℕ, suc, ◌+◌, ◌≤◌, ◌<◌}
-use mathlib.Core.Bool.{Bool, true, false}
+use mathlib.Core.Bool.{Bool, false}
 use mathlib.Core.List.{List}
 use mathlib.Core.Path.{◌≡◌}
 use native.Mathlib.Omega.{arith}
 use native.Mathlib.Numerals.{add-one}
-use lib.ListN.{length, get_or, drop, drop_of_length-le}
+use lib.ListN.{length, get_or, drop}
 use lib.Seq.{drop-cons}
 use Rattle.meaning.specs.declared.Scan.{Scan}
-use Rattle.meaning.specs.declared.StringState.TheVariants.{Outside}
 use Rattle.meaning.specs.Quote.{step}
 use Rattle.meaning.specs.Values.{separates?}
 use Rattle.laws.specs.Scans.{step_opens, step_closes}
 use Rattle.laws.specs.Splits.{lead}
-use Rattle.values.specs.Item.{Item, item_size}
+use Rattle.values.specs.Item.{item_size}
 
 pub record Parting (s : List ℕ) (i : ℕ) (x : Scan) : Type 0 where
   pub high : i ≤ length s
   pub opens : x.opens ≤ i
   pub closes : x.closes ≤ i
   pub left : i + lead step separates? x (drop i s) ≡ item_size s
-
-pub part_start : (s : List ℕ) → Parting s 0 (record { state = Outside; opens = 0; closes = 0 })
-part_start s = record { high = omega arith; opens = omega arith; closes = omega arith; left = omega arith }
 
 module _ (s : List ℕ) (i : ℕ) (x : Scan) (k : Parting s i x) where
   module _ (r : Bool) (h : i < length s) (e : r ≡ separates? x (get_or s i 0)) where
@@ -36,13 +32,3 @@ module _ (s : List ℕ) (i : ℕ) (x : Scan) (k : Parting s i x) where
           closes = rw g (omega (arith, step_closes x b, k.closes));
           left = omega (arith, k.left);
         }
-
-    pub part_hit : r ≡ true → Item s i
-    part_hit f =
-        let t : lead step separates? x (drop i s) ≡ 0 = rw (drop-cons s i 0 h, ← e, f) in
-        record { is = omega (arith, k.left); fits = k.high }
-
-  pub part_end : length s ≤ i → Item s i
-  part_end h =
-      let t : lead step separates? x (drop i s) ≡ 0 = rw (drop_of_length-le s h) in
-      record { is = omega (arith, k.left); fits = k.high }

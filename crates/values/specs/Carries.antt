@@ -1,14 +1,14 @@
 -- The tie between a room of bytes and the list of its values, and what the steps on the room ask and leave.
-use Rattle.std.specs.Prelude.{ℕ, zero, suc, ◌+◌, ◌-◌, ◌*◌, ◌≤◌, ◌<◌, List, [], ◌∷◌, ◌++◌, ◌≡◌, eqb, length, get_or, take}
-use Rattle.meaning.specs.Base.{pick}
+use Rattle.std.specs.Prelude.{ℕ, zero, suc, ◌+◌, ◌-◌, ◌*◌, ◌≤◌, ◌<◌, List, [], ◌∷◌, ◌++◌, ◌≡◌, length, get_or, take, Option, Result, Ok, Err}
+use Rattle.meaning.specs.declared.Refused.{Refused}
+use Rattle.meaning.specs.Numbered.{number}
+use Rattle.meaning.specs.Refusal.{R, ok, bad}
 use Rattle.scalar.specs.Stores.{over}
 use Rattle.scalar.specs.declared.key.Key.{Key}
 use Rattle.tree.specs.declared.Slot.{Slot}
-use Rattle.tree.specs.declared.Found.{Found}
 use Rattle.tree.specs.Room.{Sized, Below, slot_at}
-use Rattle.values.specs.declared.grow.Grown as code
+use Rattle.values.specs.declared.grow.Here.{Here}
 use Rattle.values.specs.declared.grow.Segment.{Segment}
-use Rattle.values.specs.declared.grow.Grown.TheVariants.{At, Full, Clash}
 use Rattle.values.specs.Out.{cells}
 use Rattle.values.specs.Grow.{Seg, Grown, grown, stuck}
 
@@ -79,7 +79,7 @@ pub record Seeks (tree store : List ℕ) (made at end : ℕ) : Type 0 where
   pub up : at ≤ end
   pub within : end ≤ length store
 
-pub record Sought (made : ℕ) (meant r : Found) : Type 0 where
+pub record Sought (made : ℕ) (meant r : Option ℕ) : Type 0 where
   pub is : r ≡ meant
   pub below : Below made r
 
@@ -100,14 +100,19 @@ pub record Paths (limit : ℕ) (tree store : List ℕ) (made : ℕ) (key : Key) 
   pub few : n ≤ 16
   pub there : n ≤ length key.ends
 
--- a key of more than one segment
-pub record LongKey (key : Key) : Type 0 where
-  pub long : 1 < key.n
+-- a key that has a segment
+pub record SomeKey (key : Key) : Type 0 where
+  pub some : 0 < key.n
   pub few : key.n ≤ 16
 
+-- where segment i of a key begins, the first at at
+abbrev pub start_of : ℕ → List ℕ → ℕ → ℕ
+start_of at ends zero = at
+start_of at ends (suc i) = get_or ends i 0
+
 -- its last segment, by where it stands in the store
-abbrev pub last_of : Key → Segment
-last_of key = record { from = get_or key.ends (key.n - 1 - 1) 0; end = get_or key.ends (key.n - 1) 0 }
+abbrev pub last_of : Key → ℕ → Segment
+last_of key at = record { from = start_of at key.ends (key.n - 1); end = get_or key.ends (key.n - 1) 0 }
 
 -- what a walk along a whole key asks, which has a segment
 pub record Keyed (limit : ℕ) (tree store : List ℕ) (made : ℕ) (key : Key) (at : ℕ) : Type 0 where
@@ -124,10 +129,15 @@ pub record Assigns (limit : ℕ) (tree store : List ℕ) (made : ℕ) (key : Key
   pub keyed : Keyed limit tree store made key at
   pub below : n < made
 
--- the answer of the code: 16 is Full, 13 is Clash
-abbrev pub grown_of : Grown → code.Grown
-grown_of (grown vs p) = At (length vs) p
-grown_of (stuck n) = pick (eqb n 16) Full Clash
+-- what the code answers, with the number of its refusal
+abbrev pub numbered : {X : Type 0} → Result X Refused → R X
+numbered (Ok x) = ok x
+numbered (Err r) = bad (number r)
+
+-- and what a step that means g is to answer
+abbrev pub grown_of : ℕ → Grown → R Here
+grown_of limit (grown vs p) = ok (record { made = length vs; limit = limit; place = p })
+grown_of limit (stuck n) = bad n
 
 -- an accepted step leaves the cells of its values, and the rest of the room as it was
 pub record Bigger (limit : ℕ) (tree tree' : List ℕ) (made : ℕ) (vs : List Slot) : Type 0 where
@@ -142,7 +152,7 @@ Kept limit tree tree' made (grown vs p) = Bigger limit tree tree' made vs
 Kept limit tree tree' made (stuck n) = Unit
 
 -- what a step that means g leaves
-pub record Grew (limit : ℕ) (tree tree' : List ℕ) (made : ℕ) (g : Grown) (r : code.Grown) : Type 0 where
-  pub says : r ≡ grown_of g
+pub record Grew (limit : ℕ) (tree tree' : List ℕ) (made : ℕ) (g : Grown) (r : Result Here Refused) : Type 0 where
+  pub says : numbered r ≡ grown_of limit g
   pub long : length tree' ≡ length tree
   pub kept : Kept limit tree tree' made g

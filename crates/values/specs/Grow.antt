@@ -1,9 +1,7 @@
 -- Tables and arrays in the tree room, as a list of values: what headers and keys do to it. A place is 1 for the root, n + 2 for value number n.
-use Rattle.std.specs.Prelude.{ℕ, ◌+◌, ◌-◌, Bool, false, List, [], ◌∷◌, ◌++◌, eqb, leb, length, get_or, set}
+use Rattle.std.specs.Prelude.{ℕ, ◌+◌, ◌-◌, Bool, false, List, [], ◌∷◌, ◌++◌, eqb, leb, length, get_or, set, Option, Some, None}
 use Rattle.meaning.specs.Base.{pick, part}
 use Rattle.tree.specs.declared.Slot.{Slot}
-use Rattle.tree.specs.declared.Found.{Found}
-use Rattle.tree.specs.declared.Found.TheVariants.{At, Nothing}
 use Rattle.tree.specs.Room.{keyed, hung}
 
 -- a key's segment, by where it lies in the store
@@ -37,9 +35,9 @@ unfoldable pub mine_s : List ℕ → Slot → ℕ → List ℕ → Bool
 mine_s bytes v p key = pick (eqb v.parent p) (keyed bytes v key) false
 
 -- the newest of the values, the first of which is number n: a key's value is what was hung up last
-abbrev pub look_s : List ℕ → ℕ → List Slot → ℕ → List ℕ → Found → Found
+abbrev pub look_s : List ℕ → ℕ → List Slot → ℕ → List ℕ → Option ℕ → Option ℕ
 look_s bytes n [] p key best = best
-look_s bytes n (v ∷ vs) p key best = look_s bytes (n + 1) vs p key (pick (mine_s bytes v p key) (At n) best)
+look_s bytes n (v ∷ vs) p key best = look_s bytes (n + 1) vs p key (pick (mine_s bytes v p key) (Some n) best)
 
 -- what a step on the tree leaves: the values, and the place that it comes to; or the number of its fault
 pub data Grown : Type 0 where
@@ -56,12 +54,12 @@ module _ (limit : ℕ) where
   make_s vs v = pick (leb limit (length vs)) (stuck 16) (grown (vs ++ (v ∷ [])) (length vs + 2))
 
   -- "walks or makes tables and replaces anything else on its way by an empty table"
-  abbrev pub enter_by : List Slot → ℕ → Seg → Found → Grown
-  enter_by vs p k (At n) = pick (eqb (get_or vs n void).kind 5) (grown vs (n + 2)) (make_s vs (keyed_slot 5 p k))
-  enter_by vs p k Nothing = make_s vs (keyed_slot 5 p k)
+  abbrev pub enter_by : List Slot → ℕ → Seg → Option ℕ → Grown
+  enter_by vs p k (Some n) = pick (eqb (get_or vs n void).kind 5) (grown vs (n + 2)) (make_s vs (keyed_slot 5 p k))
+  enter_by vs p k None = make_s vs (keyed_slot 5 p k)
 
   unfoldable pub enter_s : List ℕ → List Slot → ℕ → Seg → Grown
-  enter_s bytes vs p k = enter_by vs p k (look_s bytes 0 vs p (spelt bytes k) Nothing)
+  enter_s bytes vs p k = enter_by vs p k (look_s bytes 0 vs p (spelt bytes k) None)
 
   -- along a path
   abbrev pub down_s : List ℕ → List Seg → List Slot → ℕ → Grown
@@ -72,12 +70,12 @@ module _ (limit : ℕ) where
   abbrev pub item_s : List Slot → ℕ → Grown
   item_s vs p = make_s vs (record { kind = 5; parent = p; key = 0; len = 0; «data» = 0 })
 
-  abbrev pub push_by : List Slot → ℕ → Seg → Found → Grown
-  push_by vs p k (At n) = pick (eqb (get_or vs n void).kind 4) (item_s vs (n + 2)) (stuck 13)
-  push_by vs p k Nothing = onward (make_s vs (keyed_slot 4 p k)) item_s
+  abbrev pub push_by : List Slot → ℕ → Seg → Option ℕ → Grown
+  push_by vs p k (Some n) = pick (eqb (get_or vs n void).kind 4) (item_s vs (n + 2)) (stuck 13)
+  push_by vs p k None = onward (make_s vs (keyed_slot 4 p k)) item_s
 
   unfoldable pub push_s : List ℕ → List Slot → ℕ → Seg → Grown
-  push_s bytes vs p k = push_by vs p k (look_s bytes 0 vs p (spelt bytes k) Nothing)
+  push_s bytes vs p k = push_by vs p k (look_s bytes 0 vs p (spelt bytes k) None)
 
   -- along all but the last segment, and f there; an empty path leads nowhere
   abbrev pub to_last_s : List ℕ → (List Slot → ℕ → Seg → Grown) → List Seg → List Slot → ℕ → Grown

@@ -1,12 +1,12 @@
 -- What a reader leaves in the two rooms: bytes after those of the store, values after those of the tree room, refused or not.
-use Rattle.std.specs.Prelude.{ℕ, ◌+◌, ◌*◌, ◌≤◌, ◌<◌, List, [], ◌∷◌, ◌++◌, ◌≡◌, eqb, length}
+use Rattle.std.specs.Prelude.{ℕ, ◌+◌, ◌*◌, ◌≤◌, ◌<◌, List, [], ◌∷◌, ◌++◌, ◌≡◌, eqb, length, Result, Ok, Err}
 use Rattle.meaning.specs.Base.{pick}
+use Rattle.meaning.specs.Numbered.{number}
 use Rattle.laws.specs.Stored.{stored}
 use Rattle.tree.specs.declared.Slot.{Slot}
 use Rattle.tree.specs.Room.{cell}
 use Rattle.values.specs.declared.State.{State}
-use Rattle.values.specs.declared.Reply.{Reply}
-use Rattle.values.specs.declared.Reply.TheVariants.{Fine, Fault}
+use Rattle.values.specs.declared.Stopped.{Stopped}
 
 -- 0 or the number of the fault; the bytes and the values added until then
 pub record Out : Type 0 where
@@ -32,9 +32,20 @@ and_then used made o k = pick (eqb o.fault 0) (join o (k (used + length o.bytes)
 abbrev pub moved : State → Out → State
 moved st o = record { used = st.used + length o.bytes; made = st.made + length o.slots }
 
+-- 0 or the number that the code refuses with
+abbrev pub fault_of : Result State Stopped → ℕ
+fault_of (Ok at) = 0
+fault_of (Err e) = number e.refused
+
+-- the state that it tells, refused or not
+abbrev pub state_of : Result State Stopped → State
+state_of (Ok at) = at
+state_of (Err e) = e.at
+
 -- the answer of the code
-abbrev pub reply_of : State → Out → Reply
-reply_of st o = pick (eqb o.fault 0) (Fine (moved st o)) (Fault o.fault (moved st o))
+pub record Replies (st : State) (o : Out) (r : Result State Stopped) : Type 0 where
+  pub fault : fault_of r ≡ o.fault
+  pub there : state_of r ≡ moved st o
 
 abbrev pub cells : List Slot → List ℕ
 cells [] = []
@@ -49,16 +60,16 @@ pub record Ready (limit : ℕ) (s store tree : List ℕ) (st : State) : Type 0 w
   pub made : st.made ≤ limit
 
 -- a reader of s that adds o
-pub record Filled (limit : ℕ) (s store tree store' tree' : List ℕ) (st : State) (o : Out) (r : Reply) : Type 0 where
-  pub says : r ≡ reply_of st o
+pub record Filled (limit : ℕ) (s store tree store' tree' : List ℕ) (st : State) (o : Out) (r : Result State Stopped) : Type 0 where
+  pub says : Replies st o r
   pub short : length o.bytes ≤ length s
   pub most : st.made + length o.slots ≤ limit
   pub store_is : store' ≡ stored store st.used o.bytes
   pub tree_is : tree' ≡ stored tree (32 * st.made) (cells o.slots)
 
 -- one that adds at most a value, and no bytes
-pub record Made (limit : ℕ) (tree tree' : List ℕ) (st : State) (o : Out) (r : Reply) : Type 0 where
-  pub says : r ≡ reply_of st o
+pub record Made (limit : ℕ) (tree tree' : List ℕ) (st : State) (o : Out) (r : Result State Stopped) : Type 0 where
+  pub says : Replies st o r
   pub none : o.bytes ≡ []
   pub most : st.made + length o.slots ≤ limit
   pub tree_is : tree' ≡ stored tree (32 * st.made) (cells o.slots)

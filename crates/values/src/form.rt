@@ -4,65 +4,42 @@ ghost use Rattle.std.specs.Prelude.{◌≡◌};
 ghost use Rattle.meaning.specs.Document as meant;
 ghost use Rattle.values.specs.Forms.{Formed};
 
-// `[[..]]`, `[..]`, an assignment whose `=` stands at a place, or neither.
+// `[[..]]`, `[..]`, or an assignment whose `=` stands at a place.
 #[derive(Clone, Copy)]
 pub enum Form {
     Pushes,
     Heads,
     Sets(usize),
-    Neither,
 }
 
 // `[[..]]`
 fn is_array_header(l: &[u8]) -> bool
     ensures { result ≡ meant.array_header l.now }
 {
-    let n = l.len();
-    if n < 4 {
-        return false;
-    }
-    if l[0] == b'[' {
-        if l[1] == b'[' {
-            if l[n - 1] == b']' {
-                return l[n - 2] == b']';
-            }
-            return false;
-        }
-        return false;
-    }
-    false
+    matches!(l, [b'[', b'[', .., b']', b']'])
 }
 
 // `[..]` not starting `[[`
 fn is_table_header(l: &[u8]) -> bool
     ensures { result ≡ meant.table_header l.now }
 {
-    let n = l.len();
-    if n < 2 {
-        return false;
-    }
-    if l[0] == b'[' {
-        if l[1] == b'[' {
-            return false;
-        }
-        return l[n - 1] == b']';
-    }
-    false
+    matches!(l, [b'[', .., b']']) && l[1] != b'['
 }
 
-// What the trimmed line l is.
-pub fn classify(l: &[u8]) -> Form
+// What the trimmed line l is, if it is a header or an assignment.
+pub fn classify(l: &[u8]) -> Option<Form>
     ensures { Formed l.now result }
 {
     if is_array_header(l) {
-        return Form::Pushes;
+        return Some(Form::Pushes);
     }
     if is_table_header(l) {
-        return Form::Heads;
+        return Some(Form::Heads);
     }
     let at = text::find_outside(l, b'=');
     if at < l.len() {
-        return Form::Sets(at);
+        Some(Form::Sets(at))
+    } else {
+        None
     }
-    Form::Neither
 }

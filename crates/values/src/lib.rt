@@ -2,10 +2,14 @@
 
 #![tactic(auto)]
 
+ghost use Rattle.std.specs.Prelude.{◌≡◌};
+
 pub mod form;
 pub mod grow;
 pub mod splitting;
 pub mod value;
+
+use meaning::Refused;
 
 // How many bytes of the store are used, and how many values are made.
 #[derive(Clone, Copy)]
@@ -14,9 +18,18 @@ pub struct State {
     pub made: usize,
 }
 
-// What a reader says: the state after what it read; or the number of its fault and the state there.
+// What a reader refuses its text for, and the state there.
 #[derive(Clone, Copy)]
-pub enum Reply {
-    Fine(State),
-    Fault(u32, State),
+pub struct Stopped {
+    pub refused: Refused,
+    pub at: State,
+}
+
+// What goes on past a value tells the refusal alone.
+impl From<Stopped> for Refused {
+    ghost from_gives = { λ s r. r ≡ s.refused };
+
+    fn from(s: Stopped) -> Refused {
+        s.refused
+    }
 }

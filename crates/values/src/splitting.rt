@@ -10,30 +10,23 @@ use meaning::{Scan, StringState};
 fn separates(c: Scan, b: u8) -> bool
     ensures { result ≡ meant.separates? c b }
 {
-    let state = c.state;
-    if text::equals_outside(b',', state, b) {
-        return c.opens == c.closes;
-    }
-    false
+    text::equals_outside(b',', c.state, b) && c.opens == c.closes
 }
 
 // How many bytes stand before the first comma that separates items, or all of them.
 pub fn item(s: &[u8]) -> usize
     ensures { Item s.now result }
 {
-    let mut i = 0;
-    let mut x = Scan {
+    let mut scan = Scan {
         state: StringState::Outside,
         opens: 0,
         closes: 0,
     };
-    while i < s.len() {
-        let b = s[i];
-        if separates(x, b) {
+    for (i, b) in s.iter().enumerate() {
+        if separates(scan, *b) {
             return i;
         }
-        x = text::step(x, b);
-        i += 1;
+        scan = text::step(scan, *b);
     }
-    i
+    s.len()
 }

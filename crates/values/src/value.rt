@@ -1,13 +1,11 @@
 // Values. The value reader, the array reader and the reader of its items call each other on ever shorter text.
 
 ghost use Rattle.std.specs.Prelude.{◌≡◌, ◌+◌, ◌<◌};
-ghost use Rattle.values.specs.declared.Reply.TheVariants.{Fault};
 ghost use Rattle.values.specs.Out.{Ready, Filled, Places, Made};
 ghost use Rattle.values.specs.Fill as fill;
 
-use crate::{Reply, State, splitting};
-use scalar::integer::Int;
-use scalar::string::Decoded;
+use crate::{State, Stopped, splitting};
+use meaning::Refused;
 use tree::{
     KIND_ARRAY, KIND_BOOLEAN, KIND_INTEGER, KIND_NEGATIVE, KIND_STRING, STRING_LENGTH_UNIT, Slot,
 };
@@ -37,39 +35,35 @@ fn string_slot(parent: u16, at: usize, n: usize) -> Slot
     requires { at + n < 65536 }
     ensures { result ≡ fill.string_slot parent at n }
 {
-    let bits = at as u64 + STRING_LENGTH_UNIT * (n as u64);
-    valued(parent, KIND_STRING, bits)
+    valued(
+        parent,
+        KIND_STRING,
+        at as u64 + STRING_LENGTH_UNIT * (n as u64),
+    )
 }
 
 fn sign_kind(neg: bool) -> u8
     ensures { result ≡ fill.sign_kind neg }
 {
-    if neg {
-        return KIND_NEGATIVE;
-    }
-    KIND_INTEGER
+    if neg { KIND_NEGATIVE } else { KIND_INTEGER }
 }
 
 // Makes one value, or 16.
-fn make(tree: &mut [u8], st: State, limit: usize, v: Slot) -> Reply
+fn make(tree: &mut [u8], st: State, limit: usize, v: Slot) -> Result<State, Stopped>
     requires { Places limit tree.old st }
     ensures { Made limit tree.old tree.new st (fill.makes limit st.made v) result }
 {
-    let made = st.made;
-    if limit <= made {
-        return Reply::Fault(16, st);
+    if limit <= st.made {
+        return Err(Stopped {
+            refused: Refused::TooManyValues,
+            at: st,
+        });
     }
-    tree::put(tree, made, v);
-    Reply::Fine(State {
-        used: st.used,
-        made: made + 1,
+    tree::put(tree, st.made, v);
+    Ok(State {
+        made: st.made + 1,
+        ..st
     })
-}
-
-fn fault(n: u32, used: usize, made: usize) -> Reply
-    ensures { result ≡ Fault n (record { used = used; made = made }) }
-{
-    Reply::Fault(n, State { used, made })
 }
 
 // A string after its opening quote: 8, 9, then 10, then 16.
@@ -80,71 +74,76 @@ fn string(
     st: State,
     parent: u16,
     limit: usize,
-) -> Reply
+) -> Result<State, Stopped>
     requires { Ready limit s.now store.old tree.old st }
     ensures { Filled limit s.now store.old tree.old store.new
         tree.new st (fill.string_out limit parent st.used st.made s.now) result }
 {
-    let used = st.used;
-    let made = st.made;
-    let d = scalar::string::put_string(s, store, used);
-    match d {
-        Decoded::Escape { at: _, written } => fault(8, used + written, made),
-        Decoded::Unended { written } => fault(9, used + written, made),
-        Decoded::Done { used: n, written } => {
+    match scalar::string::put_string(s, store, st.used) {
+        Ok(said) => {
             let next = State {
-                used: used + written,
-                made,
+                used: st.used + said.written,
+                ..st
             };
-            if chars::blank(&s[n..]) {
-                let v = string_slot(parent, used, written);
+            if chars::blank(&s[said.used..]) {
+                let v = string_slot(parent, st.used, said.written);
                 return make(tree, next, limit, v);
             }
-            Reply::Fault(10, next)
+            Err(Stopped {
+                refused: Refused::AfterString,
+                at: next,
+            })
+        }
+        Err(bad) => {
+            let at = State {
+                used: st.used + bad.written,
+                ..st
+            };
+            Err(Stopped {
+                refused: bad.refused,
+                at,
+            })
         }
     }
 }
 
 // `true`, `false` or an integer.
-fn plain(s: &[u8], tree: &mut [u8], st: State, parent: u16, limit: usize) -> Reply
+fn plain(s: &[u8], tree: &mut [u8], st: State, parent: u16, limit: usize) -> Result<State, Stopped>
     requires { Places limit tree.old st }
     ensures { Made limit tree.old tree.new st
         (fill.plain_out limit parent st.made s.now) result }
 {
     if slices::same(s, b"true") {
-        let v = valued(parent, KIND_BOOLEAN, 1);
-        return make(tree, st, limit, v);
+        return make(tree, st, limit, valued(parent, KIND_BOOLEAN, 1));
     }
     if slices::same(s, b"false") {
-        let v = valued(parent, KIND_BOOLEAN, 0);
-        return make(tree, st, limit, v);
+        return make(tree, st, limit, valued(parent, KIND_BOOLEAN, 0));
     }
-    let i = scalar::integer::read_int(s);
-    match i {
-        Int::Value(x) => {
-            let kind = sign_kind(x.neg);
-            let v = valued(parent, kind, x.mag);
-            make(tree, st, limit, v)
-        }
-        Int::Wrong => Reply::Fault(12, st),
+    match scalar::integer::read_int(s) {
+        Ok(x) => make(tree, st, limit, valued(parent, sign_kind(x.neg), x.mag)),
+        Err(refused) => Err(Stopped { refused, at: st }),
     }
 }
 
 // What follows a `[`: 11, 16, and the array's own value.
-fn open_array(s: &[u8], tree: &mut [u8], st: State, parent: u16, limit: usize) -> Reply
+fn open_array(
+    s: &[u8],
+    tree: &mut [u8],
+    st: State,
+    parent: u16,
+    limit: usize,
+) -> Result<State, Stopped>
     requires { Places limit tree.old st }
     ensures { Made limit tree.old tree.new st
         (fill.open_out limit parent st.made s.now) result }
 {
-    let n = s.len();
-    if n == 0 {
-        return Reply::Fault(11, st);
+    match s {
+        [.., b']'] => make(tree, st, limit, valued(parent, KIND_ARRAY, 0)),
+        _ => Err(Stopped {
+            refused: Refused::UnendedArray,
+            at: st,
+        }),
     }
-    if s[n - 1] == b']' {
-        let v = valued(parent, KIND_ARRAY, 0);
-        return make(tree, st, limit, v);
-    }
-    Reply::Fault(11, st)
 }
 
 // One value, white space around it passed over.
@@ -156,7 +155,7 @@ pub fn value(
     st: State,
     parent: u16,
     allowed: Allowed,
-) -> Reply
+) -> Result<State, Stopped>
     requires { Ready allowed.values s.now store.old tree.old st }
     ensures { Filled allowed.values s.now store.old tree.old
         store.new tree.new st
@@ -165,16 +164,11 @@ pub fn value(
     let t = chars::trim(s);
     let from = t.from;
     let end = t.end;
-    let c = slices::peek(&s[from..end], 0);
-    if c == b'"' {
-        let a = from + 1;
-        return string(&s[a..end], store, tree, st, parent, allowed.values);
+    match &s[from..end] {
+        [b'"', rest @ ..] => string(rest, store, tree, st, parent, allowed.values),
+        [b'[', rest @ ..] => array(rest, store, tree, st, parent, allowed),
+        all => plain(all, tree, st, parent, allowed.values),
     }
-    if c == b'[' {
-        let a = from + 1;
-        return array(&s[a..end], store, tree, st, parent, allowed);
-    }
-    plain(&s[from..end], tree, st, parent, allowed.values)
 }
 
 // What follows a `[`: 14 comes first, and the items hang under the array.
@@ -186,29 +180,26 @@ fn array(
     st: State,
     parent: u16,
     allowed: Allowed,
-) -> Reply
+) -> Result<State, Stopped>
     requires { Ready allowed.values s.now store.old tree.old st }
     ensures { Filled allowed.values s.now store.old tree.old
         store.new tree.new st
         (fill.brackets_out allowed.values allowed.arrays parent st.used st.made s.now) result }
 {
     if allowed.arrays == 0 {
-        return Reply::Fault(14, st);
+        return Err(Stopped {
+            refused: Refused::TooDeep,
+            at: st,
+        });
     }
-    let made = st.made;
-    let r = open_array(s, tree, st, parent, allowed.values);
-    match r {
-        Reply::Fault(n, at) => Reply::Fault(n, at),
-        Reply::Fine(next) => {
-            let e = s.len() - 1;
-            let under = (made + 2) as u16;
-            let inside = Allowed {
-                values: allowed.values,
-                arrays: allowed.arrays - 1,
-            };
-            items(&s[..e], store, tree, next, under, inside)
-        }
-    }
+    let next = open_array(s, tree, st, parent, allowed.values)?;
+    let e = s.len() - 1;
+    let under = (st.made + 2) as u16;
+    let inside = Allowed {
+        arrays: allowed.arrays - 1,
+        ..allowed
+    };
+    items(&s[..e], store, tree, next, under, inside)
 }
 
 // The values between separating commas, one after the other; blank ones are passed over.
@@ -220,7 +211,7 @@ fn items(
     st: State,
     parent: u16,
     allowed: Allowed,
-) -> Reply
+) -> Result<State, Stopped>
     requires { Ready allowed.values s.now store.old tree.old st }
     ensures { Filled allowed.values s.now store.old tree.old
         store.new tree.new st
@@ -229,22 +220,11 @@ fn items(
     let mut i = 0;
     let mut cur = st;
     while i < s.len() {
-        let k = splitting::item(&s[i..]);
-        let e = i + k;
-        if chars::blank(&s[i..e]) {
-            i = e + 1;
-        } else {
-            let r = value(&s[i..e], store, tree, cur, parent, allowed);
-            match r {
-                Reply::Fault(n, at) => {
-                    return Reply::Fault(n, at);
-                }
-                Reply::Fine(next) => {
-                    cur = next;
-                    i = e + 1;
-                }
-            }
+        let e = i + splitting::item(&s[i..]);
+        if !chars::blank(&s[i..e]) {
+            cur = value(&s[i..e], store, tree, cur, parent, allowed)?;
         }
+        i = e + 1;
     }
-    Reply::Fine(cur)
+    Ok(cur)
 }

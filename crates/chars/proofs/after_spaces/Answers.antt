@@ -1,9 +1,12 @@
+use Prim.Native.Nat.{ℕ, ◌<◌, ◌≤◌}
 use borrow.Author.Rules.{rules}
-use Rattle.chars.proofs.Ends.{lead_none, lead_on}
+use mathlib.Core.Path.{◌≡◌}
+use lib.ListN.{length, get_or}
+use Rattle.chars.proofs.Ends.{leads}
 use Rattle.chars.proofs.after_spaces.Goals as goal
 
-pub loop-i-init : goal.loop-i-init
-loop-i-init c = search (rules, lead_none)
-
-pub loop-i-preserved : goal.loop-i-preserved
-loop-i-preserved c = search (rules, lead_on)
+pub returns : goal.returns
+returns c =
+    let h : c.unwrap_or.result ≤ length c.args.s.now = search rules in
+    let e : (k : ℕ) → k < c.unwrap_or.result → get_or c.args.s.now k 0 ≡ 32 = search rules in
+    leads c.args.s.now _ h e

@@ -1,12 +1,17 @@
 use borrow.Author.Rules.{rules}
-use Rattle.chars.proofs.Ends.{blank_none, blank_dark, blank_told}
+use mathlib.Core.Bool.{not}
+use mathlib.Core.Path.{◌∙◌, ap}
+use Rattle.chars.proofs.Spaces.{all_white}
+use Rattle.chars.proofs.Ends.{blank_none, blank_dark}
 use Rattle.chars.proofs.blank.Goals as goal
 
-pub returns-then-s-eq0 : goal.returns-then-s-eq0
-returns-then-s-eq0 c = search (rules, blank_none)
+pub returns-then-is_empty : goal.returns-then-is_empty
+returns-then-is_empty c = c.if-is_empty.true ∙ blank_none _ (search rules)
 
-pub returns-then-surely_no_space : goal.returns-then-surely_no_space
-returns-then-surely_no_space c = search (rules, blank_dark)
+pub returns-then-not-surely_no_space : goal.returns-then-not-surely_no_space
+returns-then-not-surely_no_space c = search (rules, all_white)
 
-pub returns : goal.returns
-returns c = search (rules, blank_told)
+pub returns-else-not-surely_no_space : goal.returns-else-not-surely_no_space
+returns-else-not-surely_no_space c =
+    let d : _ = c.if-not-surely_no_space.false in
+    ap not d ∙ blank_dark c.args.s.now (search rules) _ c.surely_no_space.ensures d

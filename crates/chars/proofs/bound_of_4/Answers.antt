@@ -1,6 +1,5 @@
 use borrow.Author.Rules.{rules}
 use Rattle.chars.proofs.Eights.{most_of}
-use borrow.Author.Rules.{rules}
 use Rattle.chars.proofs.bound_of_4.Goals as goal
 
 pub returns : goal.returns

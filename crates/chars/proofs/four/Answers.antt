@@ -3,14 +3,10 @@ use Rattle.chars.specs.Rows.{four}
 use Rattle.laws.specs.Tests.{calls}
 use Rattle.chars.proofs.four.Goals as goal
 
-pub returns-then-row4 : goal.returns-then-row4
-unfolding four
-returns-then-row4 c = search calls
-
 pub returns-then-row4-2 : goal.returns-then-row4-2
 unfolding four
 returns-then-row4-2 c = search calls
 
-pub returns : goal.returns
+pub returns-else-row4-2 : goal.returns-else-row4-2
 unfolding four
-returns c = search calls
+returns-else-row4-2 c = search calls

@@ -7,6 +7,6 @@ pub returns-then-between : goal.returns-then-between
 unfolding row2
 returns-then-between c = search calls
 
-pub returns : goal.returns
+pub returns-else-between : goal.returns-else-between
 unfolding row2
-returns c = search calls
+returns-else-between c = search calls

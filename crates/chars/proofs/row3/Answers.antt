@@ -7,10 +7,6 @@ pub returns-then-between-2 : goal.returns-then-between-2
 unfolding row3
 returns-then-between-2 c = search calls
 
-pub returns-then-between : goal.returns-then-between
+pub returns-else-between-2 : goal.returns-else-between-2
 unfolding row3
-returns-then-between c = search calls
-
-pub returns : goal.returns
-unfolding row3
-returns c = search calls
+returns-else-between-2 c = search calls

@@ -7,6 +7,6 @@ pub returns-then-row3 : goal.returns-then-row3
 unfolding row4
 returns-then-row3 c = search calls
 
-pub returns : goal.returns
+pub returns-else-row3 : goal.returns-else-row3
 unfolding row4
-returns c = search calls
+returns-else-row3 c = search calls

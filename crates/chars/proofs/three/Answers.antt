@@ -3,18 +3,10 @@ use Rattle.chars.specs.Rows.{three}
 use Rattle.laws.specs.Tests.{calls}
 use Rattle.chars.proofs.three.Goals as goal
 
-pub returns-then-row3 : goal.returns-then-row3
-unfolding three
-returns-then-row3 c = search calls
-
-pub returns-then-row3-2 : goal.returns-then-row3-2
-unfolding three
-returns-then-row3-2 c = search calls
-
 pub returns-then-row3-3 : goal.returns-then-row3-3
 unfolding three
 returns-then-row3-3 c = search calls
 
-pub returns : goal.returns
+pub returns-else-row3-3 : goal.returns-else-row3-3
 unfolding three
-returns c = search calls
+returns-else-row3-3 c = search calls

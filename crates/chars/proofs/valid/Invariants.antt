@@ -1,7 +1,7 @@
 -- The bytes before i are whole characters, so the text is valid where the rest from i on is.
-use Rattle.chars.proofs.Spaces.{Checking}
-use lib.ListN.{length}
 use Prim.Native.Nat.{◌-◌}
+use lib.ListN.{length}
+use Rattle.chars.proofs.Spaces.{Checking}
 use Rattle.chars.proofs.valid.Given as goal
 
 abbrev pub invariant-loop-i : goal.invariant-loop-i

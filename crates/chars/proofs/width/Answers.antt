@@ -1,5 +1,5 @@
-use Rattle.chars.proofs.Widths.{none, one_byte, two_bytes, three_bytes, four_bytes, no_bytes}
 use borrow.Author.Rules.{rules}
+use Rattle.chars.proofs.Widths.{none, one_byte, two_bytes, three_bytes, four_bytes, no_bytes}
 use Rattle.chars.proofs.width.Goals as goal
 
 pub returns-then-s-eq0 : goal.returns-then-s-eq0
@@ -17,5 +17,5 @@ returns-then-three c = search (rules, three_bytes)
 pub returns-then-four : goal.returns-then-four
 returns-then-four c = search (rules, four_bytes)
 
-pub returns : goal.returns
-returns c = search (rules, no_bytes)
+pub returns-else-four : goal.returns-else-four
+returns-else-four c = search (rules, no_bytes)

@@ -6,5 +6,8 @@ use Rattle.features.proofs.count_features.Goals as goal
 pub returns : goal.returns
 returns c = search (rules, span_all)
 
+pub invariant_of-within : goal.invariant_of-within
+invariant_of-within c = record { fits = (span_in _ c.args.rooms.store.now _ c.args.f _ c.args.rooms.fits c.span-s.ensures).0 }
+
 pub tally-requires : goal.tally-requires
-tally-requires c = span_in _ c.args.store.now _ c.args.f _ c.requires c.span-s.ensures
+tally-requires c = (span_in _ c.args.rooms.store.now _ c.args.f _ c.args.rooms.fits c.span-s.ensures).1

@@ -4,8 +4,8 @@ use Rattle.tree.specs.Steps.{to_come}
 use Rattle.features.proofs.Stepping.{Sifting}
 use Rattle.features.proofs.items_fault.Given as goal
 
-abbrev pub invariant-loop-value : goal.invariant-loop-value
-invariant-loop-value l = Sifting l.tree l.store l.made l.place l.limit l.fault l.n l.w
+abbrev pub invariant-loop-step : goal.invariant-loop-step
+invariant-loop-step l = Sifting l.rooms.tree.now l.rooms.store.now l.rooms.made l.place l.limit l.fault l.n l.w
 
-abbrev pub decreases-loop-value : goal.decreases-loop-value
-decreases-loop-value l = length (to_come l.tree l.w)
+abbrev pub decreases-loop-step : goal.decreases-loop-step
+decreases-loop-step l = length (to_come l.rooms.tree.now l.w)

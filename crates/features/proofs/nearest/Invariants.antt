@@ -4,8 +4,8 @@ use Rattle.features.specs.Pieces.{bound}
 use Rattle.features.proofs.Stepping.{Nearing}
 use Rattle.features.proofs.nearest.Given as goal
 
-abbrev pub invariant-loop-best : goal.invariant-loop-best
-invariant-loop-best l = Nearing l.tree l.store l.made l.f l.from l.after l.best l.at
+abbrev pub invariant-loop-raw : goal.invariant-loop-raw
+invariant-loop-raw l = Nearing l.rooms.tree.now l.rooms.store.now l.rooms.made l.f l.from l.after l.best l.at
 
-abbrev pub decreases-loop-best : goal.decreases-loop-best
-decreases-loop-best l = bound l.tree l.store l.made l.f - l.at
+abbrev pub decreases-loop-raw : goal.decreases-loop-raw
+decreases-loop-raw l = bound l.rooms.tree.now l.rooms.store.now l.rooms.made l.f - l.at

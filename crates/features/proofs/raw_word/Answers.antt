@@ -8,8 +8,8 @@ overflow_add-result c = search (rules, raw_fits)
 pub overflow_sub-result : goal.overflow_sub-result
 overflow_sub-result c = search (rules, raw_rises)
 
-pub returns-in-End : goal.returns-in-End
-returns-in-End c = search (rules, raw_end)
+pub returns-in_err-word : goal.returns-in_err-word
+returns-in_err-word c = search (rules, raw_end)
 
-pub returns-in-At : goal.returns-in-At
-returns-in-At c = search (rules, raw_step)
+pub returns : goal.returns
+returns c = raw_step _ _ _ _ _ c.stored-s.ensures _ c.first.ensures _ c.in_ok-word.was

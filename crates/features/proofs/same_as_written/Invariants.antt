@@ -4,8 +4,8 @@ use Rattle.features.specs.Pieces.{bound}
 use Rattle.features.proofs.Comparing.{Pairing}
 use Rattle.features.proofs.same_as_written.Given as goal
 
-abbrev pub invariant-loop-p : goal.invariant-loop-p
-invariant-loop-p l = Pairing l.tree l.store l.made l.f l.g l.at l.bt
+abbrev pub invariant-loop-r : goal.invariant-loop-r
+invariant-loop-r l = Pairing l.rooms.tree.now l.rooms.store.now l.rooms.made l.f l.g l.at l.bt
 
-abbrev pub decreases-loop-p : goal.decreases-loop-p
-decreases-loop-p l = bound l.tree l.store l.made l.f - l.at
+abbrev pub decreases-loop-r : goal.decreases-loop-r
+decreases-loop-r l = bound l.rooms.tree.now l.rooms.store.now l.rooms.made l.f - l.at

@@ -1,6 +1,7 @@
 use borrow.Author.Rules.{rules}
-use Rattle.layout.proofs.Naming.{name_done}
+use Rattle.meaning.specs.Rules.{name_of}
 use Rattle.layout.proofs.partition_name.Goals as goal
 
 pub returns : goal.returns
-returns c = search (rules, name_done)
+unfolding name_of
+returns c = search rules

@@ -1,11 +1,6 @@
 -- None of the bytes passed over is the one looked for, so the first that fits is the first of all.
-use lib.ListN.{length}
 use Rattle.slices.specs.Found.{at?, Passed}
-use Prim.Native.Nat.{◌-◌}
 use Rattle.slices.proofs.find.Given as goal
 
 abbrev pub invariant-loop-i : goal.invariant-loop-i
 invariant-loop-i l = Passed (at? l.c) l.s l.i
-
-abbrev pub decreases-loop-i : goal.decreases-loop-i
-decreases-loop-i l = length l.s - l.i

@@ -4,8 +4,8 @@ use lib.ListN.{length}
 use Rattle.text.proofs.Joining.{Counting}
 use Rattle.text.proofs.count_line.Given as goal
 
-abbrev pub invariant-loop-i : goal.invariant-loop-i
-invariant-loop-i l = Counting l.s l.initial.i l.initial.count l.i l.count
+abbrev pub invariant-loop-end : goal.invariant-loop-end
+invariant-loop-end l = Counting l.s l.at l.initial.count l.end l.count
 
-abbrev pub decreases-loop-i : goal.decreases-loop-i
-decreases-loop-i l = length l.s - l.i
+abbrev pub decreases-loop-end : goal.decreases-loop-end
+decreases-loop-end l = length l.s - l.end

@@ -1,4 +1,4 @@
--- The definition asks the same of m: 1 is nothing, and any other number is a line that is still open.
+-- The definition asks the same of m.
 use Rattle.laws.specs.Tests.{tests}
 use Rattle.text.specs.Walk.{ending}
 use Rattle.text.proofs.ending.Goals as goal
@@ -7,6 +7,6 @@ pub returns-then-m-eq1 : goal.returns-then-m-eq1
 unfolding ending
 returns-then-m-eq1 c = search tests
 
-pub returns : goal.returns
+pub returns-else-m-eq1 : goal.returns-else-m-eq1
 unfolding ending
-returns c = search tests
+returns-else-m-eq1 c = search tests

@@ -4,8 +4,8 @@ use lib.ListN.{length}
 use Rattle.text.proofs.Joining.{Gathering}
 use Rattle.text.proofs.join_line.Given as goal
 
-abbrev pub invariant-loop-i : goal.invariant-loop-i
-invariant-loop-i l = Gathering l.s l.i l.m l.c
+abbrev pub invariant-loop-at : goal.invariant-loop-at
+invariant-loop-at l = Gathering l.s l.at l.lines l.carried
 
-abbrev pub decreases-loop-i : goal.decreases-loop-i
-decreases-loop-i l = length l.s - l.i
+abbrev pub decreases-loop-at : goal.decreases-loop-at
+decreases-loop-at l = length l.s - l.at

@@ -1,11 +1,10 @@
--- The lines before i are laid before j, and what is left of the text is laid after them.
+-- What is used of the scratch holds the lines before the rest, and the rest is laid after them.
 use Rattle.text.proofs.Laying.{Laying}
 use lib.ListN.{length}
-use Prim.Native.Nat.{◌-◌}
 use Rattle.text.proofs.lay.Given as goal
 
-abbrev pub invariant-loop-i : goal.invariant-loop-i
-invariant-loop-i l = Laying l.text l.initial.scratch l.scratch l.i l.j
+abbrev pub invariant-loop-rest : goal.invariant-loop-rest
+invariant-loop-rest l = Laying l.text l.initial.scratch l.scratch l.rest l.used
 
-abbrev pub decreases-loop-i : goal.decreases-loop-i
-decreases-loop-i l = length l.text - l.i
+abbrev pub decreases-loop-rest : goal.decreases-loop-rest
+decreases-loop-rest l = length l.rest

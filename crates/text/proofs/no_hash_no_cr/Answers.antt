@@ -1,12 +1,10 @@
-use borrow.Author.Rules.{rules}
-use Rattle.text.proofs.Standing.{mark_none, mark_on, mark_all}
+use Rattle.std.proofs.Common.{rules, ◌≡◌, bit_or, fold}
+use Rattle.std.proofs.iter.runs.Made.{chains}
+use Rattle.text.specs.Laid.{changed}
+use Rattle.text.proofs.Standing.{fold_bare}
 use Rattle.text.proofs.no_hash_no_cr.Goals as goal
 
-pub loop-i-init : goal.loop-i-init
-loop-i-init c = search (rules, mark_none)
-
-pub loop-i-preserved : goal.loop-i-preserved
-loop-i-preserved c = search (rules, mark_on)
-
 pub returns : goal.returns
-returns c = search (rules, mark_all)
+returns c =
+    let e : c.fold.result ≡ fold (λ m b. bit_or m (changed b)) 0 c.args.s.now = search (rules, chains) in
+    rw e (fold_bare c.args.s.now)

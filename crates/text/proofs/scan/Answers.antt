@@ -1,12 +1,13 @@
 use borrow.Author.Rules.{rules}
-use Rattle.text.proofs.Scans.{scan_start, scan_on, scan_end}
+use native.Mathlib.Omega.{arith}
+use Rattle.text.proofs.Scans.{scan_on, scan_end}
 use Rattle.text.proofs.scan.Goals as goal
 
-pub loop-i-init : goal.loop-i-init
-loop-i-init c = search (rules, scan_start)
+pub step-x-requires : goal.step-x-requires
+step-x-requires c = omega arith
 
-pub loop-i-preserved : goal.loop-i-preserved
-loop-i-preserved c = search (rules, scan_on)
+pub loop-b-preserved : goal.loop-b-preserved
+loop-b-preserved c = search (rules, scan_on)
 
 pub returns : goal.returns
 returns c = search (rules, scan_end)

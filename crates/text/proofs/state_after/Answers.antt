@@ -1,24 +1,28 @@
--- In each arm the state is known, and the bytes that change it are tested there in the definition's order.
+-- In each arm the state is known, and the bytes that change it are tested in the order of the definition.
+use Rattle.laws.specs.Tests.{tests}
 use Rattle.meaning.specs.Quote.{state_after}
-use Rattle.text.proofs.States.{opens, stays_out, escapes, closes, stays_in}
-use borrow.Author.Rules.{rules}
 use Rattle.text.proofs.state_after.Goals as goal
 
 pub returns-then-b-eq34 : goal.returns-then-b-eq34
-returns-then-b-eq34 c = search (rules, opens)
+unfolding state_after
+returns-then-b-eq34 c = rw c.in-Outside.is (search tests)
 
 pub returns-then-b-eq92 : goal.returns-then-b-eq92
-returns-then-b-eq92 c = search (rules, escapes)
+unfolding state_after
+returns-then-b-eq92 c = rw c.in-Inside.is (search tests)
 
 pub returns-then-b-eq34-2 : goal.returns-then-b-eq34-2
-returns-then-b-eq34-2 c = search (rules, closes)
+unfolding state_after
+returns-then-b-eq34-2 c = rw c.in-Inside.is (search tests)
 
 pub returns-else-b-eq34 : goal.returns-else-b-eq34
-returns-else-b-eq34 c = search (rules, stays_out)
+unfolding state_after
+returns-else-b-eq34 c = rw c.in-Outside.is (search tests)
 
 pub returns-else-b-eq34-2 : goal.returns-else-b-eq34-2
-returns-else-b-eq34-2 c = search (rules, stays_in)
+unfolding state_after
+returns-else-b-eq34-2 c = rw c.in-Inside.is (search tests)
 
 pub returns-in-Escaped : goal.returns-in-Escaped
 unfolding state_after
-returns-in-Escaped c = search rules
+returns-in-Escaped c = rw c.in-Escaped.is

@@ -1,6 +1,6 @@
-use Rattle.text.proofs.Scans.{step_is}
-use borrow.Author.Rules.{rules}
+use Rattle.meaning.specs.Quote.{step}
 use Rattle.text.proofs.step.Goals as goal
 
 pub returns : goal.returns
-returns c = search (rules, step_is)
+unfolding step
+returns c = cc (c.state_after.ensures, c.tally.ensures, c.tally-2.ensures)

@@ -1,4 +1,4 @@
--- The definition asks the same of the byte: one more where it is c outside a string, and else n as it was.
+-- The definition asks the same of the byte.
 use Rattle.meaning.specs.Quote.{tally}
 use Rattle.laws.specs.Tests.{calls}
 use Rattle.text.proofs.tally.Goals as goal
@@ -7,6 +7,6 @@ pub returns-then-equals_outside : goal.returns-then-equals_outside
 unfolding tally
 returns-then-equals_outside c = search calls
 
-pub returns : goal.returns
+pub returns-else-equals_outside : goal.returns-else-equals_outside
 unfolding tally
-returns c = search calls
+returns-else-equals_outside c = search calls

@@ -8,14 +8,14 @@ returns-then-limits-text c = search (rules, too_long)
 pub lay-used-requires : goal.lay-used-requires
 lay-used-requires c = search (rules, lay_fits)
 
-pub slice_bounds-read_laid-end-then-valid : goal.slice_bounds-read_laid-end-then-valid
-slice_bounds-read_laid-end-then-valid c = search (rules, laid_count)
+pub slice_bounds-read_laid-end : goal.slice_bounds-read_laid-end
+slice_bounds-read_laid-end c = search (rules, laid_count)
 
 pub read_laid-requires : goal.read_laid-requires
 read_laid-requires c = search (rules, laid_begun)
 
-pub returns-then-valid : goal.returns-then-valid
-returns-then-valid c = search (rules, laid_read)
-
 pub returns : goal.returns
-returns c = search (rules, not_utf8)
+returns c = search (rules, laid_read)
+
+pub returns-then-not-valid : goal.returns-then-not-valid
+returns-then-not-valid c = search (rules, not_utf8)

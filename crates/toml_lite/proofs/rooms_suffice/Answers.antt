@@ -1,12 +1,9 @@
-use Rattle.toml_lite.proofs.Reading.{small_store, small_tree, both_large}
+use Rattle.toml_lite.proofs.Reading.{small_store, large_store}
 use borrow.Author.Rules.{rules}
 use Rattle.toml_lite.proofs.rooms_suffice.Goals as goal
 
-pub returns-then-store-lt-TEXT_BYTES : goal.returns-then-store-lt-TEXT_BYTES
-returns-then-store-lt-TEXT_BYTES c = search (rules, small_store)
+pub returns-then-store-ge-TEXT_BYTES : goal.returns-then-store-ge-TEXT_BYTES
+returns-then-store-ge-TEXT_BYTES c = search (rules, large_store)
 
-pub returns-then-capacity-lt-VALUES : goal.returns-then-capacity-lt-VALUES
-returns-then-capacity-lt-VALUES c = search (rules, small_tree)
-
-pub returns : goal.returns
-returns c = search (rules, both_large)
+pub returns-else-store-ge-TEXT_BYTES : goal.returns-else-store-ge-TEXT_BYTES
+returns-else-store-ge-TEXT_BYTES c = search (rules, small_store)

@@ -3,14 +3,14 @@ use borrow.Author.Rules.{rules}
 use Rattle.toml_lite.proofs.Assigning.{setting_none, setting_fault, setting_done, setting_hangs}
 use Rattle.toml_lite.proofs.setting.Goals as goal
 
-pub returns-then-k-eq0 : goal.returns-then-k-eq0
-returns-then-k-eq0 c = search (rules, setting_none)
+pub returns-then-is_empty : goal.returns-then-is_empty
+returns-then-is_empty c = setting_none _ _ _ _ _ _ _ c.requires (search rules)
 
-pub returns-in-Fault : goal.returns-in-Fault
-returns-in-Fault c = search (rules, setting_fault)
+pub returns-in_err-st : goal.returns-in_err-st
+returns-in_err-st c = setting_fault _ _ _ _ _ _ _ c.requires (search rules) _ _ _ c.value.ensures _ c.in_err-st.was _ (search rules)
 
-pub returns-in-Fine : goal.returns-in-Fine
-returns-in-Fine c = search (rules, setting_done)
+pub returns : goal.returns
+returns c = setting_done _ _ _ _ _ _ _ c.requires (search rules) _ _ _ c.value.ensures _ c.in_ok-st.was _ _ _ c.hang_key.ensures
 
 pub hang_key-requires : goal.hang_key-requires
-hang_key-requires c = setting_hangs _ _ _ _ _ _ c.requires c.if-k-eq0.false _ _ _ c.value-r.ensures _ c.in-Fine.is
+hang_key-requires c = setting_hangs _ _ _ _ _ _ c.requires (search rules) _ _ _ c.value.ensures _ c.in_ok-st.was

@@ -5,8 +5,8 @@ use Rattle.tree.proofs.field.Goals as goal
 pub value_at-requires : goal.value_at-requires
 value_at-requires c = search (rules, field_stood)
 
-pub returns-in-At : goal.returns-in-At
-returns-in-At c = search (rules, field_some)
+pub returns-in-Some : goal.returns-in-Some
+returns-in-Some c = search (rules, field_some)
 
-pub returns-in-Nothing : goal.returns-in-Nothing
-returns-in-Nothing c = search (rules, field_none)
+pub returns-in-None : goal.returns-in-None
+returns-in-None c = search (rules, field_none)

@@ -8,8 +8,8 @@ loop-i-init c = search (rules, look_start)
 pub seek_block-found-requires : goal.seek_block-found-requires
 seek_block-found-requires c = search (rules, look_room)
 
-pub returns-in-At : goal.returns-in-At
-returns-in-At c = search (rules, look_hit)
+pub returns-then-is_some : goal.returns-then-is_some
+returns-then-is_some c = search (rules, look_hit)
 
 pub loop-i-preserved : goal.loop-i-preserved
 loop-i-preserved c = search (rules, look_on)

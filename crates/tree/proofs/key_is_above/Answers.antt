@@ -5,8 +5,8 @@ use Rattle.tree.proofs.key_is_above.Goals as goal
 pub get-w-requires : goal.get-w-requires
 get-w-requires c = search (rules, stands_holds)
 
-pub returns-in-At : goal.returns-in-At
-returns-in-At c = search (rules, above_at)
+pub returns-in-Some : goal.returns-in-Some
+returns-in-Some c = search (rules, above_at)
 
-pub returns-in-Nothing : goal.returns-in-Nothing
-returns-in-Nothing c = search (rules, above_all)
+pub returns-in-None : goal.returns-in-None
+returns-in-None c = search (rules, above_all)

@@ -2,14 +2,14 @@ use borrow.Author.Rules.{rules}
 use Rattle.turns.proofs.Judging.{first_on, first_here, first_end, first_start}
 use Rattle.turns.proofs.judge_marks.Goals as goal
 
-pub returns-then-n-ne0 : goal.returns-then-n-ne0
-returns-then-n-ne0 c = search (rules, first_here, c.loop-i.invariant, c.entry_fault-n.ensures)
+pub loop-place-init : goal.loop-place-init
+loop-place-init c = search (rules, first_start)
 
-pub loop-i-preserved : goal.loop-i-preserved
-loop-i-preserved c = search (rules, first_on, c.loop-i.invariant)
+pub returns-in-Err : goal.returns-in-Err
+returns-in-Err c = search (rules, first_here)
+
+pub loop-place-preserved : goal.loop-place-preserved
+loop-place-preserved c = search (rules, first_on)
 
 pub returns : goal.returns
 returns c = search (rules, first_end)
-
-pub loop-i-init : goal.loop-i-init
-loop-i-init c = first_start _ _ _ _ _ (search rules) c.requires c.first_twin-twin.ensures

@@ -1,9 +1,11 @@
-use Rattle.validate.proofs.Judging.{components_none, components_some}
-use borrow.Author.Rules.{rules}
+use Rattle.laws.specs.Tests.{tests}
+use Rattle.validate.specs.Faults.{counted_fault}
 use Rattle.validate.proofs.check_components.Goals as goal
 
 pub returns-then-count-eq0 : goal.returns-then-count-eq0
-returns-then-count-eq0 c = search (rules, components_none)
+unfolding counted_fault
+returns-then-count-eq0 c = search tests
 
 pub returns : goal.returns
-returns c = search (rules, components_some)
+unfolding counted_fault
+returns c = search tests

@@ -1,12 +1,11 @@
-use Rattle.validate.proofs.Judging.{clash_application, clash_component, clash_none}
-use borrow.Author.Rules.{rules}
+use Rattle.laws.specs.Tests.{tests}
 use Rattle.validate.proofs.check_uses.Goals as goal
 
-pub returns-then-at-components : goal.returns-then-at-components
-returns-then-at-components c = search (rules, clash_component)
+pub returns-in-None : goal.returns-in-None
+returns-in-None c = search tests
 
-pub returns-then-at-all : goal.returns-then-at-all
-returns-then-at-all c = search (rules, clash_application)
+pub returns-in-Some : goal.returns-in-Some
+returns-in-Some c = search tests
 
-pub returns : goal.returns
-returns c = search (rules, clash_none)
+pub returns-in-Some-2 : goal.returns-in-Some-2
+returns-in-Some-2 c = search tests

@@ -1,5 +1,5 @@
 use borrow.Author.Rules.{rules}
-use Rattle.validate.proofs.Judging.{applications_few, applications_followed, applications_passed, applications_refused, rules_refused}
+use Rattle.validate.proofs.Judging.{applications_followed, applications_passed, applications_refused, rules_refused}
 use Rattle.validate.proofs.judge_applications.Goals as goal
 
 pub each_application-a-requires : goal.each_application-a-requires
@@ -10,9 +10,6 @@ returns-then-b-ne0 c = search (rules, applications_refused)
 
 pub returns-then-rules-ne0 : goal.returns-then-rules-ne0
 returns-then-rules-ne0 c = search (rules, rules_refused)
-
-pub check_rest-requires : goal.check_rest-requires
-check_rest-requires c = search (rules, applications_few)
 
 pub returns : goal.returns
 returns c = search (rules, applications_passed)

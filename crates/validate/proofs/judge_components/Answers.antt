@@ -13,18 +13,17 @@ returns-then-a-ne0 c = search (rules, list_refused)
 pub each_component-c-requires : goal.each_component-c-requires
 each_component-c-requires c = search (rules, components_counted)
 
-pub returns-then-b-ne0 : goal.returns-then-b-ne0
-returns-then-b-ne0 c = search (rules, components_refused)
+pub returns-then-c-ne0 : goal.returns-then-c-ne0
+returns-then-c-ne0 c = search (rules, components_refused)
 
 pub judge_applications-requires : goal.judge_applications-requires
 judge_applications-requires c = (
-  c.requires.0,
-  c.requires.1,
+  c.requires,
   components_few _ _ _ _ c.component_list-l.ensures _ c.count_items-n.ensures _ _ _ c.in_section.ensures c.check_length.ensures c.earlier-a.ensures c.if-a-ne0.false _ _
-      c.each_component-c.ensures c.if-b-ne0.false,
+      c.each_component-c.ensures c.if-c-ne0.false,
 )
 
 pub returns : goal.returns
 returns c =
     components_passed _ _ _ _ c.component_list-l.ensures _ c.count_items-n.ensures _ _ _ c.in_section.ensures c.check_length.ensures c.earlier-a.ensures c.if-a-ne0.false _ _
-    c.each_component-c.ensures c.if-b-ne0.false _ _ _ _ c.check_components.ensures c.earlier-own.ensures c.judge_applications.ensures
+    c.each_component-c.ensures c.if-c-ne0.false _ _ _ _ c.check_components.ensures c.earlier-own.ensures c.judge_applications.ensures

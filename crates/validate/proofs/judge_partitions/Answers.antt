@@ -9,8 +9,8 @@ read_partitions-p-requires c = search (rules, partitions_among)
 pub returns-then-b-ne0 : goal.returns-then-b-ne0
 returns-then-b-ne0 c = search (rules, partitions_refused)
 
-pub check_layout-requires : goal.check_layout-requires
-check_layout-requires c = search (rules, parts_fit)
+pub check_layout-laid-requires : goal.check_layout-laid-requires
+check_layout-laid-requires c = search (rules, parts_fit)
 
 pub judge_components-requires : goal.judge_components-requires
 judge_components-requires c = search (rules, parts_fit)

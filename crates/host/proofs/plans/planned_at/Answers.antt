@@ -1,16 +1,14 @@
-use Rattle.parse.proofs.Judging.{sound_rooms}
-use Rattle.host.proofs.Plotting.{component_planned, no_component}
+-- The rooms hold the values where the view is read; of rooms that do not, all is 0.
 use borrow.Author.Rules.{rules}
+use Rattle.parse.proofs.Opening.{held, shut}
+use Rattle.host.proofs.Plotting.{component_planned, no_component}
 use Rattle.host.proofs.plans.planned_at.Goals as goal
 
-pub choose-c-requires : goal.choose-c-requires
-choose-c-requires c = search (rules, sound_rooms)
-
-pub component-requires : goal.component-requires
-component-requires c = search (rules, sound_rooms)
-
-pub returns-then-holds_values : goal.returns-then-holds_values
-returns-then-holds_values c = search (rules, component_planned)
-
 pub returns : goal.returns
-returns c = search (rules, no_component)
+returns c =
+    let o = c.in-Some.ensures in
+    let h = held _ _ c.in-Some.rooms.fits in
+    rw (← o.tree_is, ← o.store_is, ← o.made_is) (search (rules, component_planned))
+
+pub returns-in_default : goal.returns-in_default
+returns-in_default c = let h = shut _ _ c.in_default.ensures in search (rules, no_component)

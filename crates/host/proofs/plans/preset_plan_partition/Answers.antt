@@ -1,13 +1,6 @@
-use Rattle.parse.proofs.Judging.{sound_rooms}
-use Rattle.host.proofs.Plotting.{target_shown_lem, no_target}
-use borrow.Author.Rules.{rules}
+use Rattle.laws.specs.Tests.{calls}
+use Rattle.parse.proofs.Opening.{shut}
 use Rattle.host.proofs.plans.preset_plan_partition.Goals as goal
 
-pub target_of-requires : goal.target_of-requires
-target_of-requires c = search (rules, sound_rooms)
-
-pub returns-then-holds_values : goal.returns-then-holds_values
-returns-then-holds_values c = search (rules, target_shown_lem)
-
-pub returns : goal.returns
-returns c = search (rules, no_target)
+pub returns-in_default : goal.returns-in_default
+returns-in_default c = let h = shut _ _ c.in_default.ensures in search calls

@@ -1,16 +1,14 @@
-use Rattle.parse.proofs.Judging.{sound_rooms}
-use Rattle.host.proofs.Plotting.{stem_shown_lem, no_stem}
+-- The rooms hold the values where the view is read; of rooms that do not, all is 0.
 use borrow.Author.Rules.{rules}
+use Rattle.parse.proofs.Opening.{held, shut}
+use Rattle.host.proofs.Plotting.{stem_shown_lem, no_stem}
 use Rattle.host.proofs.plans.preset_plan_stem.Goals as goal
 
-pub choose-c-requires : goal.choose-c-requires
-choose-c-requires c = search (rules, sound_rooms)
-
-pub stem-requires : goal.stem-requires
-stem-requires c = search (rules, sound_rooms)
-
-pub returns-then-holds_values : goal.returns-then-holds_values
-returns-then-holds_values c = search (rules, stem_shown_lem)
-
 pub returns : goal.returns
-returns c = search (rules, no_stem)
+returns c =
+    let o = c.in-Some.ensures in
+    let h = held _ _ c.in-Some.rooms.fits in
+    rw (← o.tree_is, ← o.store_is, ← o.made_is) (search (rules, stem_shown_lem))
+
+pub returns-in_default : goal.returns-in_default
+returns-in_default c = let h = shut _ _ c.in_default.ensures in search (rules, no_stem)

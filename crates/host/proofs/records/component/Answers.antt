@@ -1,14 +1,14 @@
--- The rooms hold the values where the component is read, as its reader requires; where they do not, there is none.
-use Rattle.laws.specs.Tests.{calls}
-use Rattle.parse.proofs.Judging.{sound_rooms}
+-- The rooms hold the values where the view is read; of rooms that do not, all is 0.
 use borrow.Author.Rules.{rules}
+use Rattle.parse.proofs.Opening.{held, shut}
+use Rattle.laws.specs.Tests.{calls}
 use Rattle.host.proofs.records.component.Goals as goal
 
-pub component-requires : goal.component-requires
-component-requires c = search (rules, sound_rooms)
-
-pub returns-then-holds_values : goal.returns-then-holds_values
-returns-then-holds_values c = search calls
-
 pub returns : goal.returns
-returns c = search calls
+returns c =
+    let o = c.in-Some.ensures in
+    let h = held _ _ c.in-Some.rooms.fits in
+    rw (← o.tree_is, ← o.store_is, ← o.made_is) (search calls)
+
+pub returns-in_default : goal.returns-in_default
+returns-in_default c = let h = shut _ _ c.in_default.ensures in search calls

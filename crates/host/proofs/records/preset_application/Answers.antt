@@ -1,15 +1,15 @@
--- The rooms hold the values where the application is read, so its view is that of what is found; else all is 0.
-use Rattle.laws.specs.Tests.{calls}
-use Rattle.parse.proofs.Judging.{sound_rooms}
-use Rattle.host.proofs.Viewing.{application_shown_lem}
+-- The rooms hold the values where the view is read; of rooms that do not, all is 0.
 use borrow.Author.Rules.{rules}
+use Rattle.parse.proofs.Opening.{held, shut}
+use Rattle.laws.specs.Tests.{calls}
+use Rattle.host.proofs.Viewing.{application_shown_lem}
 use Rattle.host.proofs.records.preset_application.Goals as goal
 
-pub application-requires : goal.application-requires
-application-requires c = search (rules, sound_rooms)
-
-pub returns-then-holds_values : goal.returns-then-holds_values
-returns-then-holds_values c = search (rules, application_shown_lem)
-
 pub returns : goal.returns
-returns c = search calls
+returns c =
+    let o = c.in-Some.ensures in
+    let h = held _ _ c.in-Some.rooms.fits in
+    rw (← o.tree_is, ← o.store_is, ← o.made_is) (search (rules, application_shown_lem))
+
+pub returns-in_default : goal.returns-in_default
+returns-in_default c = let h = shut _ _ c.in_default.ensures in search calls

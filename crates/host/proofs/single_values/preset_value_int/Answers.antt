@@ -2,8 +2,8 @@ use Rattle.host.proofs.Valued.{int_told, int_refused}
 use borrow.Author.Rules.{rules}
 use Rattle.host.proofs.single_values.preset_value_int.Goals as goal
 
-pub returns-in-Value : goal.returns-in-Value
-returns-in-Value c = search (rules, int_told)
+pub returns-in-Ok : goal.returns-in-Ok
+returns-in-Ok c = search (rules, int_told)
 
-pub returns-in-Wrong : goal.returns-in-Wrong
-returns-in-Wrong c = search (rules, int_refused)
+pub returns-in-Err : goal.returns-in-Err
+returns-in-Err c = search (rules, int_refused)

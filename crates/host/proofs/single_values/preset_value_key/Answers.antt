@@ -5,8 +5,8 @@ use Rattle.host.proofs.single_values.preset_value_key.Goals as goal
 pub returns-then-store-s : goal.returns-then-store-s
 returns-then-store-s c = search (rules, key_short)
 
-pub returns-then-n-eq0 : goal.returns-then-n-eq0
-returns-then-n-eq0 c = search (rules, key_out)
+pub returns-in-Ok : goal.returns-in-Ok
+returns-in-Ok c = search (rules, key_out)
 
-pub returns : goal.returns
-returns c = search (rules, key_refused)
+pub returns-in-Err : goal.returns-in-Err
+returns-in-Err c = search (rules, key_refused)

@@ -1,21 +1,27 @@
 use borrow.Author.Rules.{rules}
-use Rattle.page.proofs.Quotes.{is_quote, is_backslash, is_feed, is_tab, is_return, is_plain}
+use Rattle.meaning.specs.Quoting.{letter_for}
+use Rattle.page.proofs.Quotes.{is_plain}
 use Rattle.page.proofs.quote.letter.Goals as goal
 
-pub returns-then-b-eq34 : goal.returns-then-b-eq34
-returns-then-b-eq34 c = search (rules, is_quote)
+pub returns-in-34 : goal.returns-in-34
+unfolding letter_for
+returns-in-34 c = search rules
 
-pub returns-then-b-eq92 : goal.returns-then-b-eq92
-returns-then-b-eq92 c = search (rules, is_backslash)
+pub returns-in-92 : goal.returns-in-92
+unfolding letter_for
+returns-in-92 c = search rules
 
-pub returns-then-b-eq10 : goal.returns-then-b-eq10
-returns-then-b-eq10 c = search (rules, is_feed)
+pub returns-in-10 : goal.returns-in-10
+unfolding letter_for
+returns-in-10 c = search rules
 
-pub returns-then-b-eq9 : goal.returns-then-b-eq9
-returns-then-b-eq9 c = search (rules, is_tab)
+pub returns-in-9 : goal.returns-in-9
+unfolding letter_for
+returns-in-9 c = search rules
 
-pub returns-then-b-eq13 : goal.returns-then-b-eq13
-returns-then-b-eq13 c = search (rules, is_return)
+pub returns-in-13 : goal.returns-in-13
+unfolding letter_for
+returns-in-13 c = search rules
 
-pub returns : goal.returns
-returns c = search (rules, is_plain)
+pub returns-in_default : goal.returns-in_default
+returns-in_default c = search (rules, is_plain)

@@ -1,5 +1,4 @@
 use borrow.Author.Rules.{rules}
-use Rattle.slices.proofs.Bytes.{led_end}
 use Rattle.page.proofs.Quotes.{plain_hit, plain_next}
 use Rattle.page.proofs.quote.plain_run.Goals as goal
 
@@ -8,6 +7,3 @@ returns-then-letter-ne0 c = search (rules, plain_hit)
 
 pub loop-i-preserved : goal.loop-i-preserved
 loop-i-preserved c = search (rules, plain_next)
-
-pub returns : goal.returns
-returns c = search (rules, led_end)

@@ -4,7 +4,7 @@ use Rattle.parse.proofs.Entering.{Walking}
 use Rattle.parse.proofs.entry.check_applications.Given as goal
 
 abbrev pub invariant-loop-i : goal.invariant-loop-i
-invariant-loop-i l = Walking l.tree l.store l.made l.most l.limit l.initial.w.place l.initial.w.end l.w l.fault l.i
+invariant-loop-i l = Walking l.rooms.tree.now l.rooms.store.now l.rooms.made l.most l.limit l.initial.w.place l.initial.w.end l.w l.fault l.i
 
 abbrev pub decreases-loop-i : goal.decreases-loop-i
 decreases-loop-i l = l.most + 1 - l.i

@@ -4,8 +4,8 @@ use Rattle.tree.specs.Steps.{to_come}
 use Rattle.parse.proofs.Entering.{Filled}
 use Rattle.parse.proofs.entry.each_partition.Given as goal
 
-abbrev pub invariant-loop-items : goal.invariant-loop-items
-invariant-loop-items l = Filled l.tree l.store l.made l.place l.end l.items l.i l.w
+abbrev pub invariant-loop-step : goal.invariant-loop-step
+invariant-loop-step l = Filled l.rooms.tree.now l.rooms.store.now l.rooms.made l.place l.end l.items l.i l.w
 
-abbrev pub decreases-loop-items : goal.decreases-loop-items
-decreases-loop-items l = length (to_come l.tree l.w)
+abbrev pub decreases-loop-step : goal.decreases-loop-step
+decreases-loop-step l = length (to_come l.rooms.tree.now l.w)

@@ -1,13 +1,10 @@
-use Rattle.laws.specs.Tests.{calls}
-use Rattle.parse.proofs.Judging.{sound_rooms}
-use borrow.Author.Rules.{rules}
+use Rattle.parse.proofs.Opening.{held, shut}
 use Rattle.parse.proofs.view.counts_at.Goals as goal
 
-pub counts_of-requires : goal.counts_of-requires
-counts_of-requires c = search (rules, sound_rooms)
+pub returns-in-Some : goal.returns-in-Some
+returns-in-Some c =
+    let o = c.in-Some.ensures in
+    rw (← o.tree_is, ← o.store_is, ← o.made_is, ← held _ _ c.in-Some.rooms.fits) c.counts_of.ensures
 
-pub returns-then-holds_values : goal.returns-then-holds_values
-returns-then-holds_values c = search calls
-
-pub returns : goal.returns
-returns c = search calls
+pub returns-in-None : goal.returns-in-None
+returns-in-None c = rw (← shut _ _ c.in-None.ensures)

@@ -1,6 +1,7 @@
 use borrow.Author.Rules.{rules}
-use Rattle.plan.proofs.Building.{build_made}
+use Rattle.plan.specs.Builds.{build_at}
 use Rattle.plan.proofs.builds.build_at.Goals as goal
 
 pub returns : goal.returns
-returns c = search (rules, build_made)
+unfolding build_at
+returns c = search rules

@@ -6,4 +6,4 @@ use Rattle.plan.proofs.builds.with_application.Goals as goal
 pub returns : goal.returns
 returns c =
     let w : length c.args.u.items ≡ 129 = search rules in
-    follows _ c.requires.2 w _ _ _ _ _ c.application_use.ensures
+    follows _ c.requires.1 w _ _ _ _ _ c.application_use.ensures

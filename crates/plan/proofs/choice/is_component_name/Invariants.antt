@@ -6,8 +6,8 @@ use Rattle.plan.specs.Choices.{named}
 use Rattle.plan.proofs.Walking.{Left}
 use Rattle.plan.proofs.choice.is_component_name.Given as goal
 
-abbrev pub invariant-loop-value : goal.invariant-loop-value
-invariant-loop-value l = Left (any_of (named l.tree l.store l.made l.name)) l.tree l.initial.w l.w
+abbrev pub invariant-loop-step : goal.invariant-loop-step
+invariant-loop-step l = Left (any_of (named l.rooms.tree.now l.rooms.store.now l.rooms.made l.name)) l.rooms.tree.now l.initial.w l.w
 
-abbrev pub decreases-loop-value : goal.decreases-loop-value
-decreases-loop-value l = length (to_come l.tree l.w)
+abbrev pub decreases-loop-step : goal.decreases-loop-step
+decreases-loop-step l = length (to_come l.rooms.tree.now l.w)

@@ -4,8 +4,8 @@ use Rattle.tree.specs.Steps.{to_come}
 use Rattle.plan.proofs.Composing.{Counting}
 use Rattle.plan.proofs.component.before_first_placed.Given as goal
 
-abbrev pub invariant-loop-value : goal.invariant-loop-value
-invariant-loop-value l = Counting l.tree l.store l.made l.initial.w l.i l.w
+abbrev pub invariant-loop-step : goal.invariant-loop-step
+invariant-loop-step l = Counting l.rooms.tree.now l.rooms.store.now l.rooms.made l.initial.w l.i l.w
 
-abbrev pub decreases-loop-value : goal.decreases-loop-value
-decreases-loop-value l = length (to_come l.tree l.w)
+abbrev pub decreases-loop-step : goal.decreases-loop-step
+decreases-loop-step l = length (to_come l.rooms.tree.now l.w)

@@ -5,8 +5,8 @@ use Rattle.plan.specs.Stems.{first_with, leads}
 use Rattle.plan.proofs.Walking.{Left}
 use Rattle.plan.proofs.stem.leader.Given as goal
 
-abbrev pub invariant-loop-value : goal.invariant-loop-value
-invariant-loop-value l = Left (first_with (leads l.tree l.store l.made)) l.tree l.initial.w l.w
+abbrev pub invariant-loop-step : goal.invariant-loop-step
+invariant-loop-step l = Left (first_with (leads l.rooms.tree.now l.rooms.store.now l.rooms.made)) l.rooms.tree.now l.initial.w l.w
 
-abbrev pub decreases-loop-value : goal.decreases-loop-value
-decreases-loop-value l = length (to_come l.tree l.w)
+abbrev pub decreases-loop-step : goal.decreases-loop-step
+decreases-loop-step l = length (to_come l.rooms.tree.now l.w)

@@ -5,8 +5,8 @@ use Rattle.preset.proofs.listing.list.Goals as goal
 pub returns-then-o-ne0 : goal.returns-then-o-ne0
 returns-then-o-ne0 c = search (rules, lined_not)
 
-pub lines-n-requires : goal.lines-n-requires
-lines-n-requires c = search (rules, list_rooms)
+pub invariant_of-rooms : goal.invariant_of-rooms
+invariant_of-rooms c = record { fits = search (rules, list_rooms) }
 
 pub returns : goal.returns
 returns c = search (rules, lined_fine)

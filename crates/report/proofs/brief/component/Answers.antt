@@ -1,6 +1,6 @@
+use borrow.Author.Rules.{rules}
 use Rattle.parse.proofs.Entering.{table_spread}
 use Rattle.report.proofs.Briefly.{component_brief_lem}
-use borrow.Author.Rules.{rules}
 use Rattle.report.proofs.brief.component.Goals as goal
 
 pub kind-k-requires : goal.kind-k-requires

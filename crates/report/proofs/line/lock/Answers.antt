@@ -5,5 +5,5 @@ use Rattle.report.proofs.line.lock.Goals as goal
 pub returns-then-locked : goal.returns-then-locked
 returns-then-locked c = search (rules, is_locked)
 
-pub returns : goal.returns
-returns c = search (rules, is_open)
+pub returns-else-locked : goal.returns-else-locked
+returns-else-locked c = search (rules, is_open)

@@ -1,5 +1,5 @@
-use Rattle.report.proofs.Lining.{refused_line_lem}
 use borrow.Author.Rules.{rules}
+use Rattle.report.proofs.Lining.{refused_line_lem}
 use Rattle.report.proofs.line.refused.Goals as goal
 
 pub returns : goal.returns

@@ -1,5 +1,5 @@
 use borrow.Author.Rules.{rules}
-use Rattle.report.proofs.Listing.{left_start, left_long, builds_past, builds_on}
+use Rattle.report.proofs.Listing.{left_start, builds_on}
 use Rattle.report.proofs.lists.builds.Goals as goal
 
 pub loop-i-init : goal.loop-i-init
@@ -7,9 +7,3 @@ loop-i-init c = search (rules, left_start)
 
 pub loop-i-preserved : goal.loop-i-preserved
 loop-i-preserved c = search (rules, builds_on)
-
-pub shape_of-out : goal.shape_of-out
-shape_of-out c = search (rules, left_long)
-
-pub returns : goal.returns
-returns c = search (rules, builds_past)

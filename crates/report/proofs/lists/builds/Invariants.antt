@@ -1,5 +1,4 @@
 -- The lines of the first i builds stand on the page, and with those of the rest they are the lines of all.
-use Prim.Native.Nat.{◌-◌}
 use lib.ListN.{drop}
 use Rattle.plan.specs.declared.choice.Choice.TheVariants.{BootChain}
 use Rattle.plan.specs.Builds.{builds_of}
@@ -8,7 +7,4 @@ use Rattle.report.proofs.Listing.{Left}
 use Rattle.report.proofs.lists.builds.Given as goal
 
 abbrev pub invariant-loop-i : goal.invariant-loop-i
-invariant-loop-i l = Left (build_of l.tree l.store l.made l.name) (builds_of l.tree l.store l.made BootChain) (drop l.i (builds_of l.tree l.store l.made BootChain)) l.initial.out l.at l.out l.to
-
-abbrev pub decreases-loop-i : goal.decreases-loop-i
-decreases-loop-i l = l.count - l.i
+invariant-loop-i l = Left (build_of l.rooms.tree.now l.rooms.store.now l.rooms.made l.name) (builds_of l.rooms.tree.now l.rooms.store.now l.rooms.made BootChain) (drop l.i (builds_of l.rooms.tree.now l.rooms.store.now l.rooms.made BootChain)) l.initial.page l.page

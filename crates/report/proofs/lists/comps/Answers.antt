@@ -1,25 +1,15 @@
 use borrow.Author.Rules.{rules}
-use Rattle.tree.specs.Steps.{item_fewer}
-use Rattle.report.proofs.Listing.{items_start, items_long, items_none, comps_on, comps_list, comps_hold, comps_stood}
+use Rattle.report.proofs.Listing.{items_start, comps_on, comps_hold, comps_stood}
 use Rattle.report.proofs.lists.comps.Goals as goal
 
-pub loop-value-init : goal.loop-value-init
-loop-value-init c = search (rules, items_start)
-
-pub next_item-step-requires : goal.next_item-step-requires
-next_item-step-requires c = search (rules, comps_hold)
-
-pub shape_of-out-in-End : goal.shape_of-out-in-End
-shape_of-out-in-End c = search (rules, items_long)
-
-pub returns-in-End : goal.returns-in-End
-returns-in-End c = search (rules, items_none, comps_list)
+pub loop-step-init : goal.loop-step-init
+loop-step-init c = search (rules, items_start)
 
 pub component-x-requires : goal.component-x-requires
 component-x-requires c = search (rules, comps_stood)
 
-pub loop-value-smaller : goal.loop-value-smaller
-loop-value-smaller c = search (rules, item_fewer)
+pub loop-step-preserved : goal.loop-step-preserved
+loop-step-preserved c = search (rules, comps_on)
 
-pub loop-value-preserved : goal.loop-value-preserved
-loop-value-preserved c = search (rules, comps_on)
+pub next_item-requires : goal.next_item-requires
+next_item-requires c = search (rules, comps_hold)

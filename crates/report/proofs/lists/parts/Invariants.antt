@@ -5,8 +5,8 @@ use Rattle.report.specs.Shown as shown
 use Rattle.report.proofs.Listing.{Walked}
 use Rattle.report.proofs.lists.parts.Given as goal
 
-abbrev pub invariant-loop-value : goal.invariant-loop-value
-invariant-loop-value l = Walked (shown.part_at l.tree l.store l.made) l.tree l.initial.w l.initial.out l.at l.w l.out l.to
+abbrev pub invariant-loop-step : goal.invariant-loop-step
+invariant-loop-step l = Walked (shown.part_at l.rooms.tree.now l.rooms.store.now l.rooms.made) l.rooms.tree.now l.initial.w l.initial.page l.w l.page
 
-abbrev pub decreases-loop-value : goal.decreases-loop-value
-decreases-loop-value l = length (to_come l.tree l.w)
+abbrev pub decreases-loop-step : goal.decreases-loop-step
+decreases-loop-step l = length (to_come l.rooms.tree.now l.w)

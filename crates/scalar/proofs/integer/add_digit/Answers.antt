@@ -1,26 +1,31 @@
--- An acc over limit / base is too large with any digit; else acc * base is at most limit, and nothing wraps.
-use Rattle.scalar.proofs.Integers.{under, more_stray, more_over, more_big, more_fits}
-use native.Mathlib.Omega.{arith}
-use borrow.Author.Rules.{rules}
+-- A base is below what stands for no digit, and a product or a sum that u64 does not hold is over every limit.
+use Rattle.std.proofs.Common.{◌≡◌, ◌+◌, ◌*◌, ap, ◌∙◌, arith}
+use Rattle.meaning.specs.Integers.{digit}
+use Rattle.scalar.specs.Ints.{digits_of}
+use Rattle.scalar.proofs.Integers.{more_stray, more_over, more_fits}
 use Rattle.scalar.proofs.integer.add_digit.Goals as goal
 
+pub returns-in_err-digit : goal.returns-in_err-digit
+returns-in_err-digit c = ap digits_of c.from_residual.ensures ∙ more_stray _ _ _ _ (omega (arith, c.in_err-digit.ensures))
+
 pub returns-then-base-d : goal.returns-then-base-d
-returns-then-base-d c = search (rules, more_stray)
+returns-then-base-d c = more_stray _ _ _ _ (omega (arith, c.in_ok-digit.ensures))
 
-pub returns-then-limit-base : goal.returns-then-limit-base
-returns-then-limit-base c = search (rules, more_over)
+pub returns-in_err-checked_mul : goal.returns-in_err-checked_mul
+returns-in_err-checked_mul c =
+    ap digits_of c.from_residual-in_err-checked_mul.ensures ∙ more_over _ _ _ _ (omega (arith, c.in_err-checked_mul.ensures))
 
-pub overflow_mul-m : goal.overflow_mul-m
-overflow_mul-m c = omega (arith, under _ _ _ _ c.if-base-d.false c.if-limit-base.false)
+pub returns-in_err-n : goal.returns-in_err-n
+returns-in_err-n c =
+    ap digits_of c.from_residual-in_err-n.ensures
+    ∙ more_over _ _ _ _ (omega (arith, c.in_ok-digit.ensures, c.in_ok-checked_mul.ensures, c.in_err-n.ensures))
 
-pub overflow_sub-limit : goal.overflow_sub-limit
-overflow_sub-limit c = under _ _ _ _ c.if-base-d.false c.if-limit-base.false
+pub returns-then-n-limit : goal.returns-then-n-limit
+returns-then-n-limit c =
+    let e : c.in_ok-n.n ≡ c.args.acc * c.args.base + digit c.args.b =
+    omega (arith, c.in_ok-digit.ensures, c.in_ok-checked_mul.ensures, c.in_ok-n.ensures) in
+    rw e (more_fits _ _ _ _ (omega (arith, c.in_ok-digit.ensures)) (omega (arith, e)))
 
-pub returns-then-limit-m : goal.returns-then-limit-m
-returns-then-limit-m c = search (rules, more_big)
-
-pub overflow_add-result : goal.overflow_add-result
-overflow_add-result c = omega (arith, under _ _ _ _ c.if-base-d.false c.if-limit-base.false)
-
-pub returns : goal.returns
-returns c = search (rules, more_fits)
+pub returns-else-n-limit : goal.returns-else-n-limit
+returns-else-n-limit c =
+    more_over _ _ _ _ (omega (arith, c.in_ok-digit.ensures, c.in_ok-checked_mul.ensures, c.in_ok-n.ensures))

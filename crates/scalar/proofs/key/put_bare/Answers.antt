@@ -1,9 +1,9 @@
-use Rattle.scalar.proofs.Segmenting.{bare_empty, bare_fine}
-use borrow.Author.Rules.{rules}
+use Rattle.std.proofs.Common.{sym}
+use Rattle.scalar.proofs.Segmenting.{copied, bare_empty, bare_fine}
 use Rattle.scalar.proofs.key.put_bare.Goals as goal
 
-pub returns-then-n-eq0 : goal.returns-then-n-eq0
-returns-then-n-eq0 c = search (rules, bare_empty)
+pub returns-then-is_empty : goal.returns-then-is_empty
+returns-then-is_empty c = rw c.malformed.ensures (bare_empty _ _ _ (sym c.if-is_empty.ensures))
 
 pub returns : goal.returns
-returns c = search (rules, bare_fine)
+returns c = bare_fine _ _ _ _ (sym c.if-is_empty.ensures) (copied _ _ _ _ c.copy.ensures)

@@ -1,30 +1,23 @@
-use Rattle.scalar.proofs.Splitting.{split_start, end_within, end_fits, part_room, used_within, split_last, split_on, split_refused, split_over}
-use borrow.Author.Rules.{rules}
+use Rattle.std.proofs.Common.{◌<◌, length, arith}
+use Rattle.laws.specs.Parts.{rest_of}
+use Rattle.scalar.proofs.Splitting.{split_start, split_last, split_on, split_refused, split_over}
 use Rattle.scalar.proofs.key.put_key.Goals as goal
 
 pub loop-n-init : goal.loop-n-init
-loop-n-init c = search (rules, split_start)
+loop-n-init c = split_start _ _ _ _ c.requires
 
-pub overflow_add-e : goal.overflow_add-e
-overflow_add-e c = search (rules, end_within)
+pub returns-in-Err : goal.returns-in-Err
+returns-in-Err c = split_refused _ _ _ _ _ _ _ _ c.loop-n.invariant c.loop-n-test.true _ c.find-end.ensures _ _ c.put_segment.ensures _ c.in-Err.is
 
-pub slice_bounds-put_segment-end : goal.slice_bounds-put_segment-end
-slice_bounds-put_segment-end c = search (rules, end_fits)
-
-pub put_segment-r-requires : goal.put_segment-r-requires
-put_segment-r-requires c = search (rules, part_room)
-
-pub overflow_add-at : goal.overflow_add-at
-overflow_add-at c = search (rules, used_within)
-
-pub returns-then-s-e : goal.returns-then-s-e
-returns-then-s-e c = search (rules, split_last)
+pub returns-then-end-rest : goal.returns-then-end-rest
+returns-then-end-rest c =
+    split_last _ _ _ _ _ _ _ _ c.loop-n.invariant c.loop-n-test.true _ c.find-end.ensures _ _ c.put_segment.ensures _ c.in-Ok.is (omega (arith, c.if-end-rest.true))
 
 pub loop-n-preserved : goal.loop-n-preserved
-loop-n-preserved c = search (rules, split_on)
-
-pub returns-else-is_fine : goal.returns-else-is_fine
-returns-else-is_fine c = search (rules, split_refused)
+loop-n-preserved c =
+    let l : c.find-end.result < length c.loop-n.rest.now = omega (arith, c.find-end.ensures.fits, c.if-end-rest.false) in
+    rw (rest_of c.loop-n.rest.now)
+    (split_on _ _ _ _ _ _ _ _ c.loop-n.invariant c.loop-n-test.true _ c.find-end.ensures _ _ c.put_segment.ensures _ c.in-Ok.is l)
 
 pub returns : goal.returns
-returns c = search (rules, split_over)
+returns c = split_over _ _ _ _ _ _ _ _ c.loop-n.invariant c.loop-n-test.false

@@ -1,5 +1,5 @@
+use Rattle.std.proofs.Common.{rules}
 use Rattle.scalar.proofs.Segmenting.{trimmed_part, trimmed_room}
-use borrow.Author.Rules.{rules}
 use Rattle.scalar.proofs.key.put_segment.Goals as goal
 
 pub put_trimmed-requires : goal.put_trimmed-requires

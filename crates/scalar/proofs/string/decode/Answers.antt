@@ -1,21 +1,17 @@
-use Rattle.scalar.proofs.Decoding.{start, closed_out, escape_out, hold_on, put_on, unended_out}
-use borrow.Author.Rules.{rules}
+use Rattle.std.proofs.Common.{rules}
+use Rattle.scalar.proofs.Decoding.{after_one, escape_out, hold_on, put_on}
 use Rattle.scalar.proofs.string.decode.Goals as goal
+use Rattle.scalar.proofs.string.decode.Goals.{in-Hold, in-Put}
 
-pub loop-i-init : goal.loop-i-init
-loop-i-init c = search (rules, start)
-
-pub returns-in-End : goal.returns-in-End
-returns-in-End c = search (rules, closed_out)
+pub overflow_sub-result : goal.overflow_sub-result
+overflow_sub-result c = search (rules, after_one)
 
 pub returns-in-Fault : goal.returns-in-Fault
 returns-in-Fault c = search (rules, escape_out)
 
-pub loop-i-preserved-in-Hold : goal.loop-i-preserved-in-Hold
-loop-i-preserved-in-Hold c = search (rules, hold_on)
-
 pub loop-i-preserved : goal.loop-i-preserved
-loop-i-preserved c = search (rules, put_on)
-
-pub returns : goal.returns
-returns c = search (rules, unended_out)
+loop-i-preserved c =
+    elim c.match-act.branch [
+      | in-Hold w ↦ rw (w.out-is, w.written-is, w.state-is) (search (rules, hold_on))
+      | in-Put w ↦ rw (w.out-is, w.written-is, w.state-is) (search (rules, put_on))
+    ]

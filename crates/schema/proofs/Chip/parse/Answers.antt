@@ -11,6 +11,6 @@ pub returns-then-is-2 : goal.returns-then-is-2
 unfolding chip_read
 returns-then-is-2 c = search calls
 
-pub returns : goal.returns
+pub returns-else-is-2 : goal.returns-else-is-2
 unfolding chip_read
-returns c = search calls
+returns-else-is-2 c = search calls

@@ -15,6 +15,6 @@ pub returns-then-is-3 : goal.returns-then-is-3
 unfolding kind_read
 returns-then-is-3 c = search calls
 
-pub returns : goal.returns
+pub returns-else-is-3 : goal.returns-else-is-3
 unfolding kind_read
-returns c = search calls
+returns-else-is-3 c = search calls

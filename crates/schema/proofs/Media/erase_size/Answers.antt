@@ -1,13 +1,12 @@
 -- The arm says which medium it is, and of that medium the definition computes to the same figure.
-use Rattle.schema.proofs.Wording.{erase_for_lem}
 use Rattle.meaning.specs.Schema.{erase}
 use borrow.Author.Rules.{rules}
 use Rattle.schema.proofs.Media.erase_size.Goals as goal
 
 pub returns-in-SpiNor : goal.returns-in-SpiNor
 unfolding erase
-returns-in-SpiNor c = search (rules, erase_for_lem)
+returns-in-SpiNor c = search rules
 
 pub returns-in-SpiNand : goal.returns-in-SpiNand
 unfolding erase
-returns-in-SpiNand c = search (rules, erase_for_lem)
+returns-in-SpiNand c = search rules

@@ -1,18 +1,27 @@
+-- Each way out in its order; the paths are too long for the search.
+use mathlib.Core.Path.{sym, ◌∙◌}
 use borrow.Author.Rules.{rules}
 use Rattle.validate.proofs.Fronting.{ruled_device, ruled_profile, ruled_app, ruled_target, ruled_none}
 use Rattle.validate.proofs.front.check_front.Goals as goal
 
-pub returns-then-device-ne0 : goal.returns-then-device-ne0
-returns-then-device-ne0 c = search (rules, ruled_device)
+pub returns-in-Err : goal.returns-in-Err
+returns-in-Err c = search (rules, ruled_device)
 
-pub returns-then-size-eq0 : goal.returns-then-size-eq0
-returns-then-size-eq0 c = search (rules, ruled_profile)
+pub returns-then-is_empty : goal.returns-then-is_empty
+returns-then-is_empty c =
+    ruled_profile _ _ _ _ _ _ c.check_device.ensures _ c.in_default.is _ c.bytes_of.ensures (sym c.is_empty.ensures ∙ c.if-is_empty.true) c.refusal_in-then-is_empty.ensures
 
-pub returns-then-size-gt-LONGEST_NAME : goal.returns-then-size-gt-LONGEST_NAME
-returns-then-size-gt-LONGEST_NAME c = search (rules, ruled_app)
+pub returns-then-bytes_of-gt-LONGEST_NAME : goal.returns-then-bytes_of-gt-LONGEST_NAME
+returns-then-bytes_of-gt-LONGEST_NAME c =
+    ruled_app _ _ _ _ _ _ c.check_device.ensures _ c.in_default.is _ c.bytes_of.ensures (sym c.is_empty.ensures ∙ c.if-is_empty.false) _ c.bytes_of-2.ensures
+    c.if-bytes_of-gt-LONGEST_NAME.true c.refusal_in-then-bytes_of-gt-LONGEST_NAME.ensures
 
-pub returns-then-width-ne0 : goal.returns-then-width-ne0
-returns-then-width-ne0 c = search (rules, ruled_target)
+pub returns-in-Err-check_width : goal.returns-in-Err-check_width
+returns-in-Err-check_width c =
+    ruled_target _ _ _ _ _ _ c.check_device.ensures _ c.in_default.is _ c.bytes_of.ensures (sym c.is_empty.ensures ∙ c.if-is_empty.false) _ c.bytes_of-2.ensures
+    c.if-bytes_of-gt-LONGEST_NAME.false _ c.bytes_of-3.ensures _ c.check_width.ensures _ c.in-Err-check_width.is c.refusal_in-in-Err-check_width.ensures
 
 pub returns : goal.returns
-returns c = search (rules, ruled_none)
+returns c =
+    ruled_none _ _ _ _ _ _ c.check_device.ensures _ c.in_default.is _ c.bytes_of.ensures (sym c.is_empty.ensures ∙ c.if-is_empty.false) _ c.bytes_of-2.ensures
+    c.if-bytes_of-gt-LONGEST_NAME.false _ c.bytes_of-3.ensures _ c.check_width.ensures _ c.in_default-check_width.is c.refusal_at.ensures

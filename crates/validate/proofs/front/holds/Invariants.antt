@@ -1,4 +1,4 @@
--- The word starts at no place before number i, so it stands in the text where it stands in the rest.
+-- The word starts at no place before this one, so it stands in the text where it stands in the rest.
 use Prim.Native.Nat.{◌-◌}
 use lib.ListN.{length}
 use Rattle.validate.proofs.Fronting.{Holding}

@@ -1,9 +1,11 @@
 use borrow.Author.Rules.{rules}
-use Rattle.validate.proofs.Using.{clash_first, clash_second}
+use Rattle.validate.specs.Clashes.{clash}
 use Rattle.validate.proofs.uses.clash.Goals as goal
 
 pub returns-then-use_differs : goal.returns-then-use_differs
-returns-then-use_differs c = search (rules, clash_first)
+unfolding clash
+returns-then-use_differs c = search rules
 
-pub returns : goal.returns
-returns c = search (rules, clash_second)
+pub returns-else-use_differs : goal.returns-else-use_differs
+unfolding clash
+returns-else-use_differs c = search rules

@@ -5,5 +5,5 @@ use Rattle.validate.proofs.uses.differ.Goals as goal
 pub returns-then-same_text : goal.returns-then-same_text
 returns-then-same_text c = search (rules, differ_other)
 
-pub returns : goal.returns
-returns c = search (rules, differ_not)
+pub returns-else-same_text : goal.returns-else-same_text
+returns-else-same_text c = search (rules, differ_not)

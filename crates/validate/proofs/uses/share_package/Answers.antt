@@ -1,9 +1,11 @@
 use borrow.Author.Rules.{rules}
-use Rattle.validate.proofs.Settling.{share_first, share_second}
+use Rattle.validate.specs.Clashes.{share_package}
 use Rattle.validate.proofs.uses.share_package.Goals as goal
 
 pub returns-then-uses_package : goal.returns-then-uses_package
-returns-then-uses_package c = search (rules, share_first)
+unfolding share_package
+returns-then-uses_package c = search rules
 
-pub returns : goal.returns
-returns c = search (rules, share_second)
+pub returns-else-uses_package : goal.returns-else-uses_package
+unfolding share_package
+returns-else-uses_package c = search rules

@@ -1,9 +1,11 @@
 use borrow.Author.Rules.{rules}
-use Rattle.validate.proofs.Using.{differs_first, differs_second}
+use Rattle.validate.specs.Clashes.{use_differs}
 use Rattle.validate.proofs.uses.use_differs.Goals as goal
 
 pub returns-then-differ : goal.returns-then-differ
-returns-then-differ c = search (rules, differs_first)
+unfolding use_differs
+returns-then-differ c = search rules
 
-pub returns : goal.returns
-returns c = search (rules, differs_second)
+pub returns-else-differ : goal.returns-else-differ
+unfolding use_differs
+returns-else-differ c = search rules

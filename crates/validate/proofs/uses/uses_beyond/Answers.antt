@@ -1,6 +1,7 @@
 use borrow.Author.Rules.{rules}
-use Rattle.validate.proofs.Settling.{beyond_made}
+use Rattle.validate.specs.Clashes.{uses_beyond}
 use Rattle.validate.proofs.uses.uses_beyond.Goals as goal
 
 pub returns : goal.returns
-returns c = search (rules, beyond_made)
+unfolding uses_beyond
+returns c = search rules

@@ -1,9 +1,11 @@
 use borrow.Author.Rules.{rules}
-use Rattle.validate.proofs.Settling.{uses_first, uses_second}
+use Rattle.validate.specs.Clashes.{uses_package}
 use Rattle.validate.proofs.uses.uses_package.Goals as goal
 
 pub returns-then-same_text : goal.returns-then-same_text
-returns-then-same_text c = search (rules, uses_first)
+unfolding uses_package
+returns-then-same_text c = search rules
 
-pub returns : goal.returns
-returns c = search (rules, uses_second)
+pub returns-else-same_text : goal.returns-else-same_text
+unfolding uses_package
+returns-else-same_text c = search rules

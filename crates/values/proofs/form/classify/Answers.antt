@@ -11,5 +11,5 @@ returns-then-is_table_header c = search (rules, heads)
 pub returns-then-at-l : goal.returns-then-at-l
 returns-then-at-l c = search (rules, sets)
 
-pub returns : goal.returns
-returns c = search (rules, neither)
+pub returns-else-at-l : goal.returns-else-at-l
+returns-else-at-l c = search (rules, neither)

@@ -1,20 +1,13 @@
--- A line under 2 bytes is none; of any other the first, second and last are tested in the definition's order.
+-- A line under 2 bytes is none; of any other the first, second and last are tested.
 use Rattle.meaning.specs.Document as meant
 use Rattle.laws.specs.Tests.{tests}
+use Rattle.values.proofs.form.is_table_header.Goals.{in-91, in_default, in_default-2, in_default-3}
 use Rattle.values.proofs.form.is_table_header.Goals as goal
 
-pub returns-then-n-lt2 : goal.returns-then-n-lt2
+pub returns-then-matches : goal.returns-then-matches
 unfolding meant.table_header
-returns-then-n-lt2 c = search tests
+returns-then-matches c = elim c.if-matches-2.branch [ in-91 w ↦ search tests | in_default w ↦ search tests | in_default-2 w ↦ search tests | in_default-3 w ↦ search tests ]
 
-pub returns-then-l-eq91-2 : goal.returns-then-l-eq91-2
+pub returns-else-matches : goal.returns-else-matches
 unfolding meant.table_header
-returns-then-l-eq91-2 c = search tests
-
-pub returns-then-l-eq91 : goal.returns-then-l-eq91
-unfolding meant.table_header
-returns-then-l-eq91 c = search tests
-
-pub returns : goal.returns
-unfolding meant.table_header
-returns c = search tests
+returns-else-matches c = elim c.if-matches-2.branch [ in-91 w ↦ search tests | in_default w ↦ search tests | in_default-2 w ↦ search tests | in_default-3 w ↦ search tests ]

@@ -1,24 +1,15 @@
 use borrow.Author.Rules.{rules}
-use Rattle.values.proofs.Descending.{last_paths, last_hangs, last_done, last_full, last_clash, one_hangs, one_done}
+use Rattle.values.proofs.Descending.{last_paths, last_hangs, hang_done, last_fault}
 use Rattle.values.proofs.grow.assign.Goals as goal
 
+pub enter_path-requires : goal.enter_path-requires
+enter_path-requires c = search (rules, last_paths)
+
 pub hang_up-requires : goal.hang_up-requires
-hang_up-requires c = search (rules, one_hangs)
+hang_up-requires c = search (rules, last_hangs, c.in_ok-there.was)
 
-pub returns-then-key-eq1 : goal.returns-then-key-eq1
-returns-then-key-eq1 c = search (rules, one_done)
+pub returns : goal.returns
+returns c = search (rules, hang_done, c.in_ok-there.was)
 
-pub enter_path-g-requires : goal.enter_path-g-requires
-enter_path-g-requires c = search (rules, last_paths)
-
-pub hang_up-requires-in-At : goal.hang_up-requires-in-At
-hang_up-requires-in-At c = search (rules, last_hangs)
-
-pub returns-in-At : goal.returns-in-At
-returns-in-At c = search (rules, last_done)
-
-pub returns-in-Full : goal.returns-in-Full
-returns-in-Full c = search (rules, last_full)
-
-pub returns-in-Clash : goal.returns-in-Clash
-returns-in-Clash c = search (rules, last_clash)
+pub returns-in_err-there : goal.returns-in_err-there
+returns-in_err-there c = last_fault _ _ _ _ _ _ _ c.requires.keyed _ _ c.enter_path.ensures _ _ c.in_err-there.was _ (search rules)

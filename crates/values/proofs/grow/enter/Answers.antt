@@ -17,5 +17,5 @@ returns-then-kind_at-eq-KIND_TABLE c = search (rules, enter_walked)
 pub returns-else-kind_at-eq-KIND_TABLE : goal.returns-else-kind_at-eq-KIND_TABLE
 returns-else-kind_at-eq-KIND_TABLE c = search (rules, enter_over)
 
-pub returns-in-Nothing : goal.returns-in-Nothing
-returns-in-Nothing c = search (rules, enter_new)
+pub returns-in-None : goal.returns-in-None
+returns-in-None c = search (rules, enter_new)

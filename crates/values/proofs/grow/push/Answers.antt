@@ -17,5 +17,5 @@ returns-then-kind_at-eq-KIND_ARRAY c = search (rules, push_item)
 pub returns-else-kind_at-eq-KIND_ARRAY : goal.returns-else-kind_at-eq-KIND_ARRAY
 returns-else-kind_at-eq-KIND_ARRAY c = search (rules, push_clash)
 
-pub returns-in-Nothing : goal.returns-in-Nothing
-returns-in-Nothing c = search (rules, push_made)
+pub returns-in-None : goal.returns-in-None
+returns-in-None c = search (rules, push_made)

@@ -1,11 +1,6 @@
 -- No comma before i separates items, and the scan is that of the bytes before i.
 use Rattle.values.proofs.Parting.{Parting}
-use lib.ListN.{length}
-use Prim.Native.Nat.{◌-◌}
 use Rattle.values.proofs.splitting.item.Given as goal
 
 abbrev pub invariant-loop-i : goal.invariant-loop-i
-invariant-loop-i l = Parting l.s l.i l.x
-
-abbrev pub decreases-loop-i : goal.decreases-loop-i
-decreases-loop-i l = length l.s - l.i
+invariant-loop-i l = Parting l.s l.i l.scan

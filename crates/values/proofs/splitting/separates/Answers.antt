@@ -7,6 +7,6 @@ pub returns-then-equals_outside : goal.returns-then-equals_outside
 unfolding separates?
 returns-then-equals_outside c = search calls
 
-pub returns : goal.returns
+pub returns-else-equals_outside : goal.returns-else-equals_outside
 unfolding separates?
-returns c = search calls
+returns-else-equals_outside c = search calls

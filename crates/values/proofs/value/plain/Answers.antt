@@ -8,8 +8,8 @@ returns-then-same c = search (rules, plain_true)
 pub returns-then-same-2 : goal.returns-then-same-2
 returns-then-same-2 c = search (rules, plain_false)
 
-pub returns-in-Value : goal.returns-in-Value
-returns-in-Value c = search (rules, plain_int)
+pub returns-in-Ok : goal.returns-in-Ok
+returns-in-Ok c = search (rules, plain_int)
 
-pub returns-in-Wrong : goal.returns-in-Wrong
-returns-in-Wrong c = search (rules, plain_wrong)
+pub returns-in-Err : goal.returns-in-Err
+returns-in-Err c = search (rules, plain_wrong)

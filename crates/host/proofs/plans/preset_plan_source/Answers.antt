@@ -1,9 +1,0 @@
-use Rattle.host.proofs.Plotting.{no_payload, payload_told}
-use borrow.Author.Rules.{rules}
-use Rattle.host.proofs.plans.preset_plan_source.Goals as goal
-
-pub returns-in-Nothing : goal.returns-in-Nothing
-returns-in-Nothing c = search (rules, no_payload)
-
-pub returns-in-At : goal.returns-in-At
-returns-in-At c = search (rules, payload_told)

@@ -1,6 +1,0 @@
-use borrow.Author.Rules.{rules}
-use Rattle.page.proofs.Quotes.{quoted_is}
-use Rattle.page.proofs.quote.quoted.Goals as goal
-
-pub returns : goal.returns
-returns c = search (rules, quoted_is)

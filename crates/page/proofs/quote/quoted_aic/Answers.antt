@@ -1,6 +1,0 @@
-use borrow.Author.Rules.{rules}
-use Rattle.page.proofs.Quotes.{aic_is}
-use Rattle.page.proofs.quote.quoted_aic.Goals as goal
-
-pub returns : goal.returns
-returns c = search (rules, aic_is)

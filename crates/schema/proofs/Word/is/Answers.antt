@@ -1,6 +1,0 @@
-use Rattle.schema.proofs.Wording.{word_is}
-use borrow.Author.Rules.{rules}
-use Rattle.schema.proofs.Word.is.Goals as goal
-
-pub returns : goal.returns
-returns c = search (rules, word_is)
