@@ -1,7 +1,7 @@
 -- Level 2 of a layout: the marks of partitions, and a partition by its name.
 use Rattle.std.specs.Prelude.{ℕ, suc, ◌+◌, ◌%◌, ◌≤◌, Bool, List, [], ◌∷◌, ◌≡◌, refl, eqb, ltb, length, map, Option, None, Some, is_some, unwrap_or, Result, Ok, Err}
 use Rattle.std.specs.List.{position, position_or_len}
-use Rattle.std.proofs.Common.{sym, ◌∙◌, arith, ne_eqb, lt-ltb}
+use Rattle.std.proofs.Common.{sym, ◌∙◌, arith, ne_eqb, lt-ltb, ltb-false}
 use Rattle.std.proofs.Math.Dec.{leb-suc-suc}
 use Rattle.meaning.specs.Base.{pick, nil?, same}
 use Rattle.meaning.specs.declared.Refused.{Refused}
@@ -38,10 +38,10 @@ span_checked block end p =
     (pick (eqb (p.offset % block) 0)
     (pick (eqb (p.size % block) 0) (pick (ltb p.offset end) (Err Overlap) (pick (ltb (end_of p) 4294967296) (Ok tt) (Err PastAddresses))) (Err SizeOffBlock)) (Err OffsetOffBlock))
 
-abbrev pub mark_of : List ℕ → ℕ → ℕ → Partition → Mark
+abbrev pub mark_of : List ℕ → ℕ → ℕ → Partition → Mark Refused
 mark_of bytes block end p = record { from = p.from; len = p.len; early = name_checked bytes p; late = span_checked block end p }
 
-abbrev pub marks_from : List ℕ → ℕ → ℕ → List Partition → List Mark
+abbrev pub marks_from : List ℕ → ℕ → ℕ → List Partition → List (Mark Refused)
 marks_from bytes block end [] = []
 marks_from bytes block end (p ∷ ps) = mark_of bytes block end p ∷ marks_from bytes block (end_of p) ps
 
@@ -117,3 +117,16 @@ aim cut store parts (texts.Stored from len) = rank (name_in cut (clip from len s
 aim cut store parts texts.Lent = length parts
 aim cut store parts (texts.Fixed w) = rank (name_in cut (word w)) parts
 aim cut store parts (texts.WithAic from len) = length parts
+
+pub aim_high : (cut : Bool) (store : List ℕ) (parts : List (List ℕ)) (t : Text) → aim cut store parts t ≤ length parts
+aim_high cut store parts texts.Absent = omega arith
+aim_high cut store parts (texts.Stored from len) = rank_high (name_in cut (clip from len store)) parts
+aim_high cut store parts texts.Lent = omega arith
+aim_high cut store parts (texts.Fixed w) = rank_high (name_in cut (word w)) parts
+aim_high cut store parts (texts.WithAic from len) = omega arith
+
+-- the place tells which it is
+pub aim_placed : (cut : Bool) (store : List ℕ) (parts : List (List ℕ)) (t : Text) → unwrap_or (placed (length parts) (aim cut store parts t)) (length parts) ≡ aim cut store parts t
+aim_placed cut store parts t =
+    let a : ℕ = aim cut store parts t in
+    on (ltb a (length parts)) (λ e. rw e) (λ e. rw e (omega (arith, ltb-false a (length parts) e, aim_high cut store parts t)))

@@ -10,7 +10,7 @@ ghost use Rattle.meaning.specs.Rules as rules;
 ghost use Rattle.schema.specs.Words.{chip_meant};
 ghost use Rattle.turns.specs.Marks.{at_entry, fault_of};
 ghost use Rattle.layout.specs.Parts as parts;
-ghost use Rattle.layout.specs.Parts.{part_meant, part_name, name_in, aim, bears, rank, OnBlocks};
+ghost use Rattle.layout.specs.Parts.{part_meant, part_name, name_in, aim, bears, placed, OnBlocks};
 
 use meaning::Refused;
 use schema::{Chip, Partition, Text};
@@ -59,7 +59,7 @@ fn check_named(bytes: &[u8], p: Partition) -> Result<(), Refused>
     Ok(())
 }
 
-fn mark_of(bytes: &[u8], p: Partition, end: u64, block: u32) -> Mark
+fn mark_of(bytes: &[u8], p: Partition, end: u64, block: u32) -> Mark<Refused>
     requires { 1 ≤ block }
     ensures { result ≡ parts.mark_of bytes.now block end p }
 {
@@ -71,7 +71,7 @@ fn mark_of(bytes: &[u8], p: Partition, end: u64, block: u32) -> Mark
     }
 }
 
-fn marks_of(bytes: &[u8], items: &[Partition], block: u32) -> [Mark; MOST_ENTRIES]
+fn marks_of(bytes: &[u8], items: &[Partition], block: u32) -> [Mark<Refused>; MOST_ENTRIES]
     requires { OnBlocks (length items.now) block }
     ensures { take (length items.now) result ≡ parts.marks_from bytes.now block 0 items.now }
 {
@@ -85,7 +85,11 @@ fn marks_of(bytes: &[u8], items: &[Partition], block: u32) -> [Mark; MOST_ENTRIE
 }
 
 // 40 to 48: the layout of these partitions on a chip's flash; their names lie in some bytes.
-pub fn check_layout(bytes: &[u8], items: &[Partition], chip: Chip) -> Result<(), EntryRefused>
+pub fn check_layout(
+    bytes: &[u8],
+    items: &[Partition],
+    chip: Chip,
+) -> Result<(), EntryRefused<Refused>>
     requires { length items.now ≤ 32 }
     ensures { at_entry result ≡ fault_of
         (meant.layout (chip_meant chip) (map (part_meant bytes.now) items.now)) }
@@ -135,26 +139,26 @@ fn name_in<'a>(s: &'a [u8], cut: bool) -> &'a [u8]
     if cut { partition_name(s) } else { s }
 }
 
-// The first partition that bears a name, by what it is.
-fn partition_named(store: &[u8], items: &[Partition], name: &[u8]) -> Option<Partition>
-    ensures { result ≡ slice_get items.now
-        (rank name.now (map (part_name store.now) items.now)) }
-{
-    let at = find_partition(store, items, name)?;
-    Some(items[at])
-}
-
-// The partition that a text names, or refers to where it is to be cut.
-pub fn find_named(store: &[u8], items: &[Partition], t: Text, cut: bool) -> Option<Partition>
-    ensures { result ≡ slice_get items.now
+// The place of the partition that a text names, or refers to where it is to be cut.
+pub fn find_named(store: &[u8], items: &[Partition], t: Text, cut: bool) -> Option<usize>
+    ensures { result ≡ placed (length items.now)
         (aim cut store.now (map (part_name store.now) items.now) t) }
 {
     match t {
         Text::Stored { from, len } => {
             let name = name_in(schema::stored(store, from, len), cut);
-            partition_named(store, items, name)
+            find_partition(store, items, name)
         }
-        Text::Fixed(w) => partition_named(store, items, name_in(w.bytes(), cut)),
+        Text::Fixed(w) => find_partition(store, items, name_in(w.bytes(), cut)),
         _ => None,
     }
+}
+
+// The same by what it is.
+pub fn partition_named(store: &[u8], items: &[Partition], t: Text, cut: bool) -> Option<Partition>
+    ensures { result ≡ slice_get items.now
+        (aim cut store.now (map (part_name store.now) items.now) t) }
+{
+    let at = find_named(store, items, t, cut)?;
+    Some(items[at])
 }

@@ -17,5 +17,5 @@ pub fn partition(rooms: Rooms<'_>, t: Text) -> Option<Partition>
     if p.fault.number != 0 {
         return None;
     }
-    layout::find_named(rooms.store, &p.items[..p.count], t, true)
+    layout::partition_named(rooms.store, &p.items[..p.count], t, true)
 }

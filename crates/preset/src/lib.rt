@@ -9,13 +9,11 @@ pub mod reading;
 pub mod validating;
 
 ghost use Rattle.std.specs.Prelude.{◌≡◌};
-ghost use Rattle.meaning.specs.Numbered.{number};
 ghost use Rattle.tree.specs.Both.{on};
 ghost use Rattle.parse.specs.Verdict.{Told};
 ghost use Rattle.preset.specs.Settled.{Settling, Kept, Parsed, judge_of};
 
 use parse::Refusal;
-use text::AtLine;
 use tree::Rooms;
 
 // What a text comes to: number 0 and the count of values made; or 01's number, section and place.
@@ -37,13 +35,13 @@ pub enum Way {
 }
 
 // A text that has no tree.
-pub fn refused_at_line(e: AtLine) -> Outcome
-    ensures { result ≡ record { number = number e.refused; section = 0; place = e.line; made = 0 } }
+pub fn refused_at_line(number: u32, line: usize) -> Outcome
+    ensures { result ≡ record { number = number; section = 0; place = line; made = 0 } }
 {
     Outcome {
-        number: e.refused.number(),
+        number,
         section: 0,
-        place: e.line,
+        place: line,
         made: 0,
     }
 }
@@ -104,6 +102,6 @@ pub fn judge_text(
             let v = judge_rooms(way, rooms, name, key);
             clear_if_refused(v, store, tree, st.made)
         }
-        Err(e) => refused_at_line(e),
+        Err(e) => refused_at_line(e.refused.number(), e.line),
     }
 }

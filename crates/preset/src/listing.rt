@@ -109,7 +109,7 @@ fn list_text(text: &[u8], name: &[u8], store: &mut [u8], tree: &mut [u8], out: &
 {
     match toml_lite::read_tree(text, store, tree) {
         Ok(st) => list_tree(name, store, tree, out, st.made),
-        Err(e) => unlisted(crate::refused_at_line(e), out),
+        Err(e) => unlisted(crate::refused_at_line(e.refused.number(), e.line), out),
     }
 }
 

@@ -96,6 +96,7 @@ fn put_trimmed(p: &[u8], store: &mut [u8], used: usize) -> Result<usize, BadSegm
 }
 
 // One part of a key between dots. 8 and 9 leave what is decoded until then, 7 the whole string or nothing.
+#[inline(always)]
 pub fn put_segment(s: &[u8], store: &mut [u8], used: usize) -> Result<usize, BadSegment>
     requires { Room s.now store.old used }
     ensures { KeyPart s.now store.old used store.new result }
@@ -105,7 +106,8 @@ pub fn put_segment(s: &[u8], store: &mut [u8], used: usize) -> Result<usize, Bad
 }
 
 // A whole key, segments strictly left to right. 15 leaves the segments before it, 7, 8 and 9 also what the refused
-// one laid.
+// one laid. A part of its callers, as the walks of `values::grow` are: each key is else copied five times.
+#[inline(always)]
 pub fn put_key(s: &[u8], store: &mut [u8], used: usize, limit: usize) -> Result<Key, BadKey>
     requires { Asked limit s.now store.old used }
     ensures { Splits limit s.now store.old used store.new result }

@@ -1,9 +1,12 @@
 -- Where each word stands among all words.
+use Prim.Native.Nat.{◌-◌}
 use mathlib.Core.Path.{◌≡◌, refl, subst}
 use native.Mathlib.Omega.{arith}
+use lib.ListN.{take, drop}
 use Rattle.schema.specs.declared.Word.{Word}
 use Rattle.schema.specs.declared.Word.TheVariants as words
-use Rattle.schema.specs.Words.{span_of, Stands}
+use Rattle.schema.specs.declared.Span.{Span}
+use Rattle.schema.specs.Words.{word, all, span_of, Stands, word_part}
 
 stands : (w : Word) → Stands w (span_of w)
 stands words.Board = record { is = refl; order = omega arith; end = omega arith }
@@ -26,3 +29,6 @@ stands words.Aic = record { is = refl; order = omega arith; end = omega arith }
 
 pub span_is : (w v : Word) → w ≡ v → Stands w (span_of v)
 span_is w v e = subst (λ (u : Word). Stands w (span_of u)) e (stands w)
+
+pub word_is : (w : Word) (s : Span) → Stands w s → take (s.to - s.from) (drop s.from all) ≡ word w
+word_is w s e = rw e.is (word_part w)

@@ -74,29 +74,13 @@ impl Word {
         }
     }
 
-    // Its bytes.
+    // Its bytes. A match of strings would be a table of pointers, which a loader has to write.
     pub fn bytes(self) -> &'static [u8]
         ensures { result.now ≡ word self }
     {
-        match self {
-            Word::Board => b"board",
-            Word::Release => b"release",
-            Word::Unknown => b"unknown",
-            Word::Version => b"0.0.0",
-            Word::Required => b"mtd;required",
-            Word::Optional => b"mtd;optional",
-            Word::App => b"app",
-            Word::Component => b"component.bin",
-            Word::D13x => b"d13x",
-            Word::D21x => b"d21x",
-            Word::Target13 => b"riscv32imafc-unknown-none-elf",
-            Word::Target21 => b"riscv64gc-unknown-none-elf",
-            Word::SpiNor => b"spi-nor",
-            Word::SpiNand => b"spi-nand",
-            Word::Pbp => b"pbp",
-            Word::Raw => b"raw",
-            Word::Aic => b".aic",
-        }
+        let all: &'static [u8; 152] = &Word::ALL;
+        let Span { from, to } = self.span();
+        &all[from..to]
     }
 
     // Whether it is these bytes.

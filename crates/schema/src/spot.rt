@@ -93,7 +93,8 @@ impl From<Spot> for Features {
     }
 }
 
-// Whether texts stand at both, and have the same bytes.
+// Whether texts stand at both, and have the same bytes. A part of its callers: full lists ask some 8,000 times.
+#[inline(always)]
 pub fn same_text(store: &[u8], p: Spot, q: Spot) -> bool
     ensures { result ≡ twice (spotted store.now p) (spotted store.now q) }
 {

@@ -1,16 +1,16 @@
 -- What a search by blocks keeps, with one law for each way on and out of it, and what the library says of two byte strings.
 use Prim.Native.Nat.{ℕ, zero, suc, ◌+◌, ◌-◌, ◌≤◌, ◌<◌}
 use mathlib.Core.Bool.{Bool, true, false}
-use mathlib.Core.List.{List, [], ◌∷◌}
-use mathlib.Core.Path.{◌≡◌, refl, sym}
+use mathlib.Core.List.{List, [], ◌∷◌, ◌++◌, append_assoc}
+use mathlib.Core.Path.{◌≡◌, refl, sym, ap, ◌∙◌}
 use native.Mathlib.Omega.{arith}
 use native.Mathlib.Numerals.{add-one}
 use native.Mathlib.Nat.{add-zero}
 use borrow.Author.Tests.{ltb-true, ltb-false, eqb-true}
 use lib.Bits.{bit_or, or_add_and, and_le_l, and_le_r}
 use lib.Dec.{eqb, ltb}
-use lib.ListN.{length, get_or, drop, drop_of_length-le}
-use lib.Seq.{drop-cons}
+use lib.ListN.{length, get_or, take, drop, set, length-set, drop_of_length-le}
+use lib.Seq.{drop-cons, take-suc, take-length, set_at, length-take-le}
 use Rattle.std.proofs.lemmas.Bool.Decides.{nat_tests}
 use Rattle.std.proofs.lemmas.Cmp.{same_from_slice_cmp}
 use Rattle.std.specs.Cmp.Lexicographic.{pointwise, slice_cmp}
@@ -87,3 +87,32 @@ same_not a b e = on (same a b) (λ t. absurd (e (same_eq a b t))) (λ t. sym t)
 -- ---- less
 pub less_told : (a b : List ℕ) (o : Ordering) → o ≡ slice_cmp nat_cmp a b → is_lt o ≡ less a b
 less_told = same_from_slice_cmp nat_cmp is_lt less refl (λ _ _. refl) (λ _ _. refl) (λ x y a b o h. grind (arith, nat_tests))
+
+-- ---- a list laid over another, byte by byte
+pub record Laid (src dst₀ dst : List ℕ) (i : ℕ) : Type 0 where
+  pub high : i ≤ length src
+  pub room : length src ≤ length dst₀
+  pub long : length dst ≡ length dst₀
+  pub left : dst ≡ take i src ++ drop i dst₀
+
+pub laid_start : (src dst : List ℕ) → length src ≤ length dst → Laid src dst dst 0
+laid_start src dst h = record { high = omega arith; room = h; long = refl; left = refl }
+
+pub laid_on : (src dst₀ dst : List ℕ) (i : ℕ) → Laid src dst₀ dst i → i < length src → Laid src dst₀ (set dst i (get_or src i 0)) (i + 1)
+laid_on src dst₀ dst i k h =
+    let l : i < length dst₀ = omega arith in
+    let n : length (take i src) ≡ i = length-take-le i src (omega arith) in
+    record {
+      high = omega arith;
+      room = k.room;
+      long = length-set dst i (get_or src i 0) ∙ k.long;
+      left =
+          ap (λ (d : List ℕ). set d i (get_or src i 0)) (k.left ∙ ap (λ (d : List ℕ). take i src ++ d) (drop-cons dst₀ i 0 l))
+          ∙ set_at (take i src) (get_or dst₀ i 0) (drop (suc i) dst₀) (get_or src i 0) i n
+          ∙ rw (add-one, take-suc src i 0 h) (sym (append_assoc (take i src) (get_or src i 0 ∷ []) (drop (suc i) dst₀)));
+    }
+
+pub laid_end : (src dst₀ dst : List ℕ) (i : ℕ) → Laid src dst₀ dst i → length src ≤ i → dst ≡ src ++ drop (length src) dst₀
+laid_end src dst₀ dst i k h =
+    let e : i ≡ length src = omega arith in
+    k.left ∙ rw (e, take-length src)

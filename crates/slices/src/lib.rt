@@ -81,12 +81,14 @@ pub fn less(a: &[u8], b: &[u8]) -> bool
     a.cmp(&b).is_lt()
 }
 
-// Lays src at the head of dst.
+// Lays src at the head of dst. By bytes: `copy_from_slice` is a call of `memmove`, and the archive has none (HOST.md).
 pub fn copy(src: &[u8], dst: &mut [u8])
     requires { length src.now ≤ length dst.old }
     ensures { dst.new ≡ src.now ++ drop (length src.now) dst.old }
 {
-    dst[..src.len()].copy_from_slice(src);
+    for i in 0..src.len() {
+        dst[i] = src[i];
+    }
 }
 
 // Whether all bytes are zero. No byte ends it, so that the machine takes many of them at once.

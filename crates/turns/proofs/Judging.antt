@@ -1,23 +1,19 @@
 -- Entries in turn: one law for each way on and out.
 use Prim.Native.Nat.{ℕ, ◌+◌, ◌≤◌, ◌<◌}
 use mathlib.Core.Bool.{Bool}
-use mathlib.Core.List.{List, [], ◌∷◌, map}
-use mathlib.Core.Path.{◌≡◌, refl, sym}
+use mathlib.Core.List.{List, ◌∷◌}
+use mathlib.Core.Path.{◌≡◌, sym}
 use native.Mathlib.Omega.{arith}
 use native.Mathlib.Numerals.{add-one}
-use borrow.Author.Tests.{ne_eqb}
-use lib.ListN.{length, get_or, take, drop, drop_of_length-le}
-use lib.Seq.{drop-cons, take-suc}
+use lib.Dec.{eqb}
+use lib.ListN.{length, get_or, drop, drop_of_length-le}
+use lib.Seq.{drop-cons}
 use Rattle.std.proofs.Common.{Result, Ok, Err}
-use Rattle.std.specs.List.{list_any}
-use Rattle.meaning.specs.declared.Refused.{Refused}
+use Rattle.std.proofs.lemmas.List.{get_or_read}
 use Rattle.meaning.specs.Base.{same}
-use Rattle.meaning.specs.Numbered.{number, told}
-use Rattle.meaning.specs.Verdict.{among, with_last, in_turn}
-use Rattle.laws.specs.Cases.{on}
 use Rattle.turns.specs.declared.Mark.{Mark}
-use Rattle.turns.specs.Marks.{named, same_name, entry_checked, fault_of, mark_rule, noted, judged}
-use Rattle.turns.specs.Refusals.{number_some, checked_told}
+use Rattle.turns.specs.Marks.{same_name, entry_checked, at_place, first_refused, twin, judged_by}
+use Rattle.turns.specs.Turns.{twin_checked}
 
 -- two calls that read byte strings, and one that compares them
 pub same_of : (x y p q : List ℕ) (r : Bool) → r ≡ same x y → x ≡ p → y ≡ q → r ≡ same p q
@@ -25,46 +21,32 @@ same_of x y p q r e f g = rw (← f, ← g) e
 
 -- ---- entry after entry
 
-any_among : (bytes : List ℕ) (m : Mark) (es : List Mark) → list_any (same_name bytes m) es ≡ among (named bytes m) (map (named bytes) es)
-any_among bytes m [] = refl
-any_among bytes m (e ∷ es) = on (same_name bytes m e) (λ h. rw h) (λ h. rw h (any_among bytes m es))
+-- two entries as they were read
+pub same_read : {R : Type 0} (bytes : List ℕ) (xs : List (Mark R)) (i j : ℕ) (x y d : Mark R) (r : Bool) → i < length xs → j < i → x ≡ get_or xs i x → y ≡ get_or xs j y
+    → r ≡ same_name bytes x y → r ≡ same_name bytes (get_or xs i d) (get_or xs j d)
+same_read bytes xs i j x y d r l m e f s = rw (← get_or_read xs i x l e d, ← get_or_read xs j y (omega arith) f d) s
 
-map_after : {X Y : Type 0} (f : X → Y) (xs : List X) (x : X) → map f (with_last xs x) ≡ with_last (map f xs) (f x)
-map_after f [] x = refl
-map_after f (y ∷ xs) x = rw (map_after f xs x)
-
--- no entry before number i has a fault
-pub record Faulting (twice : Refused) (bytes : List ℕ) (xs : List Mark) (i : ℕ) : Type 0 where
+-- the twin is known, and no entry before number i is refused
+pub record Faulting {R : Type 0} (twice : R) (bytes : List ℕ) (t : ℕ) (xs : List (Mark R)) (i : ℕ) : Type 0 where
   pub high : i ≤ length xs
-  pub left : judged (number twice) bytes xs ≡ fault_of (in_turn (mark_rule (number twice) bytes) (noted bytes) 0 i (map (named bytes) (take i xs)) (drop i xs))
+  pub left : judged_by twice bytes xs ≡ first_refused twice t i (drop i xs)
 
-module _ (twice : Refused) (bytes : List ℕ) (xs : List Mark) where
-  pub first_start : Faulting twice bytes xs 0
-  unfolding judged
-  first_start = record { high = omega arith; left = refl }
+module _ {R : Type 0} (twice : R) (bytes : List ℕ) (t : ℕ) (xs : List (Mark R)) where
+  pub first_start : t ≡ twin bytes xs → Faulting twice bytes t xs 0
+  first_start e = record { high = omega arith; left = rw e (sym (twin_checked twice bytes xs)) }
 
-  module _ (i : ℕ) (k : Faulting twice bytes xs i) where
-    pub first_end : length xs ≤ i → record { number = 0; place = 0 } ≡ judged (number twice) bytes xs
+  module _ (i : ℕ) (k : Faulting twice bytes t xs i) where
+    pub first_end : length xs ≤ i → Ok tt ≡ judged_by twice bytes xs
     first_end l = sym (rw (drop_of_length-le xs l) at k.left)
 
-    module _ (d : Mark) (l : i < length xs) (twin : Bool) (t : twin ≡ list_any (same_name bytes (get_or xs i d)) (take i xs))
-        (r : Result (Unit {0}) Refused) (e : r ≡ entry_checked twice twin (get_or xs i d)) where
-      rule_is : mark_rule (number twice) bytes (map (named bytes) (take i xs)) (get_or xs i d) ≡ told r
-      rule_is = rw (← any_among bytes (get_or xs i d) (take i xs), ← t, e) (sym (checked_told twice twin (get_or xs i d)))
+    module _ (m : Mark R) (l : i < length xs) (f : m ≡ get_or xs i m) (r : Result (Unit {0}) R) (e : r ≡ entry_checked twice (eqb i t) m) where
+      first_head : judged_by twice bytes xs ≡ at_place i r (first_refused twice t (i + 1) (drop (i + 1) xs))
+      first_head =
+          let a : drop i xs ≡ m ∷ drop (i + 1) xs = rw (f, add-one) (drop-cons xs i m l) in
+          rw e (rw a at k.left)
 
-      head : judged (number twice) bytes xs
-          ≡ fault_of (in_turn (mark_rule (number twice) bytes) (noted bytes) 0 i (map (named bytes) (take i xs)) (get_or xs i d ∷ drop (i + 1) xs))
-      head =
-          let a : drop i xs ≡ get_or xs i d ∷ drop (i + 1) xs = rw add-one (drop-cons xs i d l) in
-          rw a at k.left
+      pub first_on : (u : Unit {0}) → r ≡ Ok u → Faulting twice bytes t xs (i + 1)
+      first_on u g = record { high = omega arith; left = rw g at first_head }
 
-      pub first_on : (u : Unit {0}) → r ≡ Ok u → Faulting twice bytes xs (i + 1)
-      first_on u g =
-          let a : map (named bytes) (take (i + 1) xs) ≡ with_last (map (named bytes) (take i xs)) (named bytes (get_or xs i d))
-          = rw (add-one, take-suc xs i d l) (map_after (named bytes) (take i xs) (get_or xs i d)) in
-          record { high = omega arith; left = rw a (rw (rule_is, g) at head) }
-
-      pub first_here : (refused : Refused) → r ≡ Err refused → record { number = number refused; place = i } ≡ judged (number twice) bytes xs
-      first_here refused g =
-          let z : number refused ≡ 0 → ⊥ = λ h. omega (arith, h, number_some refused) in
-          sym (rw (rule_is, g, ne_eqb (number refused) 0 z) at head)
+      pub first_here : (refused : R) → r ≡ Err refused → Err (record { refused = refused; place = i }) ≡ judged_by twice bytes xs
+      first_here refused g = sym (rw g at first_head)

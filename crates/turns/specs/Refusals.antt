@@ -1,13 +1,15 @@
--- Each refusal has a number, so the first of two that refuses is the first number that is not 0.
-use Rattle.std.specs.Prelude.{◌≤◌, ◌≡◌, refl, Bool, true, false, Result, Ok, Err}
-use Rattle.std.proofs.Common.{arith, ne_eqb}
+-- Each refusal has a number, so the first of two that refuses is the first number that is not 0, and entries are judged by numbers.
+use Rattle.std.specs.Prelude.{ℕ, ◌+◌, ◌≤◌, List, [], ◌∷◌, ◌≡◌, refl, Bool, true, false, eqb, Result, Ok, Err}
+use Rattle.std.proofs.Common.{sym, ap, ◌∙◌, arith, ne_eqb}
 use Rattle.meaning.specs.Base.{pick}
 use Rattle.meaning.specs.Numbered.{number, told}
 use Rattle.meaning.specs.Verdict.{or_else}
 use Rattle.meaning.specs.declared.Refused.{Refused}
 use Rattle.meaning.specs.declared.Refused.TheVariants.{TextTooLong, NotUtf8, ClosedTooOften, NeverClosed, NoForm, NoKey, MalformedKey, BadEscape, UnendedString, AfterString, UnendedArray, NotAnInteger, NotAnArray, TooDeep, TooManySegments, TooManyValues, RoomTooSmall, WrongKind, OutOfRange, UnknownWord, NotATable, Missing, TooManyEntries, MediaNotTheChips, PlatformNotTheChip, EmptyProfile, BootNameTooLong, UnknownTarget, TargetOfOtherWidth, NoPartitions, FirstNotAtZero, EmptyPartitionName, PartitionTwice, NoSize, OffsetOffBlock, SizeOffBlock, Overlap, PastAddresses, NoComponents, ComponentTwice, ComponentNameTooLong, TwoSources, NoSource, TwoPbps, UpdaterWithoutRam, NoPartition, UnknownPartition, ReserveOffBlock, FeaturesDiffer, EmptyApplicationName, ApplicationNameTooLong, EmptyFilename, ApplicationNowhere, ApplicationTwice, AddressOffWord, LockedPartition, NothingBoots, NotDeclared, NamedLikeComponent}
 use Rattle.turns.specs.declared.Mark.{Mark}
-use Rattle.turns.specs.Marks.{first_err, entry_fault, entry_checked}
+use Rattle.turns.specs.declared.EntryRefused.{EntryRefused}
+use Rattle.turns.specs.Marks.{Fault, first_err, entry_fault, entry_checked, twin, at_place, at_entry, first_fault, first_refused, judged, judged_by}
+use Rattle.turns.specs.Turns.{twin_first, twin_checked}
 
 pub number_some : (r : Refused) → 1 ≤ number r
 number_some TextTooLong = omega arith
@@ -80,7 +82,26 @@ told_pick true x y = refl
 told_pick false x y = refl
 
 -- an entry's number is that of what it is refused for
-pub checked_told : (twice : Refused) (met : Bool) (m : Mark) → told (entry_checked twice met m) ≡ entry_fault (number twice) met m
+pub checked_told : (twice : Refused) (met : Bool) (m : Mark Refused) → told (entry_checked twice met m) ≡ entry_fault (number twice) met m
 unfolding entry_fault
 checked_told twice met m =
     rw (told_first m.early (first_err (pick met (Err twice) (Ok tt)) m.late), told_first (pick met (Err twice) (Ok tt)) m.late, told_pick met (Err twice) (Ok tt))
+
+place_told : (i : ℕ) (r : Result (Unit {0}) Refused) (s : Result (Unit {0}) (EntryRefused Refused)) (f : Fault)
+    → at_entry s ≡ f → at_entry (at_place i r s) ≡ pick (eqb (told r) 0) f (record { number = told r; place = i })
+place_told i (Ok u) s f h = h
+place_told i (Err e) s f h = let z = number_some e in rw (ne_eqb (number e) 0 (λ w. omega (arith, z)))
+
+module _ (twice : Refused) (bytes : List ℕ) where
+  first_told : (t i : ℕ) (ms : List (Mark Refused)) → at_entry (first_refused twice t i ms) ≡ first_fault (number twice) t i ms
+  first_told t i [] = refl
+  first_told t i (m ∷ ms) =
+      rw (← checked_told twice (eqb i t) m)
+      (place_told i (entry_checked twice (eqb i t) m) (first_refused twice t (i + 1) ms) (first_fault (number twice) t (i + 1) ms) (first_told t (i + 1) ms))
+
+  -- what an entry is refused for, by its number
+  pub judged_told : (ms : List (Mark Refused)) → at_entry (judged_by twice bytes ms) ≡ judged (number twice) bytes ms
+  judged_told ms =
+      ap at_entry (sym (twin_checked twice bytes ms))
+      ∙ first_told (twin bytes ms) 0 ms
+      ∙ twin_first (number twice) bytes ms (number_some twice)

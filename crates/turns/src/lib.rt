@@ -3,35 +3,31 @@
 #![tactic(auto)]
 
 ghost use Rattle.std.specs.Prelude.{◌≡◌};
-ghost use Rattle.std.specs.List.{list_any};
 ghost use Rattle.meaning.specs.Base.{same};
-ghost use Rattle.meaning.specs.Numbered.{number};
 ghost use Rattle.turns.specs.Marks as marks;
-ghost use Rattle.turns.specs.Marks.{named, at_entry};
-
-use meaning::Refused;
+ghost use Rattle.turns.specs.Marks.{named};
 
 // How many entries the longest of the lists may have.
 pub const MOST_ENTRIES: usize = meaning::COMPONENTS;
 
 // What one entry's rules say: before the question whether an earlier entry has its name, which is len bytes from a
-// place on, and after it.
+// place on, and after it. What they refuse for is a `meaning::Refused`, or a number.
 #[derive(Clone, Copy)]
-pub struct Mark {
+pub struct Mark<R> {
     pub from: usize,
     pub len: usize,
-    pub early: Result<(), Refused>,
-    pub late: Result<(), Refused>,
+    pub early: Result<(), R>,
+    pub late: Result<(), R>,
 }
 
 // What an entry is refused for, and which entry it is.
 #[derive(Clone, Copy)]
-pub struct EntryRefused {
-    pub refused: Refused,
+pub struct EntryRefused<R> {
+    pub refused: R,
     pub place: usize,
 }
 
-fn same_name(bytes: &[u8], a: Mark, b: Mark) -> bool
+fn same_name<R: Copy>(bytes: &[u8], a: Mark<R>, b: Mark<R>) -> bool
     ensures { result ≡ same (named bytes.now a) (named bytes.now b) }
 {
     let x = schema::stored(bytes, a.from, a.len);
@@ -39,15 +35,22 @@ fn same_name(bytes: &[u8], a: Mark, b: Mark) -> bool
     slices::same_last_first(x, y)
 }
 
-// Whether an entry has the name of one of these.
-fn is_twin(bytes: &[u8], m: Mark, earlier: &[Mark]) -> bool
-    ensures { result ≡ list_any (marks.same_name bytes.now m) earlier.now }
+// The first entry that has the name of an earlier one; as many as there are where there is none.
+pub fn first_twin<R: Copy>(bytes: &[u8], entries: &[Mark<R>]) -> usize
+    ensures { result ≡ marks.twin bytes.now entries.now }
 {
-    earlier.iter().any(|e| same_name(bytes, m, *e))
+    for i in 0..entries.len() {
+        for j in 0..i {
+            if same_name(bytes, entries[i], entries[j]) {
+                return i;
+            }
+        }
+    }
+    entries.len()
 }
 
 // An entry by itself: its early rules, its name, its late rules.
-fn check_entry(m: Mark, twin: bool, twice: Refused) -> Result<(), Refused>
+fn check_entry<R: Copy>(m: Mark<R>, twin: bool, twice: R) -> Result<(), R>
     ensures { result ≡ marks.entry_checked twice twin m }
 {
     m.early?;
@@ -57,20 +60,25 @@ fn check_entry(m: Mark, twin: bool, twice: Refused) -> Result<(), Refused>
     m.late
 }
 
-// The entries in turn, each against the names of those before it: the first with a fault.
-pub fn judge_marks(bytes: &[u8], entries: &[Mark], twice: Refused) -> Result<(), EntryRefused>
-    ensures { at_entry result ≡ marks.judged (number twice) bytes.now entries.now }
+// The entries in turn, each against the names of those before it: the first with a fault, where one of them has the
+// name of an earlier entry.
+pub fn judge_marks<R: Copy>(
+    bytes: &[u8],
+    entries: &[Mark<R>],
+    twice: R,
+) -> Result<(), EntryRefused<R>>
+    ensures { result ≡ marks.judged_by twice bytes.now entries.now }
 {
+    let twin = first_twin(bytes, entries);
     for place in 0..entries.len() {
-        let twin = is_twin(bytes, entries[place], &entries[..place]);
-        if let Err(refused) = check_entry(entries[place], twin, twice) {
+        if let Err(refused) = check_entry(entries[place], place == twin, twice) {
             return Err(EntryRefused { refused, place });
         }
     }
     Ok(())
 }
 
-pub fn no_marks() -> [Mark; MOST_ENTRIES]
+pub fn no_marks<R: Copy>() -> [Mark<R>; MOST_ENTRIES]
     ensures { result ≡ marks.no_marks }
 {
     let blank = Mark {

@@ -30,7 +30,7 @@ use Rattle.parse.specs.declared.Refusal.{Refusal}
 use Rattle.parse.specs.Entries.{refusal_at}
 use Rattle.parse.specs.Meant.{board_meant, image_meant}
 use Rattle.turns.specs.Refusals.{number_some}
-use Rattle.validate.specs.Fronts.{chip_if, device_fault, ruled}
+use Rattle.validate.specs.Fronts.{sized, chip_if, device_fault, ruled}
 
 -- ---- holds
 
@@ -158,12 +158,12 @@ module _ (store name : List ℕ) (b : Board) (i : Image) (r : Refusal) (d : Resu
     unfolding ruled meant.front_rules
     ruled_profile y h = rw (device_told, z, nil_length (spelled store name b.profile), ← f, y) h
 
-    module _ (y : eqb (length p) 0 ≡ false) (m : List ℕ) (g : m ≡ spelled store name i.app) where
-      pub ruled_app : 32 < length m → r ≡ refusal_at 2 33 0 → r ≡ ruled store name b i
+    module _ (y : eqb (length p) 0 ≡ false) (m : ℕ) (g : m ≡ sized store name i.app) where
+      pub ruled_app : 32 < m → r ≡ refusal_at 2 33 0 → r ≡ ruled store name b i
       unfolding ruled meant.front_rules
-      ruled_app k h = rw (device_told, z, nil_length (spelled store name b.profile), ← f, y, ← g, lt-ltb 32 (length m) k) h
+      ruled_app k h = rw (device_told, z, nil_length (spelled store name b.profile), ← f, y, ← g, lt-ltb 32 m k) h
 
-      module _ (k : length m ≤ 32) (t : List ℕ) (q : t ≡ spelled store name b.target) (w : Result (Unit {0}) Refused) (l : told w ≡ meant.width_fault (chip_meant b.chip) (meant.chip_for t)) where
+      module _ (k : m ≤ 32) (t : List ℕ) (q : t ≡ spelled store name b.target) (w : Result (Unit {0}) Refused) (l : told w ≡ meant.width_fault (chip_meant b.chip) (meant.chip_for t)) where
         width_told : meant.width_fault (chip_meant b.chip) (meant.chip_for (spelled store name b.target)) ≡ told w
         width_told = rw (← q) (sym l)
 
@@ -177,7 +177,7 @@ module _ (store name : List ℕ) (b : Board) (i : Image) (r : Refusal) (d : Resu
               ← f,
               y,
               ← g,
-              le-ltb 32 (length m) k,
+              le-ltb 32 m k,
               width_told,
               j,
               ne_eqb (number x) 0 (told_some x),
@@ -187,4 +187,4 @@ module _ (store name : List ℕ) (b : Board) (i : Image) (r : Refusal) (d : Resu
         pub ruled_none : (v : Unit {0}) → w ≡ Ok v → r ≡ refusal_at 0 0 0 → r ≡ ruled store name b i
         unfolding ruled meant.front_rules
         ruled_none v j h =
-            rw (device_told, z, nil_length (spelled store name b.profile), ← f, y, ← g, le-ltb 32 (length m) k, width_told, j) h
+            rw (device_told, z, nil_length (spelled store name b.profile), ← f, y, ← g, le-ltb 32 m k, width_told, j) h

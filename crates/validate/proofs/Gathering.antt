@@ -24,10 +24,13 @@ use Rattle.parse.specs.Refusals.{earlier}
 use Rattle.parse.specs.Entries as parsed
 use Rattle.parse.specs.Entries.{refusal_at, refusal_of, each_component, application_r, walk, application_fault}
 use Rattle.parse.proofs.Entering as reading
+use Rattle.meaning.specs.declared.Refused.{Refused}
+use Rattle.meaning.specs.declared.Refused.TheVariants.{ComponentTwice, ApplicationTwice}
+use Rattle.meaning.specs.Numbered.{number}
 use Rattle.turns.specs.declared.Mark.{Mark}
 use Rattle.turns.specs.declared.EntryRefused.{EntryRefused}
-use Rattle.turns.specs.Marks.{any_of, first_hit, at_entry, judged}
-use Rattle.turns.specs.Marks.{no_marks}
+use Rattle.turns.specs.Marks.{no_marks, any_of, first_hit, at_entry, judged, judged_by}
+use Rattle.turns.specs.Refusals.{judged_told}
 use Rattle.validate.specs.declared.Entry.{Entry}
 use Rattle.schema.specs.declared.Partition.{Partition}
 use Rattle.schema.specs.declared.spot.Spot.{Spot}
@@ -59,7 +62,7 @@ one_more : {X : Type 0} (xs front : Seq X) (at : ℕ) (x : X) → at < length xs
 one_more xs front at x l e = rw (add-one at, take-suc-set xs at x l, e)
 
 -- of the entries that numbers stand for the first i were met: their marks and, after those in front, their packages stand in the arrays
-pub record Passed (entry : ℕ → Entry) (all left : Seq ℕ) (front : Seq Pair) (ms : Seq Mark) (ps : Seq Pair) (i at : ℕ) : Type 0 where
+pub record Passed (entry : ℕ → Entry) (all left : Seq ℕ) (front : Seq Pair) (ms : Seq (Mark Refused)) (ps : Seq Pair) (i at : ℕ) : Type 0 where
   pub here : drop i all ≡ left
   pub high : i ≤ length all
   pub mark_room : length ms ≡ 64
@@ -67,7 +70,7 @@ pub record Passed (entry : ℕ → Entry) (all left : Seq ℕ) (front : Seq Pair
   pub marks : take i ms ≡ map (λ n. (entry n).mark) (take i all)
   pub pairs : take at ps ≡ front ++ map (λ n. (entry n).pair) (take i all)
 
-module _ (entry : ℕ → Entry) (all : Seq ℕ) (front : Seq Pair) (marks : Seq Mark) (pairs : Seq Pair) (i at : ℕ) where
+module _ (entry : ℕ → Entry) (all : Seq ℕ) (front : Seq Pair) (marks : Seq (Mark Refused)) (pairs : Seq Pair) (i at : ℕ) where
   passed_count : (left : Seq ℕ) → Passed entry all left front marks pairs i at → length all ≡ i + length left
   passed_count left k = omega (arith, k.high, length-drop i all, ap length k.here)
 
@@ -88,11 +91,11 @@ module _ (entry : ℕ → Entry) (all : Seq ℕ) (front : Seq Pair) (marks : Seq
             ∙ rw (t, map-append (λ n. (entry n).pair) (take i all) (n ∷ []), append_assoc, h);
       }
 
-  passed_listed : (left : Seq ℕ) → Passed entry all left front marks pairs i at → (store : Seq ℕ) (number : ℕ) (own : Result (Unit {0}) EntryRefused) → i ≤ 64 → at_entry own ≡ judged number store (take i marks)
-      → Listed store number entry (take i all) i own
-  passed_listed left k store number own l e =
+  passed_listed : (left : Seq ℕ) → Passed entry all left front marks pairs i at → (store : Seq ℕ) (twice : Refused) (own : Result (Unit {0}) (EntryRefused Refused)) → i ≤ 64 → own ≡ judged_by twice store (take i marks)
+      → Listed store (number twice) entry (take i all) i own
+  passed_listed left k store twice own l e =
       let n : length (take i all) ≡ i = length-take-le i all k.high in
-      record { is = sym n; few = omega (arith, n); own = e ∙ ap (judged number store) k.marks }
+      record { is = sym n; few = omega (arith, n); own = ap at_entry e ∙ judged_told twice store (take i marks) ∙ ap (judged (number twice) store) k.marks }
 
 -- ---- components
 
@@ -105,7 +108,7 @@ or_either true b = refl
 or_either false b = refl
 
 -- components that were met on a walk that began as v, and those that are to come
-pub record Composed (room store : Seq ℕ) (made : ℕ) (parts : Seq (Seq ℕ)) (v : Items) (marks : Seq Mark) (pairs : Seq Pair) (fault : Refusal) (first : Bool) (i : ℕ) (w : Items) : Type 0 where
+pub record Composed (room store : Seq ℕ) (made : ℕ) (parts : Seq (Seq ℕ)) (v : Items) (marks : Seq (Mark Refused)) (pairs : Seq Pair) (fault : Refusal) (first : Bool) (i : ℕ) (w : Items) : Type 0 where
   pub reads : reading.Composed room store made v.place v.end 32 i w
   pub few : length (to_come room v) ≤ 64
   pub none : fault ≡ refusal_at 0 0 0
@@ -114,7 +117,7 @@ pub record Composed (room store : Seq ℕ) (made : ℕ) (parts : Seq (Seq ℕ)) 
   pub seen : first ≡ any_of (λ n. (component_at room store made parts n).first) (take i (to_come room v))
 
 module _ (room store : Seq ℕ) (made : ℕ) (parts : Seq (Seq ℕ)) where
-  pub comps_start : (place end : ℕ) (v : Items) (marks : Seq Mark) (pairs : Seq Pair) (fault : Refusal) → Counted room made place end → v ≡ items_from place 0 end
+  pub comps_start : (place end : ℕ) (v : Items) (marks : Seq (Mark Refused)) (pairs : Seq Pair) (fault : Refusal) → Counted room made place end → v ≡ items_from place 0 end
       → marks ≡ no_marks → pairs ≡ replicate 128 blank → fault ≡ refusal_at 0 0 0 → Composed room store made parts v marks pairs fault false 0 v
   comps_start place end v marks pairs fault h e m p f =
       rw e (
@@ -128,7 +131,7 @@ module _ (room store : Seq ℕ) (made : ℕ) (parts : Seq (Seq ℕ)) where
       }
       )
 
-  module _ (v : Items) (marks : Seq Mark) (pairs : Seq Pair) (fault : Refusal) (first : Bool) (i : ℕ) (w : Items) (k : Composed room store made parts v marks pairs fault first i w) where
+  module _ (v : Items) (marks : Seq (Mark Refused)) (pairs : Seq Pair) (fault : Refusal) (first : Bool) (i : ℕ) (w : Items) (k : Composed room store made parts v marks pairs fault first i w) where
     pub comps_within : w.end ≤ made
     comps_within = k.reads.within
 
@@ -139,7 +142,7 @@ module _ (room store : Seq ℕ) (made : ℕ) (parts : Seq (Seq ℕ)) where
     comps_fit = omega (arith, count_is, k.few)
 
     -- what stands in the arrays is what was gathered of the components met
-    gathered : (place end : ℕ) → v ≡ items_from place 0 end → (r : Refusal) (own : Result (Unit {0}) EntryRefused) → at_entry own ≡ judged 51 store (take i marks) → r ≡ each_component room store made place end 32
+    gathered : (place end : ℕ) → v ≡ items_from place 0 end → (r : Refusal) (own : Result (Unit {0}) (EntryRefused Refused)) → own ≡ judged_by ComponentTwice store (take i marks) → r ≡ each_component room store made place end 32
         → met r (length (items room end place 0)) ≡ i
         → Components room store made place end parts (record { fault = r; count = i; first = first; own = own; pairs = pairs })
     gathered place end ev r own eo er em =
@@ -150,7 +153,7 @@ module _ (room store : Seq ℕ) (made : ℕ) (parts : Seq (Seq ℕ)) where
           gathers =
               rw em
               (record {
-                listed = passed_listed (component_at room store made parts) (items room end place 0) [] marks pairs i i (to_come room w) c.passed store 51 own comps_fit eo;
+                listed = passed_listed (component_at room store made parts) (items room end place 0) [] marks pairs i i (to_come room w) c.passed store ComponentTwice own comps_fit eo;
                 pairs = rw n (sym (take-append-drop i pairs) ∙ rw (c.passed.pairs, c.rest));
                 first = c.seen;
               });
@@ -158,7 +161,7 @@ module _ (room store : Seq ℕ) (made : ℕ) (parts : Seq (Seq ℕ)) where
 
     module _ (step : Option (Step Items)) (h : Gives room w step) where
       -- after the loop the fault is one of those that its ways out leave
-      pub comps_none : (place end : ℕ) → v ≡ items_from place 0 end → step ≡ None → (r : Refusal) (own : Result (Unit {0}) EntryRefused) → at_entry own ≡ judged 51 store (take i marks) → r ≡ fault
+      pub comps_none : (place end : ℕ) → v ≡ items_from place 0 end → step ≡ None → (r : Refusal) (own : Result (Unit {0}) (EntryRefused Refused)) → own ≡ judged_by ComponentTwice store (take i marks) → r ≡ fault
           → Components room store made place end parts (record { fault = r; count = i; first = first; own = own; pairs = pairs })
       comps_none place end ev g r own eo e =
           let t : r ≡ refusal_at 0 0 0 = e ∙ k.none in
@@ -179,7 +182,7 @@ module _ (room store : Seq ℕ) (made : ℕ) (parts : Seq (Seq ℕ)) where
           unfolding component_entry
           fault_is = ap (λ (x : Entry). x.fault) d
 
-          pub comps_not : (place end : ℕ) → v ≡ items_from place 0 end → (e.fault ≡ 0 → ⊥) → (here r : Refusal) (own : Result (Unit {0}) EntryRefused) → at_entry own ≡ judged 51 store (take i marks)
+          pub comps_not : (place end : ℕ) → v ≡ items_from place 0 end → (e.fault ≡ 0 → ⊥) → (here r : Refusal) (own : Result (Unit {0}) (EntryRefused Refused)) → own ≡ judged_by ComponentTwice store (take i marks)
               → here ≡ refusal_at 4 e.fault i → r ≡ here
               → Components room store made place end parts (record { fault = r; count = i; first = first; own = own; pairs = pairs })
           comps_not place end ev z here r own eo eh er =
@@ -208,7 +211,7 @@ module _ (room store : Seq ℕ) (made : ℕ) (parts : Seq (Seq ℕ)) where
 -- ---- applications
 
 -- applications that were met on a walk that began as v, after packages of an array that has more room
-pub record Applying (room store : Seq ℕ) (made : ℕ) (ps : Seq Partition) (front : Seq Pair) (preceding : ℕ) (v : Keys) (marks : Seq Mark) (pairs : Seq Pair) (fault : Refusal) (w : Keys) (i : ℕ) : Type 0 where
+pub record Applying (room store : Seq ℕ) (made : ℕ) (ps : Seq Partition) (front : Seq Pair) (preceding : ℕ) (v : Keys) (marks : Seq (Mark Refused)) (pairs : Seq Pair) (fault : Refusal) (w : Keys) (i : ℕ) : Type 0 where
   pub low : preceding ≤ 64
   pub high : i ≤ 64
   pub reads : reading.Walking room store made 64 32 v.place v.end w fault i
@@ -216,7 +219,7 @@ pub record Applying (room store : Seq ℕ) (made : ℕ) (ps : Seq Partition) (fr
 
 module _ (room store : Seq ℕ) (made : ℕ) (ps : Seq Partition) where
   -- an array in a struct is as long as its elements in the machine
-  pub apps_start : {X : Type 0} (f : Pair → X) (place end : ℕ) (old : Seq Pair) (preceding : ℕ) → length (map f old) ≡ 128 → (v : Keys) (marks : Seq Mark) (fault : Refusal)
+  pub apps_start : {X : Type 0} (f : Pair → X) (place end : ℕ) (old : Seq Pair) (preceding : ℕ) → length (map f old) ≡ 128 → (v : Keys) (marks : Seq (Mark Refused)) (fault : Refusal)
       → Followed room made end preceding → Begins room place end None v → marks ≡ no_marks → fault ≡ refusal_at 0 0 0
       → Applying room store made ps (take preceding old) preceding v marks old fault v 0
   apps_start f place end old preceding l v marks fault h b m e =
@@ -228,7 +231,7 @@ module _ (room store : Seq ℕ) (made : ℕ) (ps : Seq Partition) where
         passed = record { here = rw b.after; high = omega arith; mark_room = ap length m; pair_room = sym (length-map old f) ∙ l; marks = refl; pairs = rw (z, append-nil) };
       }
 
-  module _ (front : Seq Pair) (preceding : ℕ) (v : Keys) (marks : Seq Mark) (pairs : Seq Pair) (fault : Refusal) (w : Keys) (i : ℕ)
+  module _ (front : Seq Pair) (preceding : ℕ) (v : Keys) (marks : Seq (Mark Refused)) (pairs : Seq Pair) (fault : Refusal) (w : Keys) (i : ℕ)
       (k : Applying room store made ps front preceding v marks pairs fault w i) where
     pub apps_ready : Ready room w
     apps_ready = k.reads.count.over.ready
@@ -252,7 +255,7 @@ module _ (room store : Seq ℕ) (made : ℕ) (ps : Seq Partition) where
             omega (arith, length-take-le (preceding + i) pairs (omega (arith, k.low, k.high, here.passed.pair_room)), length-take-le i all here.passed.high)
 
         -- what stands in the arrays is what was gathered of the applications met
-        gathered_apps : (r : Refusal) (own : Result (Unit {0}) EntryRefused) (at : Option ℕ) → at_entry own ≡ judged 65 store (take i marks) → at ≡ placed (length (take (preceding + i) pairs)) (first_hit (clash room store made) [] (take (preceding + i) pairs))
+        gathered_apps : (r : Refusal) (own : Result (Unit {0}) (EntryRefused Refused)) (at : Option ℕ) → own ≡ judged_by ApplicationTwice store (take i marks) → at ≡ placed (length (take (preceding + i) pairs)) (first_hit (clash room store made) [] (take (preceding + i) pairs))
             → r ≡ refusal_of (listed (application_r room store made 32) in_application 64 all) → take 64 all ≡ take i all
             → Applications room store made place end ps preceding front (record { fault = r; count = i; own = own; clash = at })
         gathered_apps r own at eo ec er et =
@@ -261,12 +264,12 @@ module _ (room store : Seq ℕ) (made : ℕ) (ps : Seq Partition) where
               gathers =
                   rw et
                   (record {
-                    listed = passed_listed (application_at room store made ps) all front marks pairs i (preceding + i) (walk room store end place (65 - i) w.after) here.passed store 65 own k.high eo;
+                    listed = passed_listed (application_at room store made ps) all front marks pairs i (preceding + i) (walk room store end place (65 - i) w.after) here.passed store ApplicationTwice own k.high eo;
                     clashes = rw (passed_long, here.passed.pairs) at ec;
                   });
             }
 
-        pub apps_none : step ≡ None → (r : Refusal) (own : Result (Unit {0}) EntryRefused) (at : Option ℕ) → at_entry own ≡ judged 65 store (take i marks) → at ≡ placed (length (take (preceding + i) pairs)) (first_hit (clash room store made) [] (take (preceding + i) pairs)) → r ≡ fault
+        pub apps_none : step ≡ None → (r : Refusal) (own : Result (Unit {0}) (EntryRefused Refused)) (at : Option ℕ) → own ≡ judged_by ApplicationTwice store (take i marks) → at ≡ placed (length (take (preceding + i) pairs)) (first_hit (clash room store made) [] (take (preceding + i) pairs)) → r ≡ fault
             → Applications room store made place end ps preceding front (record { fault = r; count = i; own = own; clash = at })
         apps_none g r own at eo ec er =
             let u : walk room store end place (65 - i) w.after ≡ [] = reading.walk_ended room store place end w here.reads.count.over step h (65 - i) g in
@@ -279,7 +282,7 @@ module _ (room store : Seq ℕ) (made : ℕ) (ps : Seq Partition) where
 
         module _ (given : Step Keys) (g : step ≡ Some given) where
           -- one more than there may be
-          pub apps_many : 64 ≤ i → (told r : Refusal) (own : Result (Unit {0}) EntryRefused) (at : Option ℕ) → at_entry own ≡ judged 65 store (take i marks) → at ≡ placed (length (take (preceding + i) pairs)) (first_hit (clash room store made) [] (take (preceding + i) pairs))
+          pub apps_many : 64 ≤ i → (told r : Refusal) (own : Result (Unit {0}) (EntryRefused Refused)) (at : Option ℕ) → own ≡ judged_by ApplicationTwice store (take i marks) → at ≡ placed (length (take (preceding + i) pairs)) (first_hit (clash room store made) [] (take (preceding + i) pairs))
               → told ≡ refusal_at 5 25 64 → r ≡ told
               → Applications room store made place end ps preceding front (record { fault = r; count = i; own = own; clash = at })
           apps_many l told r own at eo ec eh er =

@@ -41,6 +41,7 @@ use Rattle.parse.specs.Verdict as verdicts
 use Rattle.parse.specs.Verdict.{Told}
 use Rattle.parse.proofs.Entering.{comps_many, comps_few}
 use Rattle.parse.proofs.Judging.{components_among, applications_among, partitions_judged_lem, components_judged_lem, applications_judged_lem, verdict_told}
+use Rattle.meaning.specs.declared.Refused.{Refused}
 use Rattle.turns.specs.declared.Mark.{Mark}
 use Rattle.turns.specs.declared.EntryRefused.{EntryRefused}
 use Rattle.turns.specs.Refusals.{number_some}
@@ -75,11 +76,11 @@ use Rattle.validate.proofs.Placing.{rules_low}
 
 -- ---- one group
 
-pub in_some : (section : ℕ) (e : EntryRefused) (r : Refusal) → r ≡ refusal_at section (number e.refused) e.place → r ≡ in_entry section (record { number = number e.refused; place = e.place })
+pub in_some : (section : ℕ) (e : EntryRefused Refused) (r : Refusal) → r ≡ refusal_at section (number e.refused) e.place → r ≡ in_entry section (record { number = number e.refused; place = e.place })
 unfolding in_entry
 in_some section e r h = let z : number e.refused ≡ 0 → ⊥ = λ w. omega (arith, w, number_some e.refused) in rw (ne_eqb (number e.refused) 0 z) h
 
-counted_is : (store ns : Seq ℕ) (mark : ℕ → Mark) → counted_fault (judged 51 store (map mark ns)) (length ns) ≡ components_fault store (map mark ns)
+counted_is : (store ns : Seq ℕ) (mark : ℕ → Mark Refused) → counted_fault (judged 51 store (map mark ns)) (length ns) ≡ components_fault store (map mark ns)
 unfolding counted_fault components_fault
 counted_is store [] mark = refl
 counted_is store (n ∷ ns) mark = rw (ne_eqb (length (n ∷ ns)) 0 (λ z. omega (arith, z)))

@@ -29,6 +29,7 @@ use Rattle.parse.specs.Placed.{earlier_place}
 use Rattle.parse.specs.Meant.{board_meant, image_meant}
 use Rattle.parse.specs.Given as goal
 use Rattle.parse.specs.Verdict.{verdict}
+use Rattle.meaning.specs.declared.Refused.{Refused}
 use Rattle.turns.specs.declared.Mark.{Mark}
 use Rattle.turns.specs.Marks.{Fault, any_of, fault_of, mark_rule, noted, judged}
 use Rattle.layout.specs.Parts.{part_name, part_meant}
@@ -73,11 +74,11 @@ low_entry : (section : ℕ) (f : Fault) (n : ℕ) → f.place ≤ n → (in_entr
 unfolding in_entry
 low_entry section f n h = on (eqb f.number 0) (λ e. rw e (omega arith)) (λ e. rw e h)
 
-low_marks : (number : ℕ) (bytes : Seq ℕ) (ms : Seq Mark) (n : ℕ) → length ms ≤ n → (judged number bytes ms).place ≤ n
+low_marks : (number : ℕ) (bytes : Seq ℕ) (ms : Seq (Mark Refused)) (n : ℕ) → length ms ≤ n → (judged number bytes ms).place ≤ n
 unfolding judged
 low_marks number bytes ms n h = fault_turn (mark_rule number bytes) (noted bytes) 0 0 [] ms n (omega (arith, h))
 
-low_components : (store : Seq ℕ) (ms : Seq Mark) (n : ℕ) → length ms ≤ n → (components_fault store ms).place ≤ n
+low_components : (store : Seq ℕ) (ms : Seq (Mark Refused)) (n : ℕ) → length ms ≤ n → (components_fault store ms).place ≤ n
 unfolding components_fault
 low_components store ms n h =
     on (nil? ms) (λ e. rw e (omega arith)) (λ e. rw e (low_entry 4 (judged 51 store ms) n (low_marks 51 store ms n h)))
@@ -126,8 +127,8 @@ module _ (room store : Seq ℕ) (made : ℕ) (name : Seq ℕ) (clear : (verdict 
   unfolding lists_fault rest_fault
   low_lists ps =
       let cs = length (components room store made) in
-      let marks : Seq Mark = map (λ n. (component_at room store made (map (part_name store) ps) n).mark) (components room store made) in
-      let others : Seq Mark = map (λ n. (application_at room store made ps n).mark) (applications room store made) in
+      let marks : Seq (Mark Refused) = map (λ n. (component_at room store made (map (part_name store) ps) n).mark) (components room store made) in
+      let others : Seq (Mark Refused) = map (λ n. (application_at room store made ps n).mark) (applications room store made) in
       earlier_place (components_fault store marks) _ 128
       (low_components store marks 128 (omega (arith, goal.map_length (λ n. (component_at room store made (map (part_name store) ps) n).mark) (components room store made), few_components)))
       (earlier_place (clash_fault cs (cs + length (applications room store made)) _) _ 128 (low_clash cs (cs + length (applications room store made)) _ 128 (omega (arith, few_components)) (omega (arith, few_components, few_applications)))

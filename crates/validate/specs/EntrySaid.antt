@@ -65,7 +65,7 @@ in_entry_says section r v h =
     rw (says_refused section r v h n, e) (record { told_by = (refl, omega arith) }))
 
 -- marks as the code judges them
-marks_say : (number : ℕ) (store : List ℕ) (section : ℕ) (ms : List Mark) → Says (mark_verdict number store section ms) (in_entry section (judged number store ms)) tt
+marks_say : (number : ℕ) (store : List ℕ) (section : ℕ) (ms : List (Mark Refused)) → Says (mark_verdict number store section ms) (in_entry section (judged number store ms)) tt
 marks_say number store section ms =
     in_entry_says section (judged number store ms) (mark_verdict number store section ms) (judged_verdict number store section ms (judged number store ms) refl)
 

@@ -14,6 +14,7 @@ use Rattle.parse.specs.Entries.{refusal_at, partition_at}
 use Rattle.parse.specs.Front.{front_read}
 use Rattle.parse.specs.Refused.{lent_text, partition_numbers}
 use Rattle.parse.specs.Verdict as verdicts
+use Rattle.meaning.specs.declared.Refused.{Refused}
 use Rattle.turns.specs.declared.Mark.{Mark}
 use Rattle.turns.specs.Marks.{Fault, at_entry, any_of, first_hit, fault_of, judged}
 use Rattle.layout.specs.Parts.{part_name, part_meant}
@@ -36,7 +37,7 @@ unfoldable pub length_fault : ℕ → ℕ → Refusal
 length_fault section n = pick (ltb 64 n) (refusal_at section 25 64) (refusal_at 0 0 0)
 
 -- 50 to 59
-unfoldable pub components_fault : Seq ℕ → Seq Mark → Refusal
+unfoldable pub components_fault : Seq ℕ → Seq (Mark Refused) → Refusal
 components_fault store ms = pick (nil? ms) (refusal_at 4 50 0) (in_entry 4 (judged 51 store ms))
 
 -- 50 to 59, of as many as were gathered and the first fault of their marks
@@ -44,7 +45,7 @@ unfoldable pub counted_fault : Fault → ℕ → Refusal
 counted_fault own n = pick (eqb n 0) (refusal_at 4 50 0) (in_entry 4 own)
 
 -- 61 to 67
-abbrev pub applications_fault : Seq ℕ → Seq Mark → Refusal
+abbrev pub applications_fault : Seq ℕ → Seq (Mark Refused) → Refusal
 applications_fault store ms = in_entry 5 (judged 65 store ms)
 
 -- 70
@@ -71,10 +72,10 @@ module _ (room store : Seq ℕ) (made : ℕ) where
     abbrev names : Seq (Seq ℕ)
     names = map (part_name store) ps
 
-    abbrev pub component_marks : Seq Mark
+    abbrev pub component_marks : Seq (Mark Refused)
     component_marks = map (λ n. (component_at room store made names n).mark) (components room store made)
 
-    abbrev pub application_marks : Seq Mark
+    abbrev pub application_marks : Seq (Mark Refused)
     application_marks = map (λ n. (application_at room store made ps n).mark) (applications room store made)
 
     abbrev pub component_pairs : Seq Pair

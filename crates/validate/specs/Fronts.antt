@@ -1,5 +1,5 @@
 -- Level 2 of 30 to 35: 01's rules over the board and the image that were read.
-use Rattle.std.specs.Prelude.{ℕ, List, Option, None, Some}
+use Rattle.std.specs.Prelude.{ℕ, List, length, Option, None, Some}
 use Rattle.std.proofs.Math.Option as meant_options
 use Rattle.meaning.specs.Base.{pick, same}
 use Rattle.meaning.specs.Schema as schemas
@@ -29,6 +29,9 @@ pub record Fronted (b : Board) (i : Image) : Type 0 where
   pub profile : Plain b.profile
   pub platform : Plain i.platform
   pub app : Plain i.app
+
+abbrev pub sized : List ℕ → List ℕ → Text → ℕ
+sized store name t = length (spelled store name t)
 
 -- a chip as 01 has it, where there is one
 abbrev pub chip_if : Option Chip → meant_options.Option schemas.Chip

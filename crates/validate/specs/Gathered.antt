@@ -9,6 +9,7 @@ use Rattle.schema.specs.Spots.{no_spot}
 use Rattle.parse.specs.declared.Refusal.{Refusal}
 use Rattle.parse.specs.Entries.{walk, refusal_at, refusal_of, each_component, application_r}
 use Rattle.parse.specs.Refused.{component_numbers, application_numbers}
+use Rattle.meaning.specs.declared.Refused.{Refused}
 use Rattle.turns.specs.declared.EntryRefused.{EntryRefused}
 use Rattle.turns.specs.Marks.{any_of, first_hit, at_entry, judged}
 use Rattle.layout.specs.Parts.{placed}
@@ -36,7 +37,7 @@ met fault n = pick (eqb fault.number 0) n fault.place
 -- ---- entries that numbers stand for
 
 -- how many, and the first fault of their marks, where a name met twice has this number
-pub record Listed (store : Seq ℕ) (number : ℕ) (entry : ℕ → Entry) (ns : Seq ℕ) (count : ℕ) (f : Result (Unit {0}) EntryRefused) : Type 0 where
+pub record Listed (store : Seq ℕ) (number : ℕ) (entry : ℕ → Entry) (ns : Seq ℕ) (count : ℕ) (f : Result (Unit {0}) (EntryRefused Refused)) : Type 0 where
   pub is : count ≡ length ns
   pub few : length ns ≤ 64
   pub own : at_entry f ≡ judged number store (map (λ n. (entry n).mark) ns)

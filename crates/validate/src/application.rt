@@ -67,7 +67,7 @@ fn entry_of(store: &[u8], fault: u32, pair: Pair, a: Application, items: &[Parti
     ensures { result ≡ entries.application_entry store.now items.now fault pair a }
 {
     // "validation compares an application's exactly"
-    let found = layout::find_named(store, items, a.partition, false);
+    let found = layout::partition_named(store, items, a.partition, false);
     Entry {
         fault,
         mark: Mark {

@@ -6,7 +6,7 @@ ghost use Rattle.meaning.specs.Rules as meant;
 ghost use Rattle.schema.specs.Words.{chip_meant};
 ghost use Rattle.validate.specs.Fronts as fronts;
 ghost use Rattle.schema.specs.Texts.{spelled};
-ghost use Rattle.validate.specs.Fronts.{Plain, Fronted, chip_if};
+ghost use Rattle.validate.specs.Fronts.{Plain, Fronted, sized, chip_if};
 
 use crate::refusal_in;
 use meaning::Refused;
@@ -24,6 +24,14 @@ fn bytes_of<'a>(store: &'a [u8], name: &'a [u8], t: Text) -> &'a [u8]
         Text::Fixed(w) => w.bytes(),
         _ => &[],
     }
+}
+
+// How many bytes a text has.
+pub fn size(store: &[u8], name: &[u8], t: Text) -> usize
+    requires { Plain t }
+    ensures { result ≡ sized store.now name.now t }
+{
+    bytes_of(store, name, t).len()
 }
 
 // Whether w stands somewhere in s.
@@ -87,7 +95,7 @@ pub fn check_front(store: &[u8], name: &[u8], b: Board, i: Image) -> Refusal
     if bytes_of(store, name, b.profile).is_empty() {
         return refusal_in(parse::IN_BOARD, Refused::EmptyProfile, 0);
     }
-    if LONGEST_NAME < bytes_of(store, name, i.app).len() {
+    if LONGEST_NAME < size(store, name, i.app) {
         return refusal_in(parse::IN_IMAGE, Refused::BootNameTooLong, 0);
     }
     if let Err(refused) = check_width(b.chip, bytes_of(store, name, b.target)) {

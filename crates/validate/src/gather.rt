@@ -22,7 +22,7 @@ pub struct Gathered {
     pub fault: Refusal,
     pub count: usize,
     pub first: bool,
-    pub own: Result<(), EntryRefused>,
+    pub own: Result<(), EntryRefused<Refused>>,
     pub pairs: [Pair; MOST_PAIRS],
 }
 
@@ -32,7 +32,7 @@ pub struct Gathered {
 pub struct Applied {
     pub fault: Refusal,
     pub count: usize,
-    pub own: Result<(), EntryRefused>,
+    pub own: Result<(), EntryRefused<Refused>>,
     pub clash: Option<usize>,
 }
 

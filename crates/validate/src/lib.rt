@@ -33,7 +33,7 @@ use turns::{EntryRefused, Mark};
 #[derive(Clone, Copy)]
 pub struct Entry {
     pub fault: u32,
-    pub mark: Mark,
+    pub mark: Mark<Refused>,
     pub pair: Pair,
     pub first: bool,
 }
@@ -52,7 +52,7 @@ fn refusal_in(section: u32, refused: Refused, place: usize) -> Refusal
 }
 
 // What is told of the entries of a section.
-fn in_entry(section: u32, judged: Result<(), EntryRefused>) -> Refusal
+fn in_entry(section: u32, judged: Result<(), EntryRefused<Refused>>) -> Refusal
     ensures { result ≡ faults.in_entry section (at_entry judged) }
 {
     match judged {
@@ -62,7 +62,7 @@ fn in_entry(section: u32, judged: Result<(), EntryRefused>) -> Refusal
 }
 
 // 50 to 59.
-fn check_components(own: Result<(), EntryRefused>, count: usize) -> Refusal
+fn check_components(own: Result<(), EntryRefused<Refused>>, count: usize) -> Refusal
     ensures { result ≡ faults.counted_fault (at_entry own) count }
 {
     if count == 0 {

@@ -73,7 +73,9 @@ fn clash(rooms: Rooms<'_>, a: Pair, b: Pair) -> bool
     use_differs(rooms, own_use(a), b) || use_differs(rooms, pbp_use(a), b)
 }
 
-// Whether an entry uses a package.
+// Whether an entry uses a package. A part of its callers, as `same_text` is: full lists ask 8,000 times, and a call for
+// each takes half as long again.
+#[inline(always)]
 fn uses_package(store: &[u8], p: Spot, b: Pair) -> bool
     ensures { result ≡ clashes.uses_package store.now p b }
 {
@@ -81,6 +83,7 @@ fn uses_package(store: &[u8], p: Spot, b: Pair) -> bool
 }
 
 // Whether two entries use one package.
+#[inline(always)]
 fn share_package(store: &[u8], a: Pair, b: Pair) -> bool
     ensures { result ≡ clashes.share_package store.now a b }
 {

@@ -10,3 +10,4 @@ pub mod Growing
 pub mod Descending
 pub mod Beginning
 pub mod Values
+pub mod Stuck

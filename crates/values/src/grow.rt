@@ -143,7 +143,9 @@ fn push(tree: &mut [u8], store: &[u8], here: Here, segment: Segment) -> Result<H
     }
 }
 
-// Along the first so many segments of a key, the first of which begins at from in the store.
+// Along the first so many segments of a key, the first of which begins at from in the store. Where a key is taken by
+// value, the function is a part of its callers, so that the key is not copied.
+#[inline(always)]
 pub fn enter_path(
     tree: &mut [u8],
     store: &[u8],
@@ -171,6 +173,7 @@ pub fn enter_path(
 }
 
 // The last segment of a key, the first of which begins at from in the store.
+#[inline(always)]
 fn last_segment(key: Key, from: usize) -> Segment
     requires { SomeKey key }
     ensures { result ≡ last_of key from }
@@ -199,6 +202,7 @@ fn hang_up(tree: &mut [u8], here: Here, segment: Segment, n: usize) -> Result<He
 }
 
 // A header `[[..]]`: along all but the last segment from the place, and the next table of the array there.
+#[inline(always)]
 pub fn push_path(
     tree: &mut [u8],
     store: &[u8],
@@ -216,6 +220,7 @@ pub fn push_path(
 }
 
 // An assignment of value number n: along all but the last segment from the place, and hung up there under the last.
+#[inline(always)]
 pub fn assign(
     tree: &mut [u8],
     store: &[u8],

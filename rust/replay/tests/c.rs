@@ -2,7 +2,7 @@
 use port::{ARCHIVE, document, listing, plans, records, text, value};
 use std::mem::{offset_of, size_of};
 use std::path::{Path, PathBuf};
-use std::process::{Command, Output};
+use std::process::{Command, Output, Stdio};
 
 // A variable of cargo for the machine that the library is for; `rust/cross` sets them elsewhere.
 fn set(name: &str) -> Option<String> {
@@ -41,6 +41,10 @@ fn compiled(source: &Path, out: &str, standard: &str, more: &[&str]) -> PathBuf 
 }
 
 fn run(program: &Path, words: &[&str]) -> Output {
+    run_with(program, words, Stdio::null())
+}
+
+fn run_with(program: &Path, words: &[&str], input: Stdio) -> Output {
     let mut command = match set("RUNNER") {
         Some(runner) => {
             let mut command = Command::new(runner);
@@ -49,7 +53,8 @@ fn run(program: &Path, words: &[&str]) -> Output {
         }
         None => Command::new(program),
     };
-    command.args(words).output().expect("it runs")
+    let command = command.args(words).stdin(input);
+    command.output().expect("it runs")
 }
 
 // What a program says of a preset by its file's name, with more words after it.
@@ -83,6 +88,26 @@ fn plans(program: &Path) {
     assert_eq!(plan("../README.md", &[]).0, Some(1));
     let (code, printed) = plan("stage-d13x.toml", &[]);
     assert_eq!(code, Some(0), "{printed}");
+}
+
+// What HOST.md says of the archive: it calls `memcpy` and `memset` alone, and has no data that is written, not even by
+// a loader.
+#[test]
+fn host_without_libc_or_loader() {
+    let source = here().join("tests/c/bare.c");
+    let bare = ["-ffreestanding", "-fPIE", "-nostdlib", "-static-pie"];
+    let program = compiled(&source, "bare", "c11", &[&[ARCHIVE], &bare[..]].concat());
+    for preset in ["example.toml", "stage-d13x.toml", "tour-d21x.toml"] {
+        let path = here().join("../../presets").join(preset);
+        let text = std::fs::read(&path).expect("a preset");
+        let mut out = vec![0; listing::out_min(b"board")];
+        let (mut store, mut tree) = (vec![0; value::STORE_MIN], vec![0; value::TREE_MIN]);
+        let listed = listing::list(&text, b"board", &mut store, &mut tree, &mut out);
+        let input = std::fs::File::open(&path).expect("a preset").into();
+        let told = run_with(&program, &[], input);
+        assert_eq!(told.status.code(), Some(0), "{preset}");
+        assert_eq!(told.stdout, out[..listed.written as usize], "{preset}");
+    }
 }
 
 // Where programs are emulated there need not be a compiler of C++.
