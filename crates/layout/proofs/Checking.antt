@@ -13,7 +13,7 @@ use Rattle.meaning.specs.declared.Refused.{Refused}
 use Rattle.meaning.specs.declared.Refused.TheVariants.{PartitionTwice}
 use Rattle.turns.specs.declared.Mark.{Mark}
 use Rattle.turns.specs.declared.EntryRefused.{EntryRefused}
-use Rattle.turns.specs.Marks.{at_entry, judged, judged_by, fault_of}
+use Rattle.turns.specs.Marks.{Fault, at_entry, judged, judged_by, fault_of}
 use Rattle.turns.specs.Refusals.{judged_told}
 use Rattle.layout.specs.Parts.{part_meant, marks_from, OnBlocks}
 use Rattle.layout.specs.Layouts.{layout_none, layout_off, layout_judged}
@@ -41,9 +41,13 @@ module _ (chip : schemas.Chip) (bytes : List ℕ) (ps : List Partition) where
     pub check_off : ((get_or ps 0 d).offset ≡ 0 → ⊥) → record { number = 41; place = 0 } ≡ fault_of (meant.layout chip (map (part_meant bytes) ps))
     check_off h = subst (λ (qs : List Partition). record { number = 41; place = 0 } ≡ fault_of (meant.layout chip (map (part_meant bytes) qs))) (sym first_of) (layout_off chip bytes (get_or ps 0 d) (drop 1 ps) h)
 
-    pub check_judged : (ms : List (Mark Refused)) (block : ℕ) (r : Result (Unit {0}) (EntryRefused Refused)) → take (length ps) ms ≡ marks_from bytes block 0 ps → block ≡ schemas.erase_for chip
-        → (get_or ps 0 d).offset ≡ 0 → r ≡ judged_by PartitionTwice bytes (take (length ps) ms) → at_entry r ≡ fault_of (meant.layout chip (map (part_meant bytes) ps))
+    pub check_judged : (ms : List (Mark Refused)) (block : ℕ) (r : Fault) → take (length ps) ms ≡ marks_from bytes block 0 ps → block ≡ schemas.erase_for chip
+        → (get_or ps 0 d).offset ≡ 0 → r ≡ judged 43 bytes (take (length ps) ms) → r ≡ fault_of (meant.layout chip (map (part_meant bytes) ps))
     check_judged ms block r f e h g =
-        let a : at_entry r ≡ judged 43 bytes (marks_from bytes (schemas.erase_for chip) 0 ps) = ap at_entry (rw (f, e) at g) ∙ judged_told PartitionTwice bytes (marks_from bytes (schemas.erase_for chip) 0 ps) in
+        let a : r ≡ judged 43 bytes (marks_from bytes (schemas.erase_for chip) 0 ps) = rw (f, e) at g in
         a ∙ subst (λ (qs : List Partition). judged 43 bytes (marks_from bytes (schemas.erase_for chip) 0 qs) ≡ fault_of (meant.layout chip (map (part_meant bytes) qs))) (sym first_of)
         (layout_judged chip bytes (get_or ps 0 d) (drop 1 ps) h)
+
+    pub check_judged_by : (ms : List (Mark Refused)) (block : ℕ) (r : Result (Unit {0}) (EntryRefused Refused)) → take (length ps) ms ≡ marks_from bytes block 0 ps → block ≡ schemas.erase_for chip
+        → (get_or ps 0 d).offset ≡ 0 → r ≡ judged_by PartitionTwice bytes (take (length ps) ms) → at_entry r ≡ fault_of (meant.layout chip (map (part_meant bytes) ps))
+    check_judged_by ms block r f e h g = check_judged ms block (at_entry r) f e h (ap at_entry g ∙ judged_told PartitionTwice bytes (take (length ps) ms))

@@ -61,6 +61,10 @@ module _ (n : ℕ) (ns : Seq ℕ) where
 one_more : {X : Type 0} (xs front : Seq X) (at : ℕ) (x : X) → at < length xs → take at xs ≡ front → take (at + 1) (set xs at x) ≡ front ++ (x ∷ [])
 one_more xs front at x l e = rw (add-one at, take-suc-set xs at x l, e)
 
+-- what marks were judged to be, by its number
+by_number : (twice : Refused) (store : Seq ℕ) (ms : Seq (Mark Refused)) (own : Result (Unit {0}) (EntryRefused Refused)) → own ≡ judged_by twice store ms → at_entry own ≡ judged (number twice) store ms
+by_number twice store ms own e = ap at_entry e ∙ judged_told twice store ms
+
 -- of the entries that numbers stand for the first i were met: their marks and, after those in front, their packages stand in the arrays
 pub record Passed (entry : ℕ → Entry) (all left : Seq ℕ) (front : Seq Pair) (ms : Seq (Mark Refused)) (ps : Seq Pair) (i at : ℕ) : Type 0 where
   pub here : drop i all ≡ left
@@ -91,11 +95,11 @@ module _ (entry : ℕ → Entry) (all : Seq ℕ) (front : Seq Pair) (marks : Seq
             ∙ rw (t, map-append (λ n. (entry n).pair) (take i all) (n ∷ []), append_assoc, h);
       }
 
-  passed_listed : (left : Seq ℕ) → Passed entry all left front marks pairs i at → (store : Seq ℕ) (twice : Refused) (own : Result (Unit {0}) (EntryRefused Refused)) → i ≤ 64 → own ≡ judged_by twice store (take i marks)
-      → Listed store (number twice) entry (take i all) i own
-  passed_listed left k store twice own l e =
+  passed_listed : (left : Seq ℕ) → Passed entry all left front marks pairs i at → (store : Seq ℕ) (number : ℕ) (own : Result (Unit {0}) (EntryRefused Refused)) → i ≤ 64 → at_entry own ≡ judged number store (take i marks)
+      → Listed store number entry (take i all) i own
+  passed_listed left k store number own l e =
       let n : length (take i all) ≡ i = length-take-le i all k.high in
-      record { is = sym n; few = omega (arith, n); own = ap at_entry e ∙ judged_told twice store (take i marks) ∙ ap (judged (number twice) store) k.marks }
+      record { is = sym n; few = omega (arith, n); own = e ∙ ap (judged number store) k.marks }
 
 -- ---- components
 
@@ -142,7 +146,7 @@ module _ (room store : Seq ℕ) (made : ℕ) (parts : Seq (Seq ℕ)) where
     comps_fit = omega (arith, count_is, k.few)
 
     -- what stands in the arrays is what was gathered of the components met
-    gathered : (place end : ℕ) → v ≡ items_from place 0 end → (r : Refusal) (own : Result (Unit {0}) (EntryRefused Refused)) → own ≡ judged_by ComponentTwice store (take i marks) → r ≡ each_component room store made place end 32
+    gathered : (place end : ℕ) → v ≡ items_from place 0 end → (r : Refusal) (own : Result (Unit {0}) (EntryRefused Refused)) → at_entry own ≡ judged 51 store (take i marks) → r ≡ each_component room store made place end 32
         → met r (length (items room end place 0)) ≡ i
         → Components room store made place end parts (record { fault = r; count = i; first = first; own = own; pairs = pairs })
     gathered place end ev r own eo er em =
@@ -153,7 +157,7 @@ module _ (room store : Seq ℕ) (made : ℕ) (parts : Seq (Seq ℕ)) where
           gathers =
               rw em
               (record {
-                listed = passed_listed (component_at room store made parts) (items room end place 0) [] marks pairs i i (to_come room w) c.passed store ComponentTwice own comps_fit eo;
+                listed = passed_listed (component_at room store made parts) (items room end place 0) [] marks pairs i i (to_come room w) c.passed store 51 own comps_fit eo;
                 pairs = rw n (sym (take-append-drop i pairs) ∙ rw (c.passed.pairs, c.rest));
                 first = c.seen;
               });
@@ -161,7 +165,7 @@ module _ (room store : Seq ℕ) (made : ℕ) (parts : Seq (Seq ℕ)) where
 
     module _ (step : Option (Step Items)) (h : Gives room w step) where
       -- after the loop the fault is one of those that its ways out leave
-      pub comps_none : (place end : ℕ) → v ≡ items_from place 0 end → step ≡ None → (r : Refusal) (own : Result (Unit {0}) (EntryRefused Refused)) → own ≡ judged_by ComponentTwice store (take i marks) → r ≡ fault
+      pub comps_none : (place end : ℕ) → v ≡ items_from place 0 end → step ≡ None → (r : Refusal) (own : Result (Unit {0}) (EntryRefused Refused)) → at_entry own ≡ judged 51 store (take i marks) → r ≡ fault
           → Components room store made place end parts (record { fault = r; count = i; first = first; own = own; pairs = pairs })
       comps_none place end ev g r own eo e =
           let t : r ≡ refusal_at 0 0 0 = e ∙ k.none in
@@ -169,6 +173,10 @@ module _ (room store : Seq ℕ) (made : ℕ) (parts : Seq (Seq ℕ)) where
           let n : length (items room end place 0) ≡ i + length (to_come room w) = rw ev at count_is in
           gathered place end ev r own eo (reading.comps_end room store made place end 32 i w c step h r g t)
           (rw t (omega (arith, n, ap length (item_ended room w step h g))))
+
+      pub comps_none_by : (place end : ℕ) → v ≡ items_from place 0 end → step ≡ None → (r : Refusal) (own : Result (Unit {0}) (EntryRefused Refused)) → own ≡ judged_by ComponentTwice store (take i marks) → r ≡ fault
+          → Components room store made place end parts (record { fault = r; count = i; first = first; own = own; pairs = pairs })
+      comps_none_by place end ev g r own eo e = comps_none place end ev g r own (by_number ComponentTwice store (take i marks) own eo) e
 
       module _ (given : Step Items) (g : step ≡ Some given) where
         more : to_come room w ≡ given.value ∷ to_come room given.rest
@@ -182,7 +190,7 @@ module _ (room store : Seq ℕ) (made : ℕ) (parts : Seq (Seq ℕ)) where
           unfolding component_entry
           fault_is = ap (λ (x : Entry). x.fault) d
 
-          pub comps_not : (place end : ℕ) → v ≡ items_from place 0 end → (e.fault ≡ 0 → ⊥) → (here r : Refusal) (own : Result (Unit {0}) (EntryRefused Refused)) → own ≡ judged_by ComponentTwice store (take i marks)
+          pub comps_not : (place end : ℕ) → v ≡ items_from place 0 end → (e.fault ≡ 0 → ⊥) → (here r : Refusal) (own : Result (Unit {0}) (EntryRefused Refused)) → at_entry own ≡ judged 51 store (take i marks)
               → here ≡ refusal_at 4 e.fault i → r ≡ here
               → Components room store made place end parts (record { fault = r; count = i; first = first; own = own; pairs = pairs })
           comps_not place end ev z here r own eo eh er =
@@ -191,6 +199,11 @@ module _ (room store : Seq ℕ) (made : ℕ) (parts : Seq (Seq ℕ)) where
               gathered place end ev r own eo
               (reading.comps_not room store made place end 32 i w c step h given g (parsed.component_at room store made given.value 32) refl r (rw (← fault_is) z) (rw (← fault_is) t))
               (rw (t, ne_eqb e.fault 0 z))
+
+          pub comps_not_by : (place end : ℕ) → v ≡ items_from place 0 end → (e.fault ≡ 0 → ⊥) → (here r : Refusal) (own : Result (Unit {0}) (EntryRefused Refused)) → own ≡ judged_by ComponentTwice store (take i marks)
+              → here ≡ refusal_at 4 e.fault i → r ≡ here
+              → Components room store made place end parts (record { fault = r; count = i; first = first; own = own; pairs = pairs })
+          comps_not_by place end ev z here r own eo eh er = comps_not place end ev z here r own (by_number ComponentTwice store (take i marks) own eo) eh er
 
           pub comps_on : (first' : Bool) → e.fault ≡ 0 → first' ≡ (first || e.first)
               → Composed room store made parts v (set marks i e.mark) (set pairs i e.pair) fault first' (i + 1) given.rest
@@ -255,7 +268,7 @@ module _ (room store : Seq ℕ) (made : ℕ) (ps : Seq Partition) where
             omega (arith, length-take-le (preceding + i) pairs (omega (arith, k.low, k.high, here.passed.pair_room)), length-take-le i all here.passed.high)
 
         -- what stands in the arrays is what was gathered of the applications met
-        gathered_apps : (r : Refusal) (own : Result (Unit {0}) (EntryRefused Refused)) (at : Option ℕ) → own ≡ judged_by ApplicationTwice store (take i marks) → at ≡ placed (length (take (preceding + i) pairs)) (first_hit (clash room store made) [] (take (preceding + i) pairs))
+        gathered_apps : (r : Refusal) (own : Result (Unit {0}) (EntryRefused Refused)) (at : Option ℕ) → at_entry own ≡ judged 65 store (take i marks) → at ≡ placed (length (take (preceding + i) pairs)) (first_hit (clash room store made) [] (take (preceding + i) pairs))
             → r ≡ refusal_of (listed (application_r room store made 32) in_application 64 all) → take 64 all ≡ take i all
             → Applications room store made place end ps preceding front (record { fault = r; count = i; own = own; clash = at })
         gathered_apps r own at eo ec er et =
@@ -264,12 +277,12 @@ module _ (room store : Seq ℕ) (made : ℕ) (ps : Seq Partition) where
               gathers =
                   rw et
                   (record {
-                    listed = passed_listed (application_at room store made ps) all front marks pairs i (preceding + i) (walk room store end place (65 - i) w.after) here.passed store ApplicationTwice own k.high eo;
+                    listed = passed_listed (application_at room store made ps) all front marks pairs i (preceding + i) (walk room store end place (65 - i) w.after) here.passed store 65 own k.high eo;
                     clashes = rw (passed_long, here.passed.pairs) at ec;
                   });
             }
 
-        pub apps_none : step ≡ None → (r : Refusal) (own : Result (Unit {0}) (EntryRefused Refused)) (at : Option ℕ) → own ≡ judged_by ApplicationTwice store (take i marks) → at ≡ placed (length (take (preceding + i) pairs)) (first_hit (clash room store made) [] (take (preceding + i) pairs)) → r ≡ fault
+        pub apps_none : step ≡ None → (r : Refusal) (own : Result (Unit {0}) (EntryRefused Refused)) (at : Option ℕ) → at_entry own ≡ judged 65 store (take i marks) → at ≡ placed (length (take (preceding + i) pairs)) (first_hit (clash room store made) [] (take (preceding + i) pairs)) → r ≡ fault
             → Applications room store made place end ps preceding front (record { fault = r; count = i; own = own; clash = at })
         apps_none g r own at eo ec er =
             let u : walk room store end place (65 - i) w.after ≡ [] = reading.walk_ended room store place end w here.reads.count.over step h (65 - i) g in
@@ -280,9 +293,13 @@ module _ (room store : Seq ℕ) (made : ℕ) (ps : Seq Partition) where
             (er ∙ reading.apps_none room store made (record { fault = 0; place = place; end = end }) v b 64 32 w fault i k.reads step k.high h g)
             (take_all 64 all (omega (arith, m, k.high)) ∙ sym (take_all i all (omega (arith, m))))
 
+        pub apps_none_by : step ≡ None → (r : Refusal) (own : Result (Unit {0}) (EntryRefused Refused)) (at : Option ℕ) → own ≡ judged_by ApplicationTwice store (take i marks) → at ≡ placed (length (take (preceding + i) pairs)) (first_hit (clash room store made) [] (take (preceding + i) pairs)) → r ≡ fault
+            → Applications room store made place end ps preceding front (record { fault = r; count = i; own = own; clash = at })
+        apps_none_by g r own at eo ec er = apps_none g r own at (by_number ApplicationTwice store (take i marks) own eo) ec er
+
         module _ (given : Step Keys) (g : step ≡ Some given) where
           -- one more than there may be
-          pub apps_many : 64 ≤ i → (told r : Refusal) (own : Result (Unit {0}) (EntryRefused Refused)) (at : Option ℕ) → own ≡ judged_by ApplicationTwice store (take i marks) → at ≡ placed (length (take (preceding + i) pairs)) (first_hit (clash room store made) [] (take (preceding + i) pairs))
+          pub apps_many : 64 ≤ i → (told r : Refusal) (own : Result (Unit {0}) (EntryRefused Refused)) (at : Option ℕ) → at_entry own ≡ judged 65 store (take i marks) → at ≡ placed (length (take (preceding + i) pairs)) (first_hit (clash room store made) [] (take (preceding + i) pairs))
               → told ≡ refusal_at 5 25 64 → r ≡ told
               → Applications room store made place end ps preceding front (record { fault = r; count = i; own = own; clash = at })
           apps_many l told r own at eo ec eh er =
@@ -292,6 +309,11 @@ module _ (room store : Seq ℕ) (made : ℕ) (ps : Seq Partition) where
               gathered_apps r own at eo ec
               (reading.apps_many room store made (record { fault = 0; place = place; end = end }) v b 64 32 given.rest (earlier fault (application_fault room store made 32 i given.value)) (i + 1) more r (omega arith) t)
               (ap (λ (m : ℕ). take m all) x)
+
+          pub apps_many_by : 64 ≤ i → (told r : Refusal) (own : Result (Unit {0}) (EntryRefused Refused)) (at : Option ℕ) → own ≡ judged_by ApplicationTwice store (take i marks) → at ≡ placed (length (take (preceding + i) pairs)) (first_hit (clash room store made) [] (take (preceding + i) pairs))
+              → told ≡ refusal_at 5 25 64 → r ≡ told
+              → Applications room store made place end ps preceding front (record { fault = r; count = i; own = own; clash = at })
+          apps_many_by l told r own at eo ec eh er = apps_many l told r own at (by_number ApplicationTwice store (take i marks) own eo) ec eh er
 
           pub apps_stood : Followed room made end preceding → Stood room given.value
           apps_stood f = key_stands room store place end w here.reads.count.over step h given g made f.rooms f.within
